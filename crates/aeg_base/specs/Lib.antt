@@ -1,0 +1,4 @@
+pub mod Ballots
+pub mod Codes
+pub mod Locks
+pub mod Store
