@@ -1,4 +1,5 @@
 pub mod Ballots
 pub mod Codes
 pub mod Locks
+pub mod Numbers
 pub mod Store

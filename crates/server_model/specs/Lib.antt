@@ -1,0 +1,7 @@
+pub mod Words
+pub mod Requests
+pub mod Booking
+pub mod Backends
+pub mod Server
+pub mod History
+pub mod Single
