@@ -2,7 +2,9 @@
 #![tactic(auto)]
 
 mod history;
+mod progress;
 mod request;
 
 pub use history::{Hist, Numbered, Told};
+pub use progress::Progress;
 pub use request::Request;
