@@ -3,6 +3,8 @@
 
 mod history;
 mod request;
+mod words;
 
 pub use history::{Hist, Numbered, Told};
 pub use request::Request;
+pub use words::{first_part, next_part, number};
