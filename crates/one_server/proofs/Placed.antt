@@ -148,6 +148,7 @@ indexed_less {T} front whole old new tier number item indexed loses none same t 
   where
     before : place_in old t n ≡ (if same_tier tier t && (number == n) then Some (0 + length front) else place_from 0 front t n)
     before = indexed t n ∙ ap (λ (xs : List (Tier × ℕ × T)). place_from 0 xs t n) same ∙ place-append 0 front (tier, number, item) t n (no_place 0 front tier number none)
+
     by : (b : Bool) → (same_tier tier t && (number == n)) ≡ b → cond b None (place_in old t n) ≡ place_from 0 front t n
     by true e =
         let parts = both_true (same_tier tier t) (number == n) e in
