@@ -2,9 +2,11 @@
 #![tactic(auto)]
 
 mod fact;
+mod laws;
 mod message;
 mod turn;
 
 pub use fact::Fact;
+pub use laws::{agreement, packets};
 pub use message::PaxMsg;
 pub use turn::{LogIdle, LogTurn, Offering};
