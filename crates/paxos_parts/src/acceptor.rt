@@ -34,6 +34,16 @@ impl<V: Value> Acceptor<V> {
         }
     }
 
+    /// The acceptor that a restart restores.
+    pub fn restored(promised: Ballot, vote: Option<Vote<V>>) -> Self
+        ensures { result ≡ record { promised = promised; vote = vote } }
+    {
+        Acceptor {
+            promised,
+            vote,
+        }
+    }
+
     pub fn promised(&self) -> Ballot
         ensures { result ≡ self.now.promised }
     {
