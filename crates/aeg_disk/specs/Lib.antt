@@ -1,0 +1,7 @@
+pub mod Disk
+pub mod Memory
+pub mod Undo
+pub mod MemoryLaws
+pub mod MemDisk
+pub mod Fuse
+pub mod SureDisk
