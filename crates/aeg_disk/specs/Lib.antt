@@ -3,5 +3,6 @@ pub mod Memory
 pub mod Undo
 pub mod MemoryLaws
 pub mod MemDisk
-pub mod Fuse
+pub mod Faults
 pub mod SureDisk
+pub mod FuseDisk

@@ -17,13 +17,15 @@ pub struct FuseDisk<D: Disk> {
 
 impl<D: Disk> FuseDisk<D> {
     ghost use Rattle.std.specs.Prelude.{◌≡◌, false};
+    ghost use Rattle.aeg_disk.specs.Faults.{with_faults};
+    ghost use Rattle.aeg_disk.specs.FuseDisk.{passes_left};
 
     /// A disk that passes so many calls on.
     pub fn new(disk: D, passes: u32) -> FuseDisk<D>
         requires unarmed { (D.state disk).armed ≡ 0 }
         requires running { (D.state disk).stopped ≡ false }
-        ensures same { D.state result.disk ≡ D.state disk }
-        ensures left { result.left ≡ passes }
+        ensures same { ⟦<FuseDisk<D> as Disk>⟧.state result ≡ with_faults (D.state disk) 0 }
+        ensures left { passes_left result ≡ passes }
     {
         FuseDisk {
             disk,
@@ -34,14 +36,14 @@ impl<D: Disk> FuseDisk<D> {
 
     /// Gives the other disk back.
     pub fn into_disk(self) -> D
-        ensures { D.state result ≡ D.state self.disk }
+        ensures { (failed : _) × (⟦<FuseDisk<D> as Disk>⟧.state self ≡ with_faults (D.state result) failed) }
     {
         self.disk
     }
 }
 
 impl<D: Disk> Disk for FuseDisk<D> {
-    ghost use Rattle.aeg_disk.specs.Fuse.{with_faults};
+    ghost use Rattle.aeg_disk.specs.Faults.{with_faults};
 
     ghost state = { λ f. with_faults (D.state f.disk) f.failed };
 

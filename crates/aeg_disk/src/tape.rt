@@ -129,11 +129,7 @@ fn kept(alloc: Global, bytes: &[u8], log: &[Change]) -> Result<Vec<u8>, Memory>
 }
 
 /// Puts what stood at the last sync in the place of the bytes.
-pub(crate) fn lose(
-    alloc: Global,
-    bytes: &mut Vec<u8>,
-    log: &mut Vec<Change>,
-) -> Result<(), Memory>
+pub(crate) fn lose(alloc: Global, bytes: &mut Vec<u8>, log: &mut Vec<Change>) -> Result<(), Memory>
     ensures kept { OnOk result (bytes.new.items ≡ kept_of (reverse log.old.items) bytes.old.items) }
     ensures logged { OnOk result ((c : _) × (log.new.items ≡ log.old.items ++ c ∷ []) × Replaces bytes.old.items c) }
     ensures err { OnErr result ((bytes.new.items ≡ bytes.old.items) × (log.new.items ≡ log.old.items)) }

@@ -5,14 +5,18 @@ ghost use Rattle.node_journal.specs.Journal.{told_length, body_of, is_whole, rec
 ghost use Rattle.node_journal.specs.Opening.{Entry, LooksTo, Next, Torn_off, Read, Shuts, WasThere};
 ghost use Rattle.node_journal.specs.Append.{LeavesOnly, HasList};
 
-use crate::bytes::Bytes;
 use crate::journal::Journal;
+use aeg_base::limits::RECORD_BYTES;
+use aeg_base::{Bytes, Memory};
 use aeg_disk::{Disk, DiskErr};
 use std::alloc::{AllocError, AllocFailed, Global};
 
+/// Why a journal was not opened.
 #[derive(Clone, Copy, Debug, PartialEq, Eq)]
 pub enum OpenErr {
+    /// The disk failed.
     Disk,
+    /// The gate at this place is open, and no whole entry follows it.
     BadRecord { at: u64 },
     Memory,
 }
@@ -85,7 +89,7 @@ fn bytes_at<D: Disk>(alloc: Global, disk: &mut D, at: u64, count: usize) -> Resu
     let mut bytes = Vec::new(alloc);
     bytes.resize(count, 0)?;
     disk.read(at, &mut bytes)?;
-    Ok(Bytes::new(bytes))
+    Ok(Bytes::of(bytes))
 }
 
 // The body of the entry behind the gate at a place, or none where there is no whole one.
@@ -106,7 +110,7 @@ fn entry_at<D: Disk>(
         return Ok(None);
     }
     let count = u64::from(length_at(disk, at, len)?);
-    if count == 0 || count > 16_384 || len - at < count + 6 {
+    if count == 0 || count > u64::from(RECORD_BYTES) || len - at < count + 6 {
         return Ok(None);
     }
     Ok(Some(bytes_at(alloc, disk, at + 5, count as usize)?))
@@ -152,7 +156,7 @@ fn read_entries<D: Disk>(
     'entries: loop {
         match next_entry(alloc, disk, at, len) {
             Ok(Some(body)) => {
-                at += 5 + body.len() as u64;
+                at += 5 + body.items().len() as u64;
                 out.push(body)?;
             }
             Ok(None) => return Ok((at, out)),
@@ -173,7 +177,7 @@ fn shut<D: Disk>(disk: &mut D) -> Result<(), DiskErr>
 /// Reads the journal of a disk that a crash may have left. It may be cut off by a crash itself.
 pub fn open_on<D: Disk>(alloc: Global, disk: &mut D) -> Result<(Journal, Vec<Bytes>), OpenErr>
     ensures records { IfOk result (λ r. (D.state disk.old).tells ≡ true → r.1.items ≡ records (D.state disk.old).bytes) }
-    ensures ready { IfOk result (λ r. (D.state disk.old).tells ≡ true → HasList (records (D.state disk.old).bytes) (D.state disk.new) r.0.end) }
+    ensures ready { IfOk result (λ r. (D.state disk.old).tells ≡ true → HasList (records (D.state disk.old).bytes) (D.state disk.new) r.0) }
 
     // `BadRecord` comes exactly at an open gate that no whole entry follows.
     ensures bad { (n : ℕ) → result ≡ Err (OpenErr.BadRecord n) → (D.state disk.old).tells ≡ true → IsBadAt n (D.state disk.old).bytes }
@@ -188,10 +192,10 @@ pub fn open_on<D: Disk>(alloc: Global, disk: &mut D) -> Result<(Journal, Vec<Byt
     let len = disk.len()?;
     if len > 1 {
         return match read_entries(alloc, disk, len) {
-            Ok((end, list)) => Ok((Journal { end }, list)),
+            Ok((end, list)) => Ok((Journal::ending_at(alloc, end), list)),
             Err(e) => Err(e),
         };
     }
     shut(disk)?;
-    Ok((Journal { end: 0 }, Vec::new(alloc)))
+    Ok((Journal::ending_at(alloc, 0), Vec::new(alloc)))
 }

@@ -1,4 +1,4 @@
--- A disk whose calls fail from some call on.
+-- A disk that met more faults than another.
 use Rattle.std.specs.Prelude.{ℕ, ◌+◌, ◌-◌, ◌^◌, min}
 use Rattle.aeg_disk.specs.Disk.{DiskState}
 
