@@ -170,6 +170,13 @@ pub record Blank (a b : DiskState) : Type 0 where
   pub kept : a.tells ≡ true → b.kept ≡ []
   pub ranges : a.tells ≡ true → b.ranges ≡ []
 
+-- What each call keeps, whatever it answers: the count of faults never falls, and only an armed disk stops.
+pub record Later (a b : DiskState) : Type 0 where
+  pub faults : a.faults ≤ b.faults
+  pub tells : b.tells ≡ a.tells
+  pub free : a.armed ≡ 0 → a.stopped ≡ false → (b.armed ≡ 0) × (b.stopped ≡ false)
+  pub stands : a.stopped ≡ true → b.stopped ≡ true
+
 -- a write in which no fault comes, by its answer
 abbrev pub SureWrites : ℕ → List ℕ → DiskState → DiskState → Result (Unit {0}) DiskErr → Type 0
 SureWrites at bytes a b (Ok _) = Done a b (max a.size (at + length bytes)) (Put at bytes a b)

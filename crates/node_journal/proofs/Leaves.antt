@@ -47,7 +47,7 @@ module _ (a : DiskState) (P : List ℕ → Type 0) where
 
   pub write_failed : (at : ℕ) (piece : List ℕ) (s z : DiskState) (e : DiskErr) → s.tells ≡ true → LeavesOnly a s P → ((c d : List ℕ) → Image s c → Torn at (length piece) c d → P d) → P (written at piece s.bytes) → Writes at piece s z (Err e) → LeavesOnly a z P
   write_failed at piece s z Memory tells so torn p same = stays s z so same
-  write_failed at piece s z Failed tells so torn p (inl stood) = counts s z so stood.same
+  write_failed at piece s z Failed tells so torn p (inl stood) = stays s z so stood.same
   write_failed at piece s z Failed tells so torn p (inr (inl stop)) = lost (written at piece s.bytes) s z so p (stop.content tells)
   write_failed at piece s z Failed tells so torn p (inr (inr fault)) = elim (fault.content tells) [
     | inl spoilt ↦ moves s z so spoilt.past (λ c h. let from = image_spoilt at (length piece) s z c spoilt h in torn from.0 c from.1 from.2)
@@ -56,6 +56,6 @@ module _ (a : DiskState) (P : List ℕ → Type 0) where
 
   pub sync_failed : (s z : DiskState) (e : DiskErr) → s.tells ≡ true → LeavesOnly a s P → P s.bytes → Syncs s z (Err e) → LeavesOnly a z P
   sync_failed s z Memory tells so p same = stays s z so same
-  sync_failed s z Failed tells so p (inl stood) = counts s z so stood.same
+  sync_failed s z Failed tells so p (inl stood) = stays s z so stood.same
   sync_failed s z Failed tells so p (inr (inl stop)) = lost s.bytes s z so p (stop.content tells)
   sync_failed s z Failed tells so p (inr (inr fault)) = rests s z so (fault.content tells)

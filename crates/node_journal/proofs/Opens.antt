@@ -1,20 +1,22 @@
 -- What each call of an opening leaves.
-use Rattle.std.proofs.Common.{◌≡◌, inl, inr, ℕ, ◌+◌, ◌≤◌, List, [], ◌∷◌, length, get_or, true, false, Result, Ok, Err, ◌&&◌, ◌==◌, nat_lt, refl, sym, ◌∙◌, ap, subst, arith}
+use Rattle.std.proofs.Common.{◌≡◌, inl, inr, ℕ, ◌+◌, ◌<◌, ◌≤◌, Bool, false, cond, List, [], ◌∷◌, length, get_or, true, false, Result, Ok, Err, ◌&&◌, ◌==◌, nat_lt, nat_le, refl, sym, ◌∙◌, ap, subst, arith}
 use Rattle.std.proofs.lemmas.Bool.Decides.{nat_tests}
 use Rattle.std.proofs.lemmas.List.{drop_all}
+use Rattle.aeg_base.specs.declared.limits.TheConstants.{RECORD_BYTES}
 use Rattle.node_journal.proofs.Walk.{records_at-none, end_at-no_entry}
 use Rattle.aeg_disk.specs.declared.disk.DiskErr.{DiskErr}
 use Rattle.aeg_disk.specs.declared.disk.DiskErr.TheVariants as DiskErrs
-use Rattle.aeg_disk.specs.Disk.{DiskState, Image, Torn, Lawful, Syncs, Looks, written}
+use Rattle.aeg_disk.specs.Disk.{DiskState, Image, Torn, Lawful, Syncs, Looks, Later, written}
 use Rattle.aeg_disk.proofs.Images.{image_settled}
+use Rattle.aeg_disk.proofs.Later.{same_later, write_later, sync_later, look_later, later_still}
 use Rattle.node_journal.specs.declared.opening.OpenErr.{OpenErr}
 use Rattle.node_journal.specs.declared.opening.OpenErr.TheVariants.{Disk, BadRecord, Memory}
 use Rattle.node_journal.specs.Journal.{records, records_at, told_length, is_entry, Ends, IsBadAt}
 use Rattle.node_journal.specs.Append.{LeavesOnly, Holds, HasList}
-use Rattle.node_journal.specs.Opening.{Shuts, WasThere, LooksTo}
+use Rattle.node_journal.specs.Opening.{Shuts, WasThere, LooksTo, opened_bytes}
 use Rattle.node_journal.proofs.Leaves.{started, stays, counts, write_done, sync_done, write_failed, sync_failed}
 
-no_room : (g t : ℕ) → ((g == 1) && (nat_lt 0 t && nat_lt t 16385 && nat_lt (4 + t) 0)) ≡ false
+no_room : (g t : ℕ) → ((g == 1) && (nat_lt 0 t && nat_le t RECORD_BYTES && nat_lt (4 + t) 0)) ≡ false
 no_room g t = grind (arith, nat_tests)
 
 alone : (g : ℕ) → is_entry g [] ≡ false
@@ -65,8 +67,8 @@ module _ (a : DiskState) (telling : a.tells ≡ true) (lawful : Lawful a) where
 
   pub len_failing : (b z : DiskState) (e : DiskErr) → LeavesOnly a b P → Looks {T = ℕ} b z (Err e) → LeavesOnly a z P
   len_failing b z DiskErrs.Memory so same = stays a P b z so same
-  len_failing b z DiskErrs.Failed so (inl stood) = counts a P b z so stood.same
-  len_failing b z DiskErrs.Failed so (inr fault) = counts a P b z so fault.3
+  len_failing b z DiskErrs.Failed so (inl stood) = stays a P b z so stood.same
+  len_failing b z DiskErrs.Failed so (inr missed) = counts a P b z so missed.same
 
   pub reading : {T : Type 0} → (b z : DiskState) (r : Result T OpenErr) → LeavesOnly a b P → LooksTo b z r → LeavesOnly a z P
   reading b z (Ok x) so same = stays a P b z so same
@@ -106,10 +108,14 @@ module _ (a : DiskState) (telling : a.tells ≡ true) (lawful : Lawful a) where
         let is : x ≡ 0 ∷ [] = image_settled w.0 z x (w.2.content (w.1.passed.tells ∙ s.tells)) h ∙ put.bytes ∙ zero_written b s in
         subst (λ (l : List (List ℕ)). Ends l 0 x) (sym empty) (subst (Ends [] 0) (sym is) shut_gate)
 
+    pub shut_bytes : (b z : DiskState) → Synced b → Shuts b z (Ok tt) → z.bytes ≡ 0 ∷ []
+    shut_bytes b z s w =
+        let put = w.1.content s.tells in
+        (w.2.content (w.1.passed.tells ∙ s.tells)).bytes ∙ put.bytes ∙ zero_written b s
+
     pub shut_holds : (b z : DiskState) → Synced b → Shuts b z (Ok tt) → HasList (records a.bytes) z 0
     shut_holds b z s w =
-        let put = w.1.content s.tells in
-        let is : z.bytes ≡ 0 ∷ [] = (w.2.content (w.1.passed.tells ∙ s.tells)).bytes ∙ put.bytes ∙ zero_written b s in
+        let is = shut_bytes b z s w in
         let list : records z.bytes ≡ records a.bytes = ap records is ∙ short_none (0 ∷ []) (omega arith) ∙ sym empty in
         (subst (λ (l : List (List ℕ)). Holds l 0 z) (sym list) (shut_images b z s w), list)
 
@@ -138,3 +144,41 @@ module _ (a b d z : DiskState) (telling : a.tells ≡ true) (lawful : Lawful a) 
 
     pub not_bad : (n : ℕ) → IsBadAt n a.bytes → ⊥
     not_bad n bad = ours.shut (subst (λ (k : ℕ). get_or a.bytes k 0 ≡ 1) (sym bad.place ∙ ours.place) bad.open_gate)
+
+-- what reads and the shutting of a gate keep, whatever they answer
+pub reading_later : {T : Type 0} → (a b : DiskState) (r : Result T OpenErr) → LooksTo a b r → Later a b
+reading_later a b (Ok x) same = same_later a b same
+reading_later a b (Err Disk) looks =
+    let same = looks.0.same in record {
+      faults = looks.0.later;
+      tells = ap (λ (s : DiskState). s.tells) same;
+      free = λ h g. (ap (λ (s : DiskState). s.armed) same ∙ h, ap (λ (s : DiskState). s.stopped) same ∙ g);
+      stands = λ h. ap (λ (s : DiskState). s.stopped) same ∙ h;
+    }
+reading_later a b (Err Memory) same = same_later a b same
+reading_later a b (Err (BadRecord at)) same = same_later a b same
+
+pub shut_later : (a z : DiskState) (r : Result (Unit {0}) DiskErr) → Shuts a z r → Later a z
+shut_later a z (Ok u) w = later_still a w.0 z (write_later 0 (0 ∷ []) a w.0 (Ok tt) w.1) (sync_later w.0 z (Ok tt) w.2)
+shut_later a z (Err e) (inl w) = write_later 0 (0 ∷ []) a z (Err e) w
+shut_later a z (Err e) (inr w) = later_still a w.0 z (write_later 0 (0 ∷ []) a w.0 (Ok tt) w.1) (sync_later w.0 z (Err e) w.2)
+
+-- the opening up to its reads
+pub sized_later : (a b d : DiskState) → Syncs a b (Ok tt) → d ≡ b → Later a d
+sized_later a b d w same = later_still a b d (sync_later a b (Ok tt) w) (same_later b d same)
+
+pub unsized_later : (a b z : DiskState) (e : DiskErr) → Syncs a b (Ok tt) → Looks {T = ℕ} b z (Err e) → Later a z
+unsized_later a b z e w looks = later_still a b z (sync_later a b (Ok tt) w) (look_later {T = ℕ} b z (Err e) looks)
+
+-- the bytes of an opened disk
+pub read_bytes : (bytes new : List ℕ) (len : ℕ) → length bytes ≡ len → 1 < len → new ≡ bytes → new ≡ opened_bytes bytes
+read_bytes bytes new len long some e = e ∙ ap (λ (b : Bool). cond b bytes (0 ∷ [])) (sym (is_long (length bytes) (omega (arith, long))))
+  where
+    is_long : (n : ℕ) → 1 < n → nat_lt 1 n ≡ true
+    is_long n h = grind (arith, nat_tests)
+
+pub blank_bytes : (bytes new : List ℕ) → length bytes ≤ 1 → new ≡ 0 ∷ [] → new ≡ opened_bytes bytes
+blank_bytes bytes new short e = e ∙ ap (λ (b : Bool). cond b bytes (0 ∷ [])) (sym (is_short (length bytes) short))
+  where
+    is_short : (n : ℕ) → n ≤ 1 → nat_lt 1 n ≡ false
+    is_short n h = grind (arith, nat_tests)

@@ -4,6 +4,7 @@ use Rattle.aeg_disk.specs.declared.disk.DiskErr.{DiskErr}
 use Rattle.aeg_disk.specs.declared.disk.DiskErr.TheVariants.{Failed, Memory}
 use Rattle.aeg_disk.specs.Disk.{DiskState, Image, Lost, Stop, Passed, Writes, Syncs, written, Rose}
 use Rattle.aeg_disk.proofs.Images.{image_lost, kept_image}
+use Rattle.aeg_base.specs.declared.limits.TheConstants.{RECORD_BYTES}
 use Rattle.node_journal.specs.Journal.{Ends, entry}
 use Rattle.node_journal.specs.Append.{Ran, Holds, StopMet, is_kept}
 use Rattle.node_journal.proofs.Crash.{Staged, staged_ends}
@@ -35,7 +36,7 @@ met rs at body a z nth is low high faults left = record {
   left = λ t. subst (Left rs at body a.keep z) (sym is) (left t);
 }
 
-module _ (body : List ℕ) (low : 0 < length body) (high : length body < 16385) (rs : List (List ℕ)) (at : ℕ) (a : DiskState) (ran : a.stopped ≡ false)
+module _ (body : List ℕ) (low : 0 < length body) (high : length body ≤ RECORD_BYTES) (rs : List (List ℕ)) (at : ℕ) (a : DiskState) (ran : a.stopped ≡ false)
     (holds : a.tells ≡ true → Holds rs at a) (reads : a.tells ≡ true → Image a a.bytes) where
   abbrev S : DiskState → Type 0
   S z = z.stopped ≡ true → StopMet rs at body a z
@@ -155,7 +156,7 @@ module _ (body : List ℕ) (low : 0 < length body) (high : length body < 16385) 
       let f4 = far_more 3 w.2 z f3 w.6.passed w.6.faults in
       f4.unmet h
 
-stood_writes : (n : ℕ) (piece : List ℕ) (s z : DiskState) → s.stopped ≡ true → Writes n piece s z (Err Failed) → z ≡ record s { faults = z.faults }
+stood_writes : (n : ℕ) (piece : List ℕ) (s z : DiskState) → s.stopped ≡ true → Writes n piece s z (Err Failed) → z ≡ s
 stood_writes n piece s z h (inl stood) = stood.same
 stood_writes n piece s z h (inr (inl stop)) = let e = stop.ran in cc
 stood_writes n piece s z h (inr (inr fault)) = let e = fault.passed.ran in cc

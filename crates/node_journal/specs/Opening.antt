@@ -1,5 +1,5 @@
 -- What opening a journal reads.
-use Rattle.std.specs.Prelude.{◌≡◌, ◌≢◌, ◌⊎◌, ◌+◌, ◌≤◌, ◌++◌, [], ◌∷◌, get_or, drop, ℕ, List, true, false, Option, Some, None, Result, Ok, Err}
+use Rattle.std.specs.Prelude.{◌≡◌, ◌≢◌, ◌⊎◌, ◌+◌, ◌≤◌, ◌++◌, [], ◌∷◌, get_or, drop, ℕ, List, length, true, false, cond, nat_lt, Option, Some, None, Result, Ok, Err}
 use Rattle.aeg_disk.specs.declared.disk.DiskErr.{DiskErr}
 use Rattle.aeg_disk.specs.declared.disk.DiskErr.TheVariants as DiskErrs
 use Rattle.aeg_disk.specs.Disk.{DiskState, Image, Writes, Syncs, Rose}
@@ -47,6 +47,10 @@ pub record Read (bytes : List ℕ) (out : List (List ℕ)) (at : ℕ) : Type 0 w
 abbrev pub Shuts : DiskState → DiskState → Result (Unit {0}) DiskErr → Type 0
 Shuts a z (Ok _) = (b : DiskState) × Writes 0 (0 ∷ []) a b (Ok tt) × Syncs b z (Ok tt)
 Shuts a z (Err e) = Writes 0 (0 ∷ []) a z (Err e) ⊎ ((b : DiskState) × Writes 0 (0 ∷ []) a b (Ok tt) × Syncs b z (Err e))
+
+-- the bytes of an opened disk: an empty journal is one shut gate
+abbrev pub opened_bytes : List ℕ → List ℕ
+opened_bytes bytes = cond (nat_lt 1 (length bytes)) bytes (0 ∷ [])
 
 -- the records are those of an image that there was, and no gate is bad unless one was
 abbrev pub WasThere : DiskState → List ℕ → Type 0

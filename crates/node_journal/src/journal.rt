@@ -1,6 +1,6 @@
 // A run of entries, each behind a gate that is opened once the entry is on the disk.
 ghost use Rattle.std.specs.Prelude.{◌≡◌, ◌⊎◌, ◌↔◌, ℕ, ◌+◌, ◌-◌, ◌<◌, ◌≤◌, ◌^◌, min, List, [], ◌∷◌, ◌++◌, true, false, length, IfOk, OnOk, OnErr};
-ghost use Rattle.aeg_disk.specs.Disk.{Rose, written};
+ghost use Rattle.aeg_disk.specs.Disk.{Rose, Later, written};
 ghost use Rattle.node_journal.specs.Journal.{records, entry};
 ghost use Rattle.node_journal.specs.Append.{Ran, OldOrNew, LeavesOnly, StopMet, IsReady, HasList};
 ghost use Rattle.node_journal.specs.declared.journal.AppendErr.TheVariants.{Memory as NoMemory};
@@ -32,8 +32,8 @@ impl From<Memory> for AppendErr {
 /// The journal of an opened disk, which contracts see as the place of the shut gate that ends it.
 #[derive(Drop)]
 pub struct Journal {
-    alloc: Global,
-    end: u64,
+    pub(crate) alloc: Global,
+    pub(crate) end: u64,
 }
 
 impl Model for Journal {
@@ -45,14 +45,14 @@ impl Model for Journal {
 }
 
 // An entry behind its gate, and the shut gate that is to follow it.
-fn entry_of(alloc: Global, body: &[u8]) -> Result<Vec<u8>, Memory>
+fn entry_of(alloc: Global, body: &Bytes) -> Result<Vec<u8>, Memory>
     requires { length body.now ≤ RECORD_BYTES }
     ensures { IfOk result (λ v. v.items ≡ entry body.now) }
 {
     let mut out = Vec::new(alloc);
-    let len = body.len() as u32;
+    let len = body.items().len() as u32;
     out.extend_from_slice(&len.to_be_bytes())?;
-    out.extend_from_slice(body)?;
+    out.extend_from_slice(body.items())?;
     out.push(0)?;
     Ok(out)
 }
@@ -70,13 +70,6 @@ fn write_entry<D: Disk>(disk: &mut D, gate: u64, piece: &[u8]) -> Result<(), Dis
 }
 
 impl Journal {
-    // The journal that ends at this place.
-    pub(crate) fn ending_at(alloc: Global, end: u64) -> Journal
-        ensures { result ≡ end }
-    {
-        Journal { alloc, end }
-    }
-
     /// Adds a record, which is on the disk at `Ok`. After `Disk` or `Memory` the journal is to be opened again.
     pub fn append<D: Disk>(&mut self, disk: &mut D, body: &Bytes) -> Result<(), AppendErr>
         requires filled { 0 < length body.now }
@@ -105,17 +98,17 @@ impl Journal {
         // And it is met, where no call before failed.
         ensures unmet { OnOk result ((D.state disk.old).armed ≤ 4 → (D.state disk.old).armed ≡ 0) }
 
-        ensures tells { (D.state disk.new).tells ≡ (D.state disk.old).tells }
+        ensures later { Later (D.state disk.old) (D.state disk.new) }
     {
-        let body = body.items();
-        let len = self.end.saturating_add(6 + body.len() as u64);
+        let size = body.items().len() as u64;
+        let len = self.end.saturating_add(6 + size);
         if len > JOURNAL_BYTES {
             return Err(AppendErr::Full { len });
         }
         let piece = entry_of(self.alloc, body)?;
         match write_entry(disk, self.end, &piece) {
             Ok(()) => {
-                self.end += 5 + body.len() as u64;
+                self.end += 5 + size;
                 Ok(())
             }
             Err(DiskErr::Failed) => Err(AppendErr::Disk),

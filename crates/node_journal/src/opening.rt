@@ -1,8 +1,8 @@
 // Reads a journal from a disk, and shuts the gate of an empty one.
 ghost use Rattle.std.specs.Prelude.{◌≡◌, ◌≢◌, ◌⊎◌, ℕ, ◌+◌, ◌-◌, ◌<◌, ◌≤◌, List, [], ◌∷◌, ◌++◌, true, false, length, get_or, take, drop, IfOk, IfSome, OnOk, MatchOption};
-ghost use Rattle.aeg_disk.specs.Disk.{Looks, Rose};
+ghost use Rattle.aeg_disk.specs.Disk.{Looks, Rose, Later};
 ghost use Rattle.node_journal.specs.Journal.{told_length, body_of, is_whole, records, Ends, IsBadAt};
-ghost use Rattle.node_journal.specs.Opening.{Entry, LooksTo, Next, Torn_off, Read, Shuts, WasThere};
+ghost use Rattle.node_journal.specs.Opening.{Entry, LooksTo, Next, Torn_off, Read, Shuts, WasThere, opened_bytes};
 ghost use Rattle.node_journal.specs.Append.{LeavesOnly, HasList};
 
 use crate::journal::Journal;
@@ -179,6 +179,8 @@ pub fn open_on<D: Disk>(alloc: Global, disk: &mut D) -> Result<(Journal, Vec<Byt
     ensures records { IfOk result (λ r. (D.state disk.old).tells ≡ true → r.1.items ≡ records (D.state disk.old).bytes) }
     ensures ready { IfOk result (λ r. (D.state disk.old).tells ≡ true → HasList (records (D.state disk.old).bytes) (D.state disk.new) r.0) }
 
+    ensures bytes { OnOk result ((D.state disk.old).tells ≡ true → (D.state disk.new).bytes ≡ opened_bytes (D.state disk.old).bytes) }
+
     // `BadRecord` comes exactly at an open gate that no whole entry follows.
     ensures bad { (n : ℕ) → result ≡ Err (OpenErr.BadRecord n) → (D.state disk.old).tells ≡ true → IsBadAt n (D.state disk.old).bytes }
     ensures whole { OnOk result ((D.state disk.old).tells ≡ true → (n : ℕ) → IsBadAt n (D.state disk.old).bytes → ⊥) }
@@ -187,15 +189,16 @@ pub fn open_on<D: Disk>(alloc: Global, disk: &mut D) -> Result<(Journal, Vec<Byt
     ensures any_moment { (D.state disk.old).tells ≡ true → LeavesOnly (D.state disk.old) (D.state disk.new) (WasThere (D.state disk.old)) }
 
     ensures cause { result ≡ Err OpenErr.Disk → ((D.state disk.new).stopped ≡ true) ⊎ Rose (D.state disk.old).faults (D.state disk.new).faults }
+    ensures later { Later (D.state disk.old) (D.state disk.new) }
 {
     disk.sync()?;
     let len = disk.len()?;
     if len > 1 {
         return match read_entries(alloc, disk, len) {
-            Ok((end, list)) => Ok((Journal::ending_at(alloc, end), list)),
+            Ok((end, list)) => Ok((Journal { alloc, end }, list)),
             Err(e) => Err(e),
         };
     }
     shut(disk)?;
-    Ok((Journal::ending_at(alloc, 0), Vec::new(alloc)))
+    Ok((Journal { alloc, end: 0 }, Vec::new(alloc)))
 }
