@@ -78,7 +78,7 @@ impl Journal {
         requires settled { (D.state disk.old).tells ≡ true → IsReady (D.state disk.old) self.old }
 
         ensures full { (n : ℕ) → (result ≡ Err (AppendErr.Full n)) ↔ ((JOURNAL_BYTES < self.old + 6 + length body.now) × (n ≡ min (self.old + 6 + length body.now) (2 ^ 64 - 1))) }
-        ensures nothing_written { JOURNAL_BYTES < self.old + 6 + length body.now → D.state disk.new ≡ D.state disk.old }
+        ensures nothing_written { (n : ℕ) → result ≡ Err (AppendErr.Full n) → D.state disk.new ≡ D.state disk.old }
 
         ensures place { OnOk result (self.new ≡ self.old + 5 + length body.now) }
         ensures kept { OnErr result (self.new ≡ self.old) }
