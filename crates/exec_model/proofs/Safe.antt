@@ -1,5 +1,5 @@
 -- What the machine keeps of what a store answers, of the locks and of the progress of each segment.
-use Rattle.std.proofs.Common.{◌≡◌, ◌≢◌, ℕ, ◌+◌, ◌==◌, Bool, true, false, Option, refl, sym, ap, ◌∙◌, subst, inl, inr, ◌⊎◌, cond, arith}
+use Rattle.std.proofs.Common.{◌≡◌, ◌≢◌, ℕ, ◌+◌, ◌==◌, Bool, true, false, refl, sym, ap, ◌∙◌, subst, inl, inr, ◌⊎◌, cond, arith}
 use Rattle.std.proofs.lemmas.Bool.Decides.{nat_tests, eqb_tells}
 use Rattle.aeg_base.specs.declared.names.Key.{Key}
 use Rattle.aeg_base.specs.Store.{same_key}
@@ -8,7 +8,7 @@ use Rattle.svc_api.specs.Plan.{Plan, Reads, Writes, Ends}
 use Rattle.svc_api.specs.declared.action.Ending.{Ending}
 use Rattle.exec_model.specs.Machine.{update, Progress, Running, Ended}
 use Rattle.exec_model.proofs.Basics.{same_lock}
-use Rattle.exec_model.proofs.Lookups.{Lookup, number, kept, put, after, end_with}
+use Rattle.exec_model.proofs.Lookups.{Lookup, put, after, end_with}
 
 -- what segment i sees: the store where it holds the lock, else t
 abbrev pub view : (ℕ → ℕ) → ℕ → Lookup → Lookup → Lookup
@@ -28,7 +28,7 @@ pub record Safe (plan : ℕ → Plan) (b s : Lookup) (w : ℕ → ℕ) (q : ℕ 
 pub Same-at : (p q : Plan) (s t u : Lookup) → Same p s q t → ((k : Key) → t k ≡ u k) → Same p s q u
 Same-at p q s t u h e = let e' : t ≡ u = λ i k. e k i in subst (λ x. Same p s q x) e' h
 
-view_take : (l k wk i j : ℕ) (sk tk : Option ℕ) → (l ≡ k → (wk ≡ 0) ⊎ (wk ≡ i + 1)) → (l ≡ k → wk ≡ 0 → i ≡ j → sk ≡ tk) → cond (wk == j + 1) sk tk ≡ cond (cond (l == k) (i + 1) wk == j + 1) sk tk
+view_take : (l k wk i j : ℕ) (sk tk : ℕ) → (l ≡ k → (wk ≡ 0) ⊎ (wk ≡ i + 1)) → (l ≡ k → wk ≡ 0 → i ≡ j → sk ≡ tk) → cond (wk == j + 1) sk tk ≡ cond (cond (l == k) (i + 1) wk == j + 1) sk tk
 view_take l k wk i j sk tk g h = grind (arith, nat_tests)
 
 pub Safe-take : (plan : ℕ → Plan) (b s : Lookup) (w : ℕ → ℕ) (q : ℕ → Progress) (i l : ℕ) → Safe plan b s w q → (w l ≡ 0) ⊎ (w l ≡ i + 1) → Safe plan b s (update w l (i + 1)) q
@@ -51,7 +51,7 @@ Safe-take plan b s w q i l h g = record {
     taken_at j k e ij = grind (arith, nat_tests)
 
 -- a segment that holds the key's lock reads it
-pub Safe-read : (plan : ℕ → Plan) (b s : Lookup) (w : ℕ → ℕ) (q : ℕ → Progress) (i : ℕ) (k : Key) (f : ℕ → Plan) → Safe plan b s w q → w (lock_number k) ≡ i + 1 → q i ≡ Running (Reads k f) → Safe plan b s w (update q i (Running (f (number (s k)))))
+pub Safe-read : (plan : ℕ → Plan) (b s : Lookup) (w : ℕ → ℕ) (q : ℕ → Progress) (i : ℕ) (k : Key) (f : ℕ → Plan) → Safe plan b s w q → w (lock_number k) ≡ i + 1 → q i ≡ Running (Reads k f) → Safe plan b s w (update q i (Running (f (s k))))
 Safe-read plan b s w q i k f h own r = record {
   free = h.free;
   runs = λ j p e t agree. at j p t agree (i == j) (eqb_tells i j) e;
@@ -60,19 +60,19 @@ Safe-read plan b s w q i k f h own r = record {
     sees : (t : Lookup) → view w i s t k ≡ s k
     sees t = grind (arith, nat_tests)
 
-    at : (j : ℕ) (p : Plan) (t : Lookup) → ((k : Key) → w (lock_number k) ≡ j + 1 → t k ≡ b k) → (c : Bool) → ((c ≡ true) × (i ≡ j)) ⊎ ((c ≡ false) × (i ≢ j)) → cond c (Running (f (number (s k)))) (q j) ≡ Running p → Same (plan j) t p (view w j s t)
+    at : (j : ℕ) (p : Plan) (t : Lookup) → ((k : Key) → w (lock_number k) ≡ j + 1 → t k ≡ b k) → (c : Bool) → ((c ≡ true) × (i ≡ j)) ⊎ ((c ≡ false) × (i ≢ j)) → cond c (Running (f (s k))) (q j) ≡ Running p → Same (plan j) t p (view w j s t)
     at j p t agree false z e = h.runs j p e t agree
     at j p t agree true (inr z) e = cc
     at j p t agree true (inl z) e =
-        let same : f (number (s k)) ≡ p = cc in
+        let same : f (s k) ≡ p = cc in
         let old = h.runs i (Reads k f) r t (λ k o. agree k (o ∙ ap (λ x. x + 1) z.1)) in
-        let new : Same (plan i) t (f (number (s k))) (view w i s t) = record {
-          stores = old.stores ∙ ap (λ v. after (f (number v)) (view w i s t)) (sees t);
-          endings = old.endings ∙ ap (λ v. end_with (f (number v)) (view w i s t)) (sees t);
+        let new : Same (plan i) t (f (s k)) (view w i s t) = record {
+          stores = old.stores ∙ ap (λ v. after (f v) (view w i s t)) (sees t);
+          endings = old.endings ∙ ap (λ v. end_with (f v) (view w i s t)) (sees t);
         } in
         subst (λ (j : ℕ). Same (plan j) t p (view w j s t)) z.1 (subst (λ p. Same (plan i) t p (view w i s t)) same new)
 
-view_put : (c o : Bool) (v sk tk : Option ℕ) → (c ≡ true → o ≡ true) → cond c v (cond o sk tk) ≡ cond o (cond c v sk) tk
+view_put : (c o : Bool) (v sk tk : ℕ) → (c ≡ true → o ≡ true) → cond c v (cond o sk tk) ≡ cond o (cond c v sk) tk
 view_put true true v sk tk h = refl
 view_put true false v sk tk h = let z : false ≡ true = h refl in cc
 view_put false o v sk tk h = refl
@@ -90,7 +90,7 @@ Safe-write plan b s w q i k v p h own r = record {
     other : (j : Key) → (same_key k j ≡ true → ⊥) → put s k v j ≡ s j
     other j h = by (same_key k j) h
       where
-        by : (c : Bool) → (c ≡ true → ⊥) → cond c (kept v) (s j) ≡ s j
+        by : (c : Bool) → (c ≡ true → ⊥) → cond c v (s j) ≡ s j
         by true h = absurd (h refl)
         by false h = refl
 
@@ -100,7 +100,7 @@ Safe-write plan b s w q i k v p h own r = record {
     others : (j : ℕ) → i ≢ j → (x : Key) → (same_key k x ≡ true) → (w (lock_number x) == j + 1) ≡ false
     others j ne x e = let o = owned x e in grind (arith, nat_tests)
 
-    keeps : (c o : Bool) (a y : Option ℕ) → (c ≡ true → o ≡ false) → cond o y a ≡ cond o (cond c (kept v) y) a
+    keeps : (c o : Bool) (a y : ℕ) → (c ≡ true → o ≡ false) → cond o y a ≡ cond o (cond c v y) a
     keeps true true a y h = let z : true ≡ false = h refl in cc
     keeps true false a y h = refl
     keeps false o a y h = refl
@@ -112,14 +112,14 @@ Safe-write plan b s w q i k v p h own r = record {
     at j x t agree true (inl z) e =
         let same : p ≡ x = cc in
         let old = h.runs i (Writes k v p) r t (λ k o. agree k (o ∙ ap (λ x. x + 1) z.1)) in
-        let path : put (view w i s t) k v ≡ view w i (put s k v) t = λ n y. view_put (same_key k y) (w (lock_number y) == i + 1) (kept v) (s y) (t y) (own_true y) n in
+        let path : put (view w i s t) k v ≡ view w i (put s k v) t = λ n y. view_put (same_key k y) (w (lock_number y) == i + 1) v (s y) (t y) (own_true y) n in
         let new : Same (plan i) t p (view w i (put s k v) t) = record {
           stores = old.stores ∙ ap (after p) path;
           endings = old.endings ∙ ap (end_with p) path;
         } in
         subst (λ (j : ℕ). Same (plan j) t x (view w j (put s k v) t)) z.1 (subst (λ p. Same (plan i) t p (view w i (put s k v) t)) same new)
 
-view_release : (wk i j : ℕ) (sk tk : Option ℕ) → (i ≢ j) → cond (wk == j + 1) sk tk ≡ cond (cond (wk == i + 1) 0 wk == j + 1) sk tk
+view_release : (wk i j : ℕ) (sk tk : ℕ) → (i ≢ j) → cond (wk == j + 1) sk tk ≡ cond (cond (wk == i + 1) 0 wk == j + 1) sk tk
 view_release wk i j sk tk h = grind (arith, nat_tests)
 
 -- what a segment that ends has made is what its plan makes of the store after the others
@@ -161,7 +161,7 @@ Safe-again plan b b' s w q q' h same none = record {
       (λ k. unseen (w (lock_number k)) i (s k) (t k) (b' k) (none i p e (lock_number k)));
 }
   where
-    unseen : (wk i : ℕ) (sk tk bk : Option ℕ) → (wk ≢ i + 1) → cond (wk == i + 1) sk tk ≡ cond (0 == i + 1) bk tk
+    unseen : (wk i : ℕ) (sk tk bk : ℕ) → (wk ≢ i + 1) → cond (wk == i + 1) sk tk ≡ cond (0 == i + 1) bk tk
     unseen wk i sk tk bk h = grind (arith, nat_tests)
 
 pub Safe-start : (plan : ℕ → Plan) (b : Lookup) → Safe plan b b (λ l. 0) (λ i. Running (plan i))
@@ -170,7 +170,7 @@ Safe-start plan b = record {
   runs = λ i p e t agree. let same : plan i ≡ p = cc in Same-at (plan i) p t t _ (at p i t same) (λ k. unseen i (t k) (b k));
 }
   where
-    unseen : (i : ℕ) (tk bk : Option ℕ) → tk ≡ cond (0 == i + 1) bk tk
+    unseen : (i : ℕ) (tk bk : ℕ) → tk ≡ cond (0 == i + 1) bk tk
     unseen i tk bk = grind (arith, nat_tests)
 
     at : (p : Plan) (i : ℕ) (t : Lookup) → plan i ≡ p → Same (plan i) t p t
