@@ -1,16 +1,16 @@
 -- The columns' pairs as one list: sorted, without zeros, and what is found there.
-use Rattle.std.proofs.Common.{◌≡◌, ◌≢◌, ℕ, zero, suc, ◌+◌, ◌-◌, ◌<◌, ◌≤◌, ◌==◌, Bool, true, false, cond, not, ◌&&◌, ◌||◌, T, List, [], ◌∷◌, ◌++◌, length, get_or, if◌then◌else◌, Option, Some, None, unwrap_or, refl, sym, ap, subst, ◌∙◌, inl, inr, ◌⊎◌, arith, Less, Equal, Greater, Ordering, length-append}
+use Rattle.std.proofs.Common.{◌≡◌, ◌≢◌, ℕ, zero, suc, ◌+◌, ◌<◌, ◌==◌, Bool, true, false, cond, not, ◌&&◌, T, List, [], ◌∷◌, ◌++◌, length, get_or, Option, Some, None, unwrap_or, refl, sym, ap, subst, ◌∙◌, inl, inr, ◌⊎◌, arith, Less, Equal, Ordering, length-append}
 use Rattle.std.proofs.lemmas.Bool.Decides.{nat_tests, eqb_tells}
-use Rattle.std.specs.Ordering.{nat_cmp, ordering_then, eq_by_cmp, is_lt, is_eq}
+use Rattle.std.specs.Ordering.{nat_cmp, ordering_then, eq_by_cmp, is_lt}
 use Rattle.std.specs.Cmp.{unsigned_ties}
 use Rattle.std.specs.Cmp.Derive.{Tied, tie, then_tied, on_tied}
 use Rattle.std.specs.FinMap.Entries.{find, is_sorted, below_all}
 use Rattle.aeg_base.specs.declared.names.Key.{Key}
-use Rattle.aeg_base.specs.Numbers.{Numbers, checked, is_canonical, no_zeros}
+use Rattle.aeg_base.specs.Numbers.{checked, is_canonical, no_zeros}
 use Rattle.aeg_base.specs.Store.{Store, key_cmp, same_key, value_at, empty}
 use Rattle.aeg_base.proofs.NumberLaws.{number_at-entries}
 use Rattle.kv_store.specs.Columns.{Pairs, found, id_at, IsRising, IsColumn, keyed, all_pairs, count_of}
-use Rattle.kv_store.proofs.Pairs.{NoKeyBefore, found_absent}
+use Rattle.kv_store.proofs.Pairs.{found_absent}
 
 abbrev pub key : ℕ → ℕ → Key
 key class id = record { class = class; id = id }
@@ -19,7 +19,6 @@ ties_same_key : Tied same_key key_cmp
 ties_same_key = then_tied (on_tied (λ (k : Key). k.class) (tie nat_cmp unsigned_ties)) (on_tied (λ (k : Key). k.id) (tie nat_cmp unsigned_ties))
 
 -- WHAT IS FOUND
-
 
 find-append : (q : Key) (xs ys : List (Key × ℕ)) → find key_cmp q (xs ++ ys) ≡ elim (find key_cmp q xs) [ None ↦ find key_cmp q ys | Some x ↦ Some x ]
 find-append q [] ys = refl

@@ -1,10 +1,8 @@
 -- What `found` finds in a list of pairs, and what an edit of the list does to it.
-use Rattle.std.proofs.Common.{◌≡◌, ℕ, zero, suc, ◌<◌, ◌≤◌, eqb, ◌≢◌, [], ◌∷◌, length, get_or, set, if◌then◌else◌, Some, None, IsSome, IsSomeAnd, slice_get, refl, inl, inr, arith}
-use mathlib.Core.Bool.{false≢true}
+use Rattle.std.proofs.Common.{◌≡◌, ℕ, zero, suc, ◌<◌, ◌≤◌, eqb, ◌≢◌, [], ◌∷◌, length, get_or, set, if◌then◌else◌, Some, None, refl, arith}
 use Rattle.std.specs.List.{insert, remove}
-use Rattle.std.proofs.lemmas.Bool.{cases_lt}
 use Rattle.std.proofs.lemmas.Bool.Decides.{nat_tests}
-use Rattle.kv_store.specs.Columns.{Pairs, found, id_at, IsAt, IsRising}
+use Rattle.kv_store.specs.Columns.{Pairs, found, id_at, IsAt}
 
 -- no pair before place i has the key
 abbrev pub NoKeyBefore : Pairs → ℕ → ℕ → Type 0

@@ -1,12 +1,12 @@
 -- What a write in one column makes of the store.
-use Rattle.std.proofs.Common.{◌≡◌, ◌≢◌, ℕ, ◌+◌, ◌<◌, ◌≤◌, ◌==◌, Bool, true, false, cond, ◌&&◌, List, [], ◌∷◌, map, length, get_or, set, if◌then◌else◌, Option, Some, None, unwrap_or, refl, sym, ap, subst, ◌∙◌, inl, inr, ◌⊎◌, arith, zero, suc, length-set}
-use Rattle.std.proofs.lemmas.Bool.Decides.{nat_tests, eqb_tells}
+use Rattle.std.proofs.Common.{◌≡◌, ◌≢◌, ℕ, ◌+◌, ◌<◌, ◌≤◌, ◌==◌, Bool, true, false, cond, ◌&&◌, List, [], ◌∷◌, length, get_or, set, if◌then◌else◌, Option, Some, None, unwrap_or, refl, sym, ap, subst, ◌∙◌, inl, inr, ◌⊎◌, arith, zero, suc, length-set}
+use Rattle.std.proofs.lemmas.Bool.Decides.{eqb_tells}
 use Rattle.std.proofs.lemmas.List.{get_or-set_same, get_or-set_other}
 use Rattle.std.specs.Prelude.{vec_capacity}
 use Rattle.std.specs.declared.vec.Vec.{Vec}
 use Rattle.std.specs.declared.alloc.Global.{Global}
 use Rattle.aeg_base.specs.declared.names.Key.{Key}
-use Rattle.aeg_base.specs.Store.{Store, same_key, value_at, written, empty}
+use Rattle.aeg_base.specs.Store.{same_key, written, empty}
 use Rattle.aeg_base.proofs.StoreLaws.{value_at-written, value_at-empty, same_store}
 use Rattle.kv_store.specs.Columns.{Pairs, found, IsColumn, AreColumns, map_of, lists_of, count_of}
 use Rattle.kv_store.proofs.Flat.{store_of, value_at-store_of, size-store_of}
@@ -158,3 +158,14 @@ pub out_of_range : (vectors : List (Vec (ℕ × ℕ) Global)) (class : ℕ) → 
 out_of_range [] class le = refl
 out_of_range (v ∷ vs) zero le = absurd (omega arith)
 out_of_range (v ∷ vs) (suc class) le = out_of_range vs class (omega arith)
+
+-- the same pairs in columns with more room
+pub grown : (old new : List (Vec (ℕ × ℕ) Global)) (count room room' : ℕ) → AreColumns old count room → lists_of new ≡ lists_of old → length new ≡ length old → count ≤ room'
+    → ((class : ℕ) → class < 8 → (v : Vec (ℕ × ℕ) Global) → room' ≤ vec_capacity (get_or new class v)) → AreColumns new count room'
+grown old new count room room' h same eight within roomy = record {
+  eight = eight ∙ h.eight;
+  columns = λ class. subst (λ (ls : List Pairs). IsColumn (get_or ls class [])) (sym same) (h.columns class);
+  roomy = roomy;
+  counted = h.counted ∙ ap count_of (sym same);
+  within = within;
+}

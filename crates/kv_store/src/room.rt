@@ -29,3 +29,11 @@ fn widen(column: &mut Vec<(u32, u64)>, room: usize) -> Result<(), Memory>
     }
     Ok(())
 }
+
+/// Room for what is needed, and at least twice the room that was.
+pub fn widened(needed: usize, room: usize) -> usize
+    ensures { needed ≤ result }
+{
+    let twice = room.saturating_mul(2);
+    if needed < twice { twice } else { needed }
+}

@@ -4,7 +4,7 @@ ghost use Rattle.aeg_base.specs.Store.{empty, value_at, written};
 ghost use Rattle.kv_store.specs.Stores.{size};
 
 use crate::column::{find, set, take_out};
-use crate::room::grow;
+use crate::room::{grow, widened};
 use aeg_base::{Cells, Key, Memory};
 use std::alloc::Global;
 use std::marker::Model;
@@ -71,7 +71,7 @@ impl Store {
             return Err(Memory);
         };
         if needed > self.room {
-            let room = needed.max(self.room.saturating_mul(2));
+            let room = widened(needed, self.room);
             grow(&mut self.columns, room)?;
             self.room = room;
         }

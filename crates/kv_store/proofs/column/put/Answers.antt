@@ -1,5 +1,5 @@
 use Rattle.std.proofs.Common.{}
-use Rattle.kv_store.proofs.Place.{sets_in_gap, rising_insert}
+use Rattle.kv_store.proofs.Place.{sets_in_gap}
 use Rattle.kv_store.proofs.column.put.Goals as goal
 
 pub returns-clause-sets : goal.returns-clause-sets

@@ -1,5 +1,3 @@
-use Rattle.std.proofs.Common.{subst}
-use Rattle.kv_store.specs.Columns.{IsRising}
 use Rattle.kv_store.proofs.Place.{sets_at}
 use Rattle.kv_store.proofs.column.set.Goals as goal
 

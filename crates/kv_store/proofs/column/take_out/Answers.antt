@@ -1,4 +1,3 @@
-use Rattle.std.proofs.Common.{◌∙◌, sym, ap, arith}
 use Rattle.kv_store.proofs.Place.{takes_at, takes_none}
 use Rattle.kv_store.proofs.column.take_out.Goals as goal
 

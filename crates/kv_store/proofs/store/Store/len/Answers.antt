@@ -1,4 +1,4 @@
-use Rattle.std.proofs.Common.{◌≡◌, sym, ap, ◌∙◌, length, arith}
+use Rattle.std.proofs.Common.{sym, ap, ◌∙◌}
 use Rattle.kv_store.specs.Stores.{size, Holding}
 use Rattle.kv_store.proofs.Flat.{size-store_of}
 use Rattle.kv_store.proofs.store.Store.len.Goals as goal

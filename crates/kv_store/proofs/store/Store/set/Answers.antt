@@ -1,6 +1,6 @@
 use Rattle.std.proofs.Common.{◌≡◌, ◌<◌, ◌≤◌, ◌+◌, ◌==◌, if◌then◌else◌, ℕ, Some, sym, ap, subst, ◌∙◌, length, slice_index_or, arith}
 use Rattle.std.specs.Prelude.{vec_capacity, slice_set}
-use Rattle.aeg_base.specs.Store.{Store, written}
+use Rattle.aeg_base.specs.Store.{written}
 use Rattle.kv_store.specs.Columns.{IsRising, IsColumn, AreColumns, map_of, found}
 use Rattle.kv_store.specs.Stores.{Holding, size}
 use Rattle.kv_store.proofs.Writes.{column_at, column_fits, store_size, map_after, still_columns, positive_after}

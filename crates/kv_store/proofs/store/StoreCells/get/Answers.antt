@@ -1,9 +1,9 @@
-use Rattle.std.proofs.Common.{◌≡◌, ◌<◌, ◌≤◌, ℕ, sym, ap, subst, ◌∙◌, [], get_or, slice_index_or, unwrap_or, Option, arith, length}
+use Rattle.std.proofs.Common.{◌≡◌, ◌<◌, ℕ, sym, ap, subst, ◌∙◌, [], get_or, slice_index_or, unwrap_or, Option, arith, length}
 use Rattle.aeg_base.specs.Store.{value_at}
-use Rattle.kv_store.specs.Columns.{IsRising, Pairs, found, lists_of}
+use Rattle.kv_store.specs.Columns.{IsRising, found, lists_of}
 use Rattle.kv_store.specs.Stores.{Holding}
 use Rattle.kv_store.proofs.Flat.{value_at-store_of}
-use Rattle.kv_store.proofs.Writes.{column_at, get-lists, length-lists, out_of_range}
+use Rattle.kv_store.proofs.Writes.{column_at, get-lists, out_of_range}
 use Rattle.kv_store.proofs.store.StoreCells.get.Goals as goal
 
 pub find-requires : goal.find-requires
