@@ -1,15 +1,18 @@
 -- What a write in one column makes of the store.
-use Rattle.std.proofs.Common.{◌≡◌, ◌≢◌, ℕ, ◌+◌, ◌<◌, ◌≤◌, ◌==◌, Bool, true, false, cond, ◌&&◌, List, [], ◌∷◌, length, get_or, set, if◌then◌else◌, Option, Some, None, unwrap_or, refl, sym, ap, subst, ◌∙◌, inl, inr, ◌⊎◌, arith, zero, suc, length-set}
+use Rattle.std.proofs.Common.{◌≡◌, ◌≢◌, ℕ, ◌+◌, ◌<◌, ◌≤◌, ◌==◌, Bool, true, false, cond, ◌&&◌, List, [], ◌∷◌, ◌++◌, drop, append_assoc, length, get_or, set, if◌then◌else◌, Option, Some, None, unwrap_or, refl, sym, ap, subst, ◌∙◌, inl, inr, ◌⊎◌, arith, zero, suc, length-set}
 use Rattle.std.proofs.lemmas.Bool.Decides.{eqb_tells}
 use Rattle.std.proofs.lemmas.List.{get_or-set_same, get_or-set_other}
 use Rattle.std.specs.Prelude.{vec_capacity}
 use Rattle.std.specs.declared.vec.Vec.{Vec}
 use Rattle.std.specs.declared.alloc.Global.{Global}
 use Rattle.aeg_base.specs.declared.names.Key.{Key}
-use Rattle.aeg_base.specs.Store.{same_key, written, empty}
+use Rattle.std.specs.FinMap.Entries.{find}
+use Rattle.aeg_base.specs.Store.{key_cmp, same_key, written, empty}
 use Rattle.aeg_base.proofs.StoreLaws.{value_at-written, value_at-empty, same_store}
-use Rattle.kv_store.specs.Columns.{Pairs, found, IsColumn, AreColumns, map_of, lists_of, count_of}
-use Rattle.kv_store.proofs.Flat.{store_of, value_at-store_of, size-store_of}
+use Rattle.kv_store.specs.Columns.{keyed, all_pairs, AreEmpty, Pairs, found, IsColumn, AreColumns, map_of, lists_of, count_of}
+use Rattle.kv_store.proofs.Flat.{key, find-all, entries-store_of, store_of, value_at-store_of, size-store_of}
+use Rattle.kv_store.proofs.Sizes.{size-new}
+use Rattle.kv_store.specs.Stores.{size}
 
 -- after a write in one column, which finds o at the id and elsewhere what it found
 pub record Writes (l l' : Pairs) (id : ℕ) (o : Option ℕ) : Type 0 where
@@ -90,6 +93,16 @@ module _ (vectors : List (Vec (ℕ × ℕ) Global)) (count room : ℕ) (h : AreC
   pub store_size : length (map_of vectors).entries ≡ count
   store_size = size-store_of (lists_of vectors) h.columns ∙ sym h.counted
 
+  -- a new key's pair is one more
+  pub room_for : (value : ℕ) → 0 < value → found (get_or vectors k.class v).items k.id ≡ None → size (written (map_of vectors) k value) ≤ room → count + 1 ≤ room
+  room_for value pos none fits =
+      let finds : find key_cmp k (map_of vectors).entries ≡ None =
+          ap (find key_cmp k) (entries-store_of (lists_of vectors) h.columns)
+          ∙ ap (λ n. find key_cmp (key n k.id) (all_pairs 0 (lists_of vectors))) (let e : k.class ≡ 0 + k.class = omega arith in e)
+          ∙ find-all k.class k.id 0 (lists_of vectors) ∙ ap (λ l. found l k.id) (get-lists vectors k.class v here) ∙ none in
+      let one = size-new (map_of vectors) k value pos finds in
+      let many = store_size in omega arith
+
   module _ (v' : Vec (ℕ × ℕ) Global) (o : Option ℕ) (column : IsColumn v'.items) (finds : (q : ℕ) → found v'.items q ≡ (if q == k.id then o else found (get_or vectors k.class v).items q)) where
     writes : Writes (get_or (lists_of vectors) k.class []) v'.items k.id o
     writes = record { column = column; finds = λ q. finds q ∙ ap (λ l. if q == k.id then o else found l q) (sym (get-lists vectors k.class v here)) }
@@ -145,10 +158,6 @@ positive_without l l' id h finds q e = at (q == id) (sym (finds q) ∙ e)
     at true e = cc
     at false e = h q e
 
-abbrev pub AreEmpty : List (Vec (ℕ × ℕ) Global) → Type 0
-AreEmpty [] = Unit {0}
-AreEmpty (v ∷ vs) = (v.items ≡ []) × AreEmpty vs
-
 pub all_empty : (vectors : List (Vec (ℕ × ℕ) Global)) → AreEmpty vectors → (class : ℕ) → get_or (lists_of vectors) class [] ≡ []
 all_empty [] h class = refl
 all_empty (v ∷ vs) h zero = h.0
@@ -168,4 +177,43 @@ grown old new count room room' h same eight within roomy = record {
   roomy = roomy;
   counted = h.counted ∙ ap count_of (sym same);
   within = within;
+}
+
+pub added_within : (count added room : ℕ) → count ≤ room → added ≤ 1 → (0 < added → count + 1 ≤ room) → count + added ≤ room
+added_within count zero room within most more = omega arith
+added_within count (suc n) room within most more = let m = more (omega arith) in omega arith
+
+-- vectors with the same items at each place have the same lists
+pub same_items : (n : ℕ) (a b : List (Vec (ℕ × ℕ) Global)) → length a ≡ n → length b ≡ n → ((k : ℕ) (v : Vec (ℕ × ℕ) Global) → k < n → (get_or a k v).items ≡ (get_or b k v).items) → lists_of a ≡ lists_of b
+same_items n [] [] ea eb h = refl
+same_items n [] (y ∷ b) ea eb h = absurd (omega arith)
+same_items n (x ∷ a) [] ea eb h = absurd (omega arith)
+same_items zero (x ∷ a) (y ∷ b) ea eb h = absurd (omega arith)
+same_items (suc n) (x ∷ a) (y ∷ b) ea eb h = λ i. h 0 x (omega arith) i ∷ same_items n a b (omega arith) (omega arith) (λ k v lt. h (suc k) v (omega arith)) i
+
+-- a column's pairs, then those of the later columns
+all-drop : (lists : List Pairs) (n class : ℕ) → n < length lists → keyed class (get_or lists n []) ++ all_pairs (class + 1) (drop (n + 1) lists) ≡ all_pairs class (drop n lists)
+all-drop [] n class lt = absurd (omega arith)
+all-drop (l ∷ ls) zero class lt = refl
+all-drop (l ∷ ls) (suc n) class lt =
+    ap (λ m. keyed class (get_or ls n []) ++ all_pairs (class + 1) (drop m (l ∷ ls))) (let e : suc n + 1 ≡ suc (n + 1) = omega arith in e) ∙ all-drop ls n class (omega arith)
+
+pub join_step : (old : List (Key × ℕ)) (lists : List Pairs) (n class : ℕ) (l : Pairs) → n < length lists → l ≡ get_or lists n [] → (old ++ keyed class l) ++ all_pairs (class + 1) (drop (n + 1) lists) ≡ old ++ all_pairs class (drop n lists)
+join_step old lists n class l lt e =
+    ap (λ x. (old ++ keyed class x) ++ all_pairs (class + 1) (drop (n + 1) lists)) e
+    ∙ append_assoc old (keyed class (get_or lists n [])) (all_pairs (class + 1) (drop (n + 1) lists))
+    ∙ ap (λ x. old ++ x) (all-drop lists n class lt)
+
+pub no_count : (vectors : List (Vec (ℕ × ℕ) Global)) → AreEmpty vectors → count_of (lists_of vectors) ≡ 0
+no_count [] h = refl
+no_count (v ∷ vs) h = let a : length v.items ≡ 0 = ap (λ x. length x) h.0 in let b = no_count vs h.1 in omega arith
+
+-- eight columns without pairs
+pub no_columns : (vectors : List (Vec (ℕ × ℕ) Global)) → AreEmpty vectors → length vectors ≡ 8 → AreColumns vectors 0 0
+no_columns vectors h eight = record {
+  eight = eight;
+  columns = no_values vectors (all_empty vectors h);
+  roomy = λ class lt v. omega arith;
+  counted = sym (no_count vectors h);
+  within = omega arith;
 }

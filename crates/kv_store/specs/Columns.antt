@@ -52,6 +52,10 @@ all_pairs class (column ∷ columns) = keyed class column ++ all_pairs (class + 
 abbrev pub lists_of : List (Vec (ℕ × ℕ) Global) → List Pairs
 lists_of vectors = map (λ v. v.items) vectors
 
+abbrev pub AreEmpty : List (Vec (ℕ × ℕ) Global) → Type 0
+AreEmpty [] = Unit {0}
+AreEmpty (v ∷ vs) = (v.items ≡ []) × AreEmpty vs
+
 abbrev pub count_of : List Pairs → ℕ
 count_of [] = 0
 count_of (column ∷ columns) = length column + count_of columns

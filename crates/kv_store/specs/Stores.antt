@@ -1,5 +1,5 @@
 -- What contracts see of a store with room, and of an undo list.
-use Rattle.std.specs.Prelude.{ℕ, ◌≤◌, List, [], ◌∷◌, length, refl}
+use Rattle.std.specs.Prelude.{ℕ, ◌<◌, ◌≤◌, List, [], ◌∷◌, length, refl}
 use Rattle.std.specs.Coded.{Coded, code_by, coded×, coded_list, coded_ℕ}
 use Rattle.aeg_base.specs.declared.names.Key.{Key}
 use Rattle.aeg_base.specs.Codes.{key_code}
@@ -32,7 +32,17 @@ abbrev pub unwound : List (Key × ℕ) → Store → Store
 unwound [] s = s
 unwound (entry ∷ newer) s = written (unwound newer s) entry.0 entry.1
 
--- at no moment since the list's start the store had more pairs than this
+-- before no put of the list the store had more pairs than this
 abbrev pub StaysWithin : ℕ → List (Key × ℕ) → Store → Type 0
-StaysWithin top [] s = size s ≤ top
-StaysWithin top (entry ∷ newer) s = StaysWithin top newer s × (size (written (unwound newer s) entry.0 entry.1) ≤ top)
+StaysWithin top [] s = Unit {0}
+StaysWithin top (entry ∷ newer) s = StaysWithin top newer s × (size (unwound (entry ∷ newer) s) ≤ top)
+
+-- each key is one of a store
+abbrev pub AreKeys : List (Key × ℕ) → Type 0
+AreKeys [] = Unit {0}
+AreKeys (entry ∷ newer) = (entry.0.class < 8) × AreKeys newer
+
+-- the keys of the puts, each with 1
+abbrev pub touched : List (Key × ℕ) → Store → Store
+touched [] s = s
+touched (entry ∷ newer) s = written (touched newer s) entry.0 1

@@ -22,13 +22,14 @@ pub fn find(column: &[(u32, u64)], id: u32) -> Option<u64>
     }
 }
 
-/// Sets the value of the id, and answers how many pairs were added. There is room for a pair more.
+/// Sets the value of the id, and answers how many pairs were added. There is room for a new one.
 pub fn set(column: &mut Vec<(u32, u64)>, id: u32, value: u64) -> usize
     requires rising { IsRising column.old.items }
-    requires room { length column.old.items < vec_capacity column.old }
+    requires room { found column.old.items id ≡ None → length column.old.items < vec_capacity column.old }
     ensures rising { IsRising column.new.items }
     ensures sets { (q : ℕ) → found column.new.items q ≡ (if q == id then Some value else found column.old.items q) }
     ensures added { length column.new.items ≡ length column.old.items + result }
+    ensures new { 0 < result → found column.old.items id ≡ None }
     ensures most { result ≤ 1 }
     ensures capacity { vec_capacity column.old ≤ vec_capacity column.new }
 {

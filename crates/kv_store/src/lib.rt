@@ -2,7 +2,10 @@
 #![tactic(auto)]
 
 mod column;
+mod copies;
 mod room;
 mod store;
+mod undo;
 
 pub use store::Store;
+pub use undo::UndoList;

@@ -1,9 +1,10 @@
 // The store: a finite map from keys to numbers without zeros, with room.
-ghost use Rattle.std.specs.Prelude.{◌≡◌, ◌≤◌, ◌<◌, ◌+◌, OnOk, OnErr, vec_capacity};
-ghost use Rattle.aeg_base.specs.Store.{empty, value_at, written};
+ghost use Rattle.std.specs.Prelude.{◌≡◌, ◌≤◌, ◌<◌, ◌+◌, IfOk, OnOk};
+ghost use Rattle.aeg_base.specs.Store.{empty, pairs_of, value_at, written};
 ghost use Rattle.kv_store.specs.Stores.{size};
 
 use crate::column::{find, set, take_out};
+use crate::copies::{again, empty_columns, join};
 use crate::room::{grow, widened};
 use aeg_base::{Cells, Key, Memory};
 use std::alloc::Global;
@@ -38,16 +39,7 @@ impl Store {
         ensures room { result.room ≡ 0 }
     {
         Store {
-            columns: [
-                Vec::new(alloc),
-                Vec::new(alloc),
-                Vec::new(alloc),
-                Vec::new(alloc),
-                Vec::new(alloc),
-                Vec::new(alloc),
-                Vec::new(alloc),
-                Vec::new(alloc),
-            ],
+            columns: empty_columns(alloc),
             count: 0,
             room: 0,
         }
@@ -59,6 +51,30 @@ impl Store {
         ensures within { result ≤ self.now.room }
     {
         self.count
+    }
+
+    /// All pairs, by class, then id.
+    pub fn pairs(&self) -> Result<Vec<(Key, u64)>, Memory>
+        ensures { IfOk result (λ pairs. pairs.items ≡ pairs_of self.now.map) }
+    {
+        join(&self.columns, self.allocator())
+    }
+
+    /// The same store again.
+    pub fn copy(&self) -> Result<Store, Memory>
+        ensures { IfOk result (λ copy. copy.map ≡ self.now.map) }
+    {
+        let mut columns = again(&self.columns, self.allocator())?;
+        grow(&mut columns, self.count)?;
+        Ok(Store {
+            columns,
+            count: self.count,
+            room: self.count,
+        })
+    }
+
+    pub(crate) fn allocator(&self) -> Global {
+        *self.columns[0].allocator()
     }
 
     // Makes room for more pairs. It doubles, so that many puts take memory seldom.
@@ -78,11 +94,11 @@ impl Store {
         Ok(())
     }
 
-    // Sets the value of a key, which is not 0. There is room for a pair more.
+    // Sets the value of a key, which is not 0. There is room for what the store has then.
     fn set(&mut self, key: Key, value: u64)
         requires class { key.class < 8 }
         requires value { 0 < value }
-        requires room { size self.old.map < self.old.room }
+        requires room { size (written self.old.map key value) ≤ self.old.room }
         ensures map { self.new.map ≡ written self.old.map key value }
         ensures room { self.new.room ≡ self.old.room }
     {
@@ -100,10 +116,10 @@ impl Store {
         self.count -= gone;
     }
 
-    // Writes a key. There is room for a pair more.
+    // Writes a key. There is room for what the store has then.
     pub(crate) fn write(&mut self, key: Key, value: u64)
         requires class { key.class < 8 }
-        requires room { size self.old.map < self.old.room }
+        requires room { size (written self.old.map key value) ≤ self.old.room }
         ensures map { self.new.map ≡ written self.old.map key value }
         ensures room { self.new.room ≡ self.old.room }
     {
