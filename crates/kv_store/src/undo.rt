@@ -128,6 +128,7 @@ impl Store {
         ensures map { self.new.map ≡ written self.old.map key value }
         ensures entries { undo.new.entries ≡ undo.old.entries ++ (key, value_at self.old.map key) ∷ [] }
         ensures top { undo.new.top ≡ max undo.old.top (max (size self.old.map) (size self.new.map)) }
+        ensures within { undo.old.top ≤ self.old.room → undo.new.top ≤ self.new.room }
         ensures start { unwound undo.new.entries self.new.map ≡ unwound undo.old.entries self.old.map }
         ensures left { StaysWithin undo.old.top undo.old.entries self.old.map → StaysWithin undo.new.top undo.new.entries self.new.map }
         ensures room { self.new.room ≡ self.old.room }
