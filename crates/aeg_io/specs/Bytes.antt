@@ -9,6 +9,10 @@ Gains None new bytes = new ≡ None
 Gains (Some had) None bytes = Unit {0}
 Gains (Some had) (Some has) bytes = has ≡ had ++ bytes
 
+-- the told bytes grew by a front of these
+abbrev pub GainsFront : Option (List ℕ) → Option (List ℕ) → List ℕ → Type 0
+GainsFront old new bytes = (went : ℕ) × Gains old new (take went bytes)
+
 -- a write took the first n bytes of the piece at Ok n, and none at Err
 abbrev pub WriteGains : {E : Type 0} → Option (List ℕ) → Option (List ℕ) → Result ℕ E → List ℕ → Type 0
 WriteGains old new result piece = MatchResult result (λ n. Gains old new (take n piece)) (λ _. Gains old new [])

@@ -1,8 +1,8 @@
 // All that a source has, and all of a piece.
-ghost use Rattle.std.specs.Prelude.{◌≡◌, ◌<◌, ◌≤◌, List, ℕ, length, take, IfOk, IfSome, OnOk, OnErr, IsErrOf, Option};
+ghost use Rattle.std.specs.Prelude.{◌≡◌, ◌<◌, ◌≤◌, List, ℕ, length, IfOk, IfSome, OnOk, OnErr, IsErrOf, Option};
 ghost use Rattle.std.specs.Io.KnownBytes.{Consumes, IsAtEnd};
 ghost use Rattle.aeg_io.specs.Causes.{Rose};
-ghost use Rattle.aeg_io.specs.Bytes.{Gains};
+ghost use Rattle.aeg_io.specs.Bytes.{Gains, GainsFront};
 
 use crate::{Failed, Sink, Source};
 use aeg_base::Bytes;
@@ -65,7 +65,7 @@ pub fn read_all<S: Source>(alloc: Global, src: &mut S, max: usize) -> Result<Byt
 /// Writes the whole piece. What went out after a failure is a prefix of it.
 pub fn put_all<K: Sink>(out: &mut K, piece: &[u8]) -> Result<(), Failed>
     ensures ok { OnOk result (Gains (K.taken out.old) (K.taken out.new) piece.now) }
-    ensures prefix { OnErr result ((went : ℕ) × Gains (K.taken out.old) (K.taken out.new) (take went piece.now)) }
+    ensures prefix { OnErr result (GainsFront (K.taken out.old) (K.taken out.new) piece.now) }
     ensures failed { OnErr result (Rose (K.faults out.old) (K.faults out.new)) }
     ensures later { K.faults out.old ≤ K.faults out.new }
 {
