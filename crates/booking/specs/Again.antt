@@ -67,7 +67,7 @@ cancel_again who booking s =
     after_three (table.cancel_stages who booking) s reads
     (status == 0) (not (owner_of booking == who.client)) (not (status == 2))
     table.no_booking table.not_yours table.not_booked
-    (table.does s (reads ++ cell 1 trip ∷ []) ((cell 5 booking, 3) ∷ []) (Call Pay 1 (table.refund_text who.client (capped (value_at s (cell 1 trip) * qty))))) tt
+    (table.does s (reads ++ cell 1 trip ∷ []) ((cell 5 booking, 3) ∷ []) (Call Pay 1 (table.refund_text who.client (capped (value_at s (cell 1 trip) * qty))))) refl
 
 look_again : (stages : Stages) (who : ReqId) (booking : ℕ) (s : Store) → HasStage stages (table.look_row who booking s).ending
 look_again stages who booking s =
