@@ -13,6 +13,8 @@ mod refusal;
 mod request;
 mod returning;
 mod service;
+#[cfg(test)]
+mod tests;
 mod text;
 mod turn;
 mod view;
