@@ -4,7 +4,7 @@ use Rattle.std.proofs.lemmas.Bool.Decides.{nat_tests, eqb_tells}
 use Rattle.std.proofs.Common.{Option}
 use Rattle.svc_api.specs.declared.action.Ending.TheVariants.{Reply}
 use Rattle.svc_api.specs.Plan.{Plan}
-use Rattle.aeg_base.specs.Store.{Store}
+use Rattle.aeg_base.specs.Store.{empty, Store}
 use Rattle.exec_core.specs.declared.machine.Machine.{Machine}
 use Rattle.exec_core.specs.States.{progress_of, going}
 use Rattle.exec_model.specs.Machine.{State, Progress, Ended, mem, is_running, any_running, turn, finish}
@@ -84,4 +84,4 @@ drop_all (x ∷ xs) (suc k) h = drop_all xs k (omega arith)
 
 -- any state whose group is this
 abbrev pub some_state : List ℕ → State
-some_state g = record { store = λ k. 0; owner = λ l. 0; progress = λ j. Ended (Reply []); base = λ k. 0; past = []; group = g; done = []; later = []; redo = 0; steps = [] }
+some_state g = record { store = empty; owner = λ l. 0; progress = λ j. Ended (Reply []); base = empty; past = []; group = g; done = []; later = []; redo = 0; steps = [] }

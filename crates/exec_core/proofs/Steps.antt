@@ -74,3 +74,10 @@ pub went-left-at : {P : Type 0} (plan : P → Option ℕ → Plan) (xs ys : List
 went-left-at plan xs ys i x y os os' os'' s s' d d' st st' plans t h e z ey eo ed est =
     same_state t s' s' _ _ _ _ d' _ st' _ refl (ap owner_of eo) (ap (progress_of plan) ey) ed est
     ∙ went-left plan xs i y (owner_of os) (owner_of os') s s' d st plans t h (subst (λ x. Goes i (slot_progress plan x) (owner_of os) s Left (slot_progress plan y) (owner_of os') s') e z)
+
+pub went-moved-at : {P : Type 0} (plan : P → Option ℕ → Plan) (xs ys : List (Slot P)) (i : ℕ) (x y : Slot P) (os os' os'' : List ℕ) (s s' : Store) (d st st' : List ℕ) (plans : ℕ → Plan) (t : State)
+    → i < length xs → x ≡ at xs i → Goes i (slot_progress plan x) (owner_of os) s Moved (slot_progress plan y) (owner_of os') s' → ys ≡ set xs i y → os'' ≡ os' → st' ≡ st ++ i ∷ []
+    → state t s' (owner_of os'') (progress_of plan ys) d st' ≡ went_on plans (state t s (owner_of os) (progress_of plan xs) d st) i
+went-moved-at plan xs ys i x y os os' os'' s s' d st st' plans t h e z ey eo est =
+    same_state t s' s' _ _ _ _ d d st' _ refl (ap owner_of eo) (ap (progress_of plan) ey) refl est
+    ∙ went-moved plan xs i y (owner_of os) (owner_of os') s s' d st plans t h (subst (λ x. Goes i (slot_progress plan x) (owner_of os) s Moved (slot_progress plan y) (owner_of os') s') e z)

@@ -226,8 +226,10 @@ fn any_running<P: Program>(slots: &[Slot<P>], group: &[u8]) -> bool
 
 /// Runs one segment of a job whole.
 fn run_one<S: Segments, C: Cells>(svc: &S, cells: &mut C, i: u8) -> Result<Ending, Memory>
+    requires { i < S.count svc.now }
     ensures ending { IfOk result (λ end. end ≡ ending_of (S.plan_of svc.now i) (C.store cells.old)) }
     ensures store { OnOk result (C.store cells.new ≡ store_after (S.plan_of svc.now i) (C.store cells.old)) }
+    ensures start { C.start cells.new ≡ C.start cells.old }
 {
     let (mut prog, answer) = svc.begin(i)?;
     run_segment(&mut prog, answer, cells)
@@ -240,11 +242,13 @@ fn rerun<S: Segments, C: Cells>(
     cells: &mut C,
     group: &[u8],
 ) -> Result<(), Memory>
+    requires here { All (λ j. j < S.count svc.now) group.now }
     requires members { All (λ j. j < length slots.old) group.now }
     requires once { (j : ℕ) → times j group.now ≤ 1 }
     ensures store { OnOk result (C.store cells.new ≡ serial (S.plan_of svc.now) (C.store cells.old) group.now) }
     ensures ends { OnOk result ((j : ℕ) → progress_of S.Prog.plan slots.new j ≡
         or_ended (serial_end (S.plan_of svc.now) (C.store cells.old) group.now j) (progress_of S.Prog.plan slots.old j)) }
+    ensures start { C.start cells.new ≡ C.start cells.old }
 {
     for i in group {
         let ending = run_one(svc, cells, *i)?;
@@ -271,6 +275,7 @@ fn again<S: Segments, C: Logged>(
     cells: &mut C,
     i: u8,
 ) -> Result<(), Memory>
+    requires here { All (λ j. j < S.count svc.now) group.now }
     requires members { All (λ j. j < length m.old.slots.items) group.now }
     requires once { (j : ℕ) → times j group.now ≤ 1 }
     requires redo { m.old.redo < 255 }
@@ -283,6 +288,7 @@ fn again<S: Segments, C: Logged>(
     ensures redo { OnOk result (m.new.redo ≡ m.old.redo + 1) }
     ensures slots { OnOk result (length m.new.slots.items ≡ length m.old.slots.items) }
     ensures locks { OnOk result (length m.new.owner.items ≡ length m.old.owner.items) }
+    ensures start { C.start cells.new ≡ C.start cells.old }
 {
     cells.undo();
     rerun(svc, &mut m.slots, cells, group)?;
@@ -306,6 +312,7 @@ fn turn<S: Segments, C: Logged>(
     cells: &mut C,
     i: u8,
 ) -> Result<bool, Memory>
+    requires here { All (λ j. j < S.count svc.now) group.now }
     requires member { mem i group.now ≡ true }
     requires slots { i < length m.old.slots.items }
     requires members { All (λ j. j < length m.old.slots.items) group.now }
@@ -327,6 +334,7 @@ fn turn<S: Segments, C: Logged>(
         left_of S.Prog.budget m.new.slots.items i < left_of S.Prog.budget m.old.slots.items i) }
     ensures outside { OnOk result ((j : ℕ) → mem j group.now ≡ false → progress_of S.Prog.plan m.new.slots.items j ≡ progress_of S.Prog.plan m.old.slots.items j) }
     ensures redo_most { OnOk result (m.new.redo ≤ m.old.redo + 1) }
+    ensures start { C.start cells.new ≡ C.start cells.old }
 {
     match step(m, cells, i)? {
         Went::Skipped => Ok(false),
@@ -346,6 +354,7 @@ fn use_schedule<S: Segments, C: Logged>(
     m: &mut Machine<S::Prog>,
     cells: &mut C,
 ) -> Result<(usize, bool), Memory>
+    requires here { All (λ j. j < S.count svc.now) group.now }
     requires members { All (λ j. j < length m.old.slots.items) group.now }
     requires numbers { All (λ j. j < 255) group.now }
     requires once { (j : ℕ) → times j group.now ≤ 1 }
@@ -363,6 +372,7 @@ fn use_schedule<S: Segments, C: Logged>(
     ensures outside { OnOk result ((j : ℕ) → mem j group.now ≡ false → progress_of S.Prog.plan m.new.slots.items j ≡ progress_of S.Prog.plan m.old.slots.items j) }
     ensures redo_most { OnOk result (m.new.redo ≤ m.old.redo + 1) }
     ensures running { IfOk result (λ r. r.1 ≡ false → any_runs (progress_of S.Prog.plan m.new.slots.items) group.now ≡ true) }
+    ensures start { C.start cells.new ≡ C.start cells.old }
 {
     let mut over = false;
     let mut used: usize = 0;
@@ -383,6 +393,7 @@ fn finish_group<S: Segments, C: Logged>(
     m: &mut Machine<S::Prog>,
     cells: &mut C,
 ) -> Result<(), Memory>
+    requires here { All (λ j. j < S.count svc.now) group.now }
     requires members { All (λ j. j < length m.old.slots.items) group.now }
     requires numbers { All (λ j. j < 255) group.now }
     requires once { (j : ℕ) → times j group.now ≤ 1 }
@@ -396,6 +407,7 @@ fn finish_group<S: Segments, C: Logged>(
     ensures locks { OnOk result (length m.new.owner.items ≡ 256) }
     ensures outside { OnOk result ((j : ℕ) → mem j group.now ≡ false → progress_of S.Prog.plan m.new.slots.items j ≡ progress_of S.Prog.plan m.old.slots.items j) }
     ensures redo_most { OnOk result (m.new.redo ≤ m.old.redo + 1) }
+    ensures start { C.start cells.new ≡ C.start cells.old }
 {
     let mut over = false;
     'members: for i in group {
@@ -414,6 +426,7 @@ fn run_group<S: Segments, C: Logged>(
     m: &mut Machine<S::Prog>,
     cells: &mut C,
 ) -> Result<usize, Memory>
+    requires here { All (λ j. j < S.count svc.now) group.now }
     requires members { All (λ j. j < length m.old.slots.items) group.now }
     requires numbers { All (λ j. j < 255) group.now }
     requires once { (j : ℕ) → times j group.now ≤ 1 }
@@ -428,6 +441,7 @@ fn run_group<S: Segments, C: Logged>(
     ensures locks { OnOk result (length m.new.owner.items ≡ 256) }
     ensures outside { OnOk result ((j : ℕ) → mem j group.now ≡ false → progress_of S.Prog.plan m.new.slots.items j ≡ progress_of S.Prog.plan m.old.slots.items j) }
     ensures redo_most { OnOk result (m.new.redo ≤ m.old.redo + 2) }
+    ensures start { C.start cells.new ≡ C.start cells.old }
 {
     let (used, over) = use_schedule(svc, group, schedule, m, cells)?;
     if !over {
@@ -445,6 +459,7 @@ pub fn run_by<S: Segments, C: Logged>(
     order: &mut Vec<u8>,
     cells: &mut C,
 ) -> Result<(), Memory>
+    requires here { length m.old.slots.items ≡ S.count svc.now }
     requires groups { AreMembers (length m.old.slots.items) (lists_of groups.now) }
     requires full { AreFull (lists_of groups.now) }
     requires once { (j : ℕ) → times j (concat (lists_of groups.now)) ≤ 1 }
@@ -453,6 +468,7 @@ pub fn run_by<S: Segments, C: Logged>(
     requires runs { (j : ℕ) → mem j (concat (lists_of groups.now)) ≡ true → runs (progress_of S.Prog.plan m.old.slots.items j) ≡ true }
     ensures run { OnOk result ((t : State) → begun S.Prog.plan m.new (C.store cells.new) order.new.items [] t
         ≡ complete_of (S.plan_of svc.now) (turns_of (S.plan_of svc.now) (begun S.Prog.plan m.old (C.store cells.old) order.old.items (lists_of groups.now) t) schedule.now)) }
+    ensures start { C.start cells.new ≡ C.start cells.old }
 {
     let mut at: usize = 0;
     'groups: for group in groups {

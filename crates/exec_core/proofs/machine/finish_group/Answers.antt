@@ -39,6 +39,7 @@ one-preserved g c =
       outside = λ j n. c.in_ok-over.ensures.outside j n ∙ c.one.invariant.outside j n;
       redo_most = (let a = c.in_ok-over.ensures.redo_most in let b = c.one.invariant.redo over0 in omega arith);
       redo = λ o. c.in_ok-over.ensures.redo o ∙ c.one.invariant.redo over0;
+      start = c.in_ok-over.ensures.start ∙ c.one.invariant.start;
     }
 
 pub members-preserved : goal.members-preserved
@@ -66,6 +67,7 @@ members-preserved g c =
       outside = c.one.invariant.outside;
       redo_most = c.one.invariant.redo_most;
       redo = c.one.invariant.redo;
+      start = c.one.invariant.start;
     }
   where
     two : (j k : ℕ) → j < k + 1 → (j < k) ⊎ (j ≡ k)

@@ -16,6 +16,7 @@ invariant-members g l = record {
   outside : (j : ℕ) → mem j l.group ≡ false → progress_of g.S.Prog.Program.plan l.m.slots.items j ≡ progress_of g.S.Prog.Program.plan l.fn.m.slots.items j;
   redo_most : l.m.redo ≤ l.fn.m.redo + 1;
   redo : l.over ≡ false → l.m.redo ≡ l.fn.m.redo;
+  start : g.C.Cells.start l.cells ≡ g.C.Cells.start l.fn.cells;
 }
 
 abbrev pub invariant-one : goal.invariant-one
@@ -33,6 +34,7 @@ invariant-one g l = record {
   outside : (j : ℕ) → mem j l.group ≡ false → progress_of g.S.Prog.Program.plan l.m.slots.items j ≡ progress_of g.S.Prog.Program.plan l.fn.m.slots.items j;
   redo_most : l.m.redo ≤ l.fn.m.redo + 1;
   redo : l.over ≡ false → l.m.redo ≡ l.fn.m.redo;
+  start : g.C.Cells.start l.cells ≡ g.C.Cells.start l.fn.cells;
 }
 
 abbrev pub decreases-one : goal.decreases-one

@@ -21,4 +21,5 @@ loop-i-preserved g c =
           ap (λ x. or_ended (serial_end plans (g.C.Cells.store c.run_one.new.cells) (drop (k + 1) xs) j) (progress_of plan (set c.loop-i.slots x (Slot.Ended c.in_ok-ending.ending)) j)) c.from.ensures
           ∙ rerun-more plan plans c.loop-i.slots xs k (g.C.Cells.store c.loop-i.cells) (g.C.Cells.store c.run_one.new.cells) c.in_ok-ending.ending j lt c.requires.once inside (c.in_ok-ending.ensures.store) (c.in_ok-ending.ensures.ending)
           ∙ c.loop-i.invariant.ends j;
+      start = c.in_ok-ending.ensures.start ∙ c.loop-i.invariant.start;
     }

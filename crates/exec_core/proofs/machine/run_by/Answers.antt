@@ -9,6 +9,18 @@ use Rattle.exec_model.specs.Machine.{next}
 use Rattle.exec_core.proofs.Groups.{groups_at, At, at_group, run-more, lists_all, run-over}
 use Rattle.exec_core.proofs.machine.run_by.Goals as goal
 
+pub run_group-requires-clause-here : goal.run_group-requires-clause-here
+run_group-requires-clause-here g c =
+    let plan = g.S.Prog.Program.plan in
+    let L = lists_of c.args.groups.now in
+    let k = c.groups.group-index in
+    let v = c.group-item.result in
+    let n = length c.groups.m.slots.items in
+    let lt : k < length c.args.groups.now = search rules in
+    let d : drop k L ≡ v.items ∷ drop (k + 1) L = groups_at c.args.groups.now k v lt c.group-item.is in
+    let a : At n (progress_of plan c.groups.m.slots.items) L k v.items = at_group n (progress_of plan c.groups.m.slots.items) L k v.items d (subst (λ n. AreMembers n L) (sym c.groups.invariant.slots) c.requires.groups) c.requires.full c.requires.once c.groups.invariant.runs in
+    subst (λ n. All (λ j. j < n) c.deref.result.now) (c.groups.invariant.slots ∙ c.requires.here) (subst (λ xs. All (λ j. j < n) xs) (sym c.deref.ensures.value) a.members)
+
 pub run_group-requires-clause-members : goal.run_group-requires-clause-members
 run_group-requires-clause-members g c =
     let plan = g.S.Prog.Program.plan in
@@ -88,6 +100,7 @@ groups-preserved g c =
       locks = c.in_ok-at.ensures.locks;
       redo = (let x = c.in_ok-at.ensures.redo_most in let y = c.groups.invariant.redo in omega arith);
       runs = λ j h. ap is_running (c.in_ok-at.ensures.outside j (ap (mem j) c.deref.ensures.value ∙ a.apart j h)) ∙ a.later j h;
+      start = c.in_ok-at.ensures.start ∙ c.mark.ensures.start ∙ c.groups.invariant.start;
     }
 
 pub returns : goal.returns
@@ -99,4 +112,5 @@ returns g c = record {
       run-over plans (begun plan c.groups.m (g.C.Cells.store c.groups.cells) c.groups.order.items [] t) rest refl refl
       ∙ ap (λ x. complete plans (turns plans (begun plan c.groups.m (g.C.Cells.store c.groups.cells) c.groups.order.items x t) rest)) (sym (lists_all c.args.groups.now c.groups.group-index c.groups-test.false))
       ∙ c.groups.invariant.same t;
+  start = c.groups.invariant.start;
 }

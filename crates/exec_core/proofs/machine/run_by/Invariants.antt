@@ -13,4 +13,5 @@ invariant-groups g l = record {
   locks : length l.m.owner.items ≡ 256;
   redo : l.m.redo ≤ l.fn.m.redo + 2 * l.group-index;
   runs : (j : ℕ) → mem j (concat (drop l.group-index (lists_of l.groups))) ≡ true → is_running (progress_of g.S.Prog.Program.plan l.m.slots.items j) ≡ true;
+  start : g.C.Cells.start l.cells ≡ g.C.Cells.start l.fn.cells;
 }

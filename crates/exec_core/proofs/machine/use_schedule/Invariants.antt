@@ -15,6 +15,7 @@ invariant-entries g l = record {
   redo_most : l.m.redo ≤ l.fn.m.redo + 1;
   runs : l.over ≡ false → any_running (progress_of g.S.Prog.Program.plan l.m.slots.items) l.group ≡ true;
   redo : l.over ≡ false → l.m.redo ≡ l.fn.m.redo;
+  start : g.C.Cells.start l.cells ≡ g.C.Cells.start l.fn.cells;
 }
 
 abbrev pub decreases-entries : goal.decreases-entries
