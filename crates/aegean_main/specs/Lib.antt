@@ -1,0 +1,7 @@
+pub mod Answer
+pub mod Counting
+pub mod Reading
+pub mod Report
+pub mod Rests
+pub mod Running
+pub mod Status
