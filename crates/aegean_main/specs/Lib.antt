@@ -5,3 +5,4 @@ pub mod Report
 pub mod Rests
 pub mod Running
 pub mod Status
+pub mod Top

@@ -1,11 +1,11 @@
 // The second look at an input: each line is read again, its step is made, and what it tells is written.
-ghost use Rattle.std.specs.Prelude.{◌≡◌, ◌<◌, ◌≤◌, ◌-◌, ◌^◌, ◌++◌, length, OnOk, OnErr, IsErrOf};
-ghost use Rattle.aeg_io.specs.Bytes.{Gains, GainsFront};
+ghost use Rattle.std.specs.Prelude.{◌≡◌, ◌<◌, ◌≤◌, ◌-◌, ◌^◌, length, None, OnOk, OnErr, IsErrOf};
+ghost use Rattle.aeg_io.specs.Bytes.{GainsFront};
 ghost use Rattle.aeg_io.specs.Causes.{Rose};
 ghost use Rattle.server_model.specs.Server.{opening_server};
-ghost use Rattle.server_model.specs.Single.{Steps, line_of, lines_of, booking_meaning, steps_line};
+ghost use Rattle.server_model.specs.Single.{Steps, line_of, lines_of, booking_meaning};
 ghost use Rattle.one_server.specs.Steps.{IsNamed};
-ghost use Rattle.aegean_main.specs.Answer.{answer_run};
+ghost use Rattle.aegean_main.specs.Answer.{answer_run, ended_with};
 ghost use Rattle.aegean_main.specs.Running.{RunsLine, Runs, Owing, run_lines as run_of_lines};
 
 use crate::lines::next_line;
@@ -100,10 +100,8 @@ fn send_long<K: Sink>(out: &mut K, text: &mut Vec<u8>) -> Result<(), Failed>
 
 /// Writes the rest of the text, and the line that counts the steps.
 fn send_last<K: Sink>(out: &mut K, mut text: Vec<u8>, count: u32) -> Result<(), RunErr>
-    ensures ok { OnOk result (Gains (K.taken out.old) (K.taken out.new) (text.items ++ steps_line count)) }
-    ensures front { OnErr result (GainsFront (K.taken out.old) (K.taken out.new) (text.items ++ steps_line count)) }
+    ensures writes { Runs (ended_with text.items None count) (K.taken out.old) (K.taken out.new) result }
     ensures failed { IsErrOf result RunErr.Write → Rose (K.faults out.old) (K.faults out.new) }
-    ensures legal { OnErr result ((result ≡ Err RunErr.Write) ⊎ (result ≡ Err RunErr.Memory)) }
     ensures later { K.faults out.old ≤ K.faults out.new }
 {
     add_steps(&mut text, count)?;
@@ -130,11 +128,15 @@ pub fn run_lines<K: Sink>(
     let mut number = 1;
     'lines: while let Some((line, more)) = next_line(rest) {
         match run_line(alloc, &mut server, line, &mut text) {
-            Ok(()) => send_long(out, &mut text)?,
-            Err(StepErr::Illegal { row }) => {
-                put_all(out, &text)?;
-                return Err(RunErr::Illegal { line: number, row });
+            Ok(()) => {
+                if let Err(Failed) = send_long(out, &mut text) {
+                    return Err(RunErr::Write);
+                }
             }
+            Err(StepErr::Illegal { row }) => match put_all(out, &text) {
+                Ok(()) => return Err(RunErr::Illegal { line: number, row }),
+                Err(Failed) => return Err(RunErr::Write),
+            },
             Err(StepErr::Memory) => return Err(RunErr::Memory),
         }
         number += 1;
