@@ -1,7 +1,8 @@
 -- Histories: lists of steps, each with the text of its request, and what the one server makes of them.
 use Rattle.std.specs.Prelude.{ℕ, List, [], ◌∷◌, ◌++◌}
 use Rattle.aeg_base.specs.declared.names.ReqId.{ReqId}
-use Rattle.server_model.specs.Server.{Meaning, Server, Step, Refused, Goes, Call, Answer, opening_server, step}
+use Rattle.aeg_base.specs.declared.names.Tier.{Tier}
+use Rattle.server_model.specs.Server.{Meaning, Server, Step, Refused, Goes, opening_server, step}
 use Rattle.server_model.specs.declared.history.Hist.{Hist}
 use Rattle.server_model.specs.declared.history.Told.{Told}
 
@@ -36,10 +37,10 @@ Legal m h = LegalFrom m h (opening_server m)
 abbrev pub replies : {B : Type 0} → Meaning B → History → List (ReqId × List ℕ)
 replies m h = (server_after m h).replies
 
-abbrev pub calls : {B : Type 0} → Meaning B → History → List Call
+abbrev pub calls : {B : Type 0} → Meaning B → History → List (Tier × ℕ × List ℕ)
 calls m h = (server_after m h).calls
 
-abbrev pub served : {B : Type 0} → Meaning B → History → List Answer
+abbrev pub served : {B : Type 0} → Meaning B → History → List (Tier × ℕ × ℕ)
 served m h = (server_after m h).served
 
 abbrev pub told_by : {B : Type 0} → Step B → List Told

@@ -13,6 +13,7 @@ use Rattle.server_model.specs.declared.history.Hist.{Hist}
 use Rattle.server_model.specs.declared.history.Hist.TheVariants.{Start, Serve, Resume}
 use Rattle.server_model.specs.declared.history.Told.{Told}
 use Rattle.server_model.specs.declared.history.Told.TheVariants.{Replied, Called, Answered}
+pub use Rattle.server_model.specs.declared.progress.Progress.{Progress}
 
 -- what the server runs: the service's table, and the backends, whose states are of the type B
 pub record Meaning (B : Type 0) : Type 0 where
@@ -20,34 +21,14 @@ pub record Meaning (B : Type 0) : Type 0 where
   pub opening : Tier → B
   pub serve : Tier → B → List ℕ → Served B
 
--- a request whose call was made, and the stage at which it goes on
-pub record Progress : Type 0 where
-  pub seq : ℕ
-  pub body : List ℕ
-  pub stage : ℕ
-  pub tier : Tier
-  pub number : ℕ
-
--- a nested call that was made
-pub record Call : Type 0 where
-  pub tier : Tier
-  pub number : ℕ
-  pub text : List ℕ
-  pub owner : ReqId
-
--- a nested call that was served, with its code
-pub record Answer : Type 0 where
-  pub tier : Tier
-  pub number : ℕ
-  pub code : ℕ
-
--- last and progress are by client, who are numbered from 1; calls, served and replies are in the order of the steps
+-- last and progress are by client, who are numbered from 1. A call has its tier, number and text, a served one its code;
+-- calls, served ones and replies are in the order of the steps.
 pub record Server (B : Type 0) : Type 0 where
   pub store : Store
   pub last : List ℕ
   pub progress : List (Option Progress)
-  pub calls : List Call
-  pub served : List Answer
+  pub calls : List (Tier × ℕ × List ℕ)
+  pub served : List (Tier × ℕ × ℕ)
   pub inventory : B
   pub payment : B
   pub replies : List (ReqId × List ℕ)
@@ -78,15 +59,18 @@ last_of s client = slice_index s.last client
 abbrev pub progress_of : {B : Type 0} → Server B → ℕ → Option Progress
 progress_of s client = slice_index_or s.progress client None
 
--- the text of the call with this number
-abbrev pub text_in : List Call → Tier → ℕ → Option (List ℕ)
-text_in [] tier number = None
-text_in (call ∷ calls) tier number = if same_tier call.tier tier && (call.number == number) then Some call.text else text_in calls tier number
+-- what the tier's first item with this number has
+abbrev pub found_in : {T : Type 0} → List (Tier × ℕ × T) → Tier → ℕ → Option T
+found_in [] tier number = None
+found_in (item ∷ items) tier number = if same_tier item.0 tier && (item.1 == number) then Some item.2 else found_in items tier number
 
--- the code of the call with this number, where it was served
-abbrev pub code_in : List Answer → Tier → ℕ → Option ℕ
-code_in [] tier number = None
-code_in (answer ∷ answers) tier number = if same_tier answer.tier tier && (answer.number == number) then Some answer.code else code_in answers tier number
+-- the text of a call
+abbrev pub text_of : {B : Type 0} → Server B → Tier → ℕ → Option (List ℕ)
+text_of s tier number = found_in s.calls tier number
+
+-- the code of a call, where it was served
+abbrev pub code_of : {B : Type 0} → Server B → Tier → ℕ → Option ℕ
+code_of s tier number = found_in s.served tier number
 
 abbrev pub backend_of : {B : Type 0} → Server B → Tier → B
 backend_of s Pay = s.payment
@@ -114,7 +98,7 @@ called s who body number store tier stage text = record s {
   store = store;
   last = slice_set s.last who.client who.seq;
   progress = slice_set s.progress who.client (Some (record { seq = who.seq; body = body; stage = stage; tier = tier; number = number }));
-  calls = s.calls ++ record { tier = tier; number = number; text = text; owner = who } ∷ [];
+  calls = s.calls ++ (tier, number, text) ∷ [];
 }
 
 -- A call is given its number: 8, an earlier call of the tier has it.
@@ -126,7 +110,7 @@ calls_with s who body number store tier stage text None = Goes (called s who bod
 abbrev pub ended : {B : Type 0} → Server B → ReqId → List ℕ → ℕ → Store → Ending → Step B
 ended s who body number store (ends.Reply text) = if number == 0 then Goes (replied s who store text) (Replied who text) else Refused 7
 ended s who body number store (ends.Call tier stage text) =
-    if number == 0 then Refused 7 else calls_with s who body number store tier stage text (text_in s.calls tier number)
+    if number == 0 then Refused 7 else calls_with s who body number store tier stage text (text_of s tier number)
 
 -- 3, the text is no request
 abbrev pub starts : {B : Type 0} → Server B → ReqId → List ℕ → ℕ → Option (Option ℕ → Store → Segment) → Step B
@@ -139,8 +123,8 @@ start m s who number body (Some progress) = Refused 2
 start m s who number body None = starts s who body number (m.table who body 0)
 
 abbrev pub with_backend : {B : Type 0} → Server B → Tier → ℕ → Served B → Server B
-with_backend s Pay number served = record s { served = s.served ++ record { tier = Pay; number = number; code = served.code } ∷ []; payment = served.state }
-with_backend s tier number served = record s { served = s.served ++ record { tier = tier; number = number; code = served.code } ∷ []; inventory = served.state }
+with_backend s Pay number served = record s { served = s.served ++ (Pay, number, served.code) ∷ []; payment = served.state }
+with_backend s tier number served = record s { served = s.served ++ (tier, number, served.code) ∷ []; inventory = served.state }
 
 -- 4, no call with this number is there that wasn't served
 abbrev pub serves : {B : Type 0} → Meaning B → Server B → Tier → ℕ → Option (List ℕ) → Option ℕ → Step B
@@ -163,10 +147,10 @@ resumes m s who number progress (Some code) = goes_on s who progress.body number
 abbrev pub resume : {B : Type 0} → Meaning B → Server B → ReqId → ℕ → Option Progress → Step B
 resume m s who number None = Refused 5
 resume m s who number (Some progress) =
-    if progress.seq == who.seq then resumes m s who number progress (code_in s.served progress.tier progress.number) else Refused 5
+    if progress.seq == who.seq then resumes m s who number progress (code_of s progress.tier progress.number) else Refused 5
 
 -- The body is looked at by a start alone.
 abbrev pub step : {B : Type 0} → Meaning B → Server B → Hist → List ℕ → Step B
 step m s (Start who number) body = if who.seq == last_of s who.client + 1 then start m s who number body (progress_of s who.client) else Refused 1
-step m s (Serve tier number) body = serves m s tier number (text_in s.calls tier number) (code_in s.served tier number)
+step m s (Serve tier number) body = serves m s tier number (text_of s tier number) (code_of s tier number)
 step m s (Resume who number) body = resume m s who number (progress_of s who.client)

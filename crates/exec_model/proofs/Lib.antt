@@ -1,0 +1,11 @@
+pub mod Lookups
+pub mod Basics
+pub mod Safe
+pub mod Inv
+pub mod Ready
+pub mod Finish
+pub mod Mixer
+pub mod Outcome
+pub mod Spell
+pub mod Bounds
+pub mod Executor
