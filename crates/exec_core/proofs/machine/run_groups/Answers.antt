@@ -2,12 +2,13 @@ use Rattle.std.proofs.Common.{rules, ◌≡◌, ℕ, ◌+◌, ◌<◌, ◌≤◌
 use Rattle.std.proofs.lemmas.List.{drop-drop}
 use Rattle.std.proofs.lemmas.Grind.{common_steps}
 use Rattle.std.specs.List.{All}
+use Rattle.exec_model.specs.Jobs.{plan_at}
 use Rattle.exec_model.specs.Machine.{mem, is_running, any_running, turns, complete}
 use Rattle.exec_model.specs.Groups.{times}
 use Rattle.exec_core.specs.States.{progress_of, lists_of, AreMembers, begun, whole_of}
 use Rattle.exec_model.specs.Machine.{next}
 use Rattle.exec_core.proofs.Groups.{groups_at, At, at_group, run-more, lists_all, run-over}
-use Rattle.exec_core.proofs.machine.run_by.Goals as goal
+use Rattle.exec_core.proofs.machine.run_groups.Goals as goal
 
 pub run_group-requires-clause-here : goal.run_group-requires-clause-here
 run_group-requires-clause-here g c =
@@ -79,7 +80,7 @@ groups-preserved g c =
     let lt : k < length c.args.groups.now = search rules in
     let d : drop k L ≡ v.items ∷ drop (k + 1) L = groups_at c.args.groups.now k v lt c.group-item.is in
     let a : At n (progress_of plan c.groups.m.slots.items) L k v.items = at_group n (progress_of plan c.groups.m.slots.items) L k v.items d (subst (λ n. AreMembers n L) (sym c.groups.invariant.slots) c.requires.groups) c.requires.full c.requires.once c.groups.invariant.runs in
-    let plans = g.S.Segments.plan_of c.args.svc.now in
+    let plans = plan_at (g.S.Service.beginning c.args.svc.now) c.args.segs.now in
     let used = c.in_ok-at.field-0 in
     let sch = c.args.schedule.now in
     let cut : take (length sch - c.groups.at) (drop c.groups.at sch) ≡ drop c.groups.at sch = grind (arith, common_steps) in
@@ -107,7 +108,7 @@ pub returns : goal.returns
 returns g c = record {
   run = λ t.
       let plan = g.S.Prog.Program.plan in
-      let plans = g.S.Segments.plan_of c.args.svc.now in
+      let plans = plan_at (g.S.Service.beginning c.args.svc.now) c.args.segs.now in
       let rest = drop c.groups.at c.args.schedule.now in
       run-over plans (begun plan c.groups.m (g.C.Cells.store c.groups.cells) c.groups.order.items [] t) rest refl refl
       ∙ ap (λ x. complete plans (turns plans (begun plan c.groups.m (g.C.Cells.store c.groups.cells) c.groups.order.items x t) rest)) (sym (lists_all c.args.groups.now c.groups.group-index c.groups-test.false))

@@ -1,13 +1,14 @@
 use Rattle.std.proofs.Common.{◌≡◌, ℕ, ◌+◌, ◌*◌, ◌≤◌, length, drop, true}
+use Rattle.exec_model.specs.Jobs.{plan_at}
 use Rattle.exec_model.specs.Machine.{State, mem, is_running, concat, turns, complete}
 use Rattle.exec_core.specs.States.{progress_of, begun, lists_of}
-use Rattle.exec_core.proofs.machine.run_by.Given as goal
+use Rattle.exec_core.proofs.machine.run_groups.Given as goal
 
 abbrev pub invariant-groups : goal.invariant-groups
 invariant-groups g l = record {
   same : (t : State) →
-      complete (g.S.Segments.plan_of l.svc) (turns (g.S.Segments.plan_of l.svc) (begun g.S.Prog.Program.plan l.m (g.C.Cells.store l.cells) l.order.items (drop l.group-index (lists_of l.groups)) t) (drop l.at l.schedule))
-      ≡ complete (g.S.Segments.plan_of l.svc) (turns (g.S.Segments.plan_of l.svc) (begun g.S.Prog.Program.plan l.fn.m (g.C.Cells.store l.fn.cells) l.fn.order.items (lists_of l.groups) t) l.schedule);
+      complete (plan_at (g.S.Service.beginning l.svc) l.segs) (turns (plan_at (g.S.Service.beginning l.svc) l.segs) (begun g.S.Prog.Program.plan l.m (g.C.Cells.store l.cells) l.order.items (drop l.group-index (lists_of l.groups)) t) (drop l.at l.schedule))
+      ≡ complete (plan_at (g.S.Service.beginning l.svc) l.segs) (turns (plan_at (g.S.Service.beginning l.svc) l.segs) (begun g.S.Prog.Program.plan l.fn.m (g.C.Cells.store l.fn.cells) l.fn.order.items (lists_of l.groups) t) l.schedule);
   at : l.at ≤ length l.schedule;
   slots : length l.m.slots.items ≡ length l.fn.m.slots.items;
   locks : length l.m.owner.items ≡ 256;
