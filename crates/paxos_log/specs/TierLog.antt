@@ -37,6 +37,11 @@ abbrev pub kept : {V : Type 0} → Option (Leading V) → Ballot → Option (Lea
 kept None b = None
 kept (Some l) b = if same_ballot l.ballot b then Some l else None
 
+-- the leader has sent a value at p
+abbrev pub sent : {V : Type 0} → Option (Leading V) → ℕ → Option (Leading V)
+sent None p = None
+sent (Some l) p = Some (record { ballot = l.ballot; led_at = l.led_at; promisers = l.promisers; best = l.best; last = Some p })
+
 -- the state that acceptor, learner and leader make
 abbrev pub joined : {V : Type 0} → AcceptorState V → LearnerState V → Option (Leading V) → LogState V
 joined a n leader = record { promised = a.promised; accepted = voted_at a.vote (length n.learned); learned = n.learned; seen = n.seen; leader = option_map as_leader leader }

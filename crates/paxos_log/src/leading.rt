@@ -2,8 +2,8 @@
 ghost use Rattle.std.specs.Prelude.{◌≡◌, ◌<◌, length, Some, OnOk, OnErr, IfOk, IfSome, option_copied, option_map};
 ghost use Rattle.log_model.specs.Log.{is_better};
 ghost use Rattle.log_model.specs.Rows.{join, to_offer};
-ghost use Rattle.paxos_log.specs.Parts.{takes_promise, after_promise};
-ghost use Rattle.paxos_log.specs.TierLog.{as_leader, kept};
+ghost use Rattle.paxos_log.specs.Parts.{takes_promise, after_promise, offered_by};
+ghost use Rattle.paxos_log.specs.TierLog.{as_leader, kept, sent};
 
 use aeg_base::{Ballot, Memory, Pos, Value};
 use paxos_parts::{Members, is_below, is_same};
@@ -55,6 +55,31 @@ pub fn keep_of_ballot<V: Value>(leader: &mut Option<Leading<V>>, b: Ballot)
     };
     if stops {
         *leader = None;
+    }
+}
+
+/// The ballot and the value with which a leader offers at the open position.
+pub fn value_of<V: Value>(leader: &Option<Leading<V>>, at: Pos, own: Option<&V>) -> Result<Option<(Ballot, V)>, Memory>
+    ensures { IfOk result (λ offered. offered ≡ offered_by (option_map as_leader leader.now) at (option_copied own.entry)) }
+{
+    match leader {
+        None => Ok(None),
+        Some(leader) => match leader.to_offer(at, own)? {
+            Some(value) => Ok(Some((leader.ballot, value))),
+            None => Ok(None),
+        },
+    }
+}
+
+/// A leader has sent a value at the position.
+pub fn note_sent<V: Value>(leader: &mut Option<Leading<V>>, at: Pos)
+    ensures { leader.new ≡ sent leader.old at }
+{
+    match leader {
+        None => {}
+        Some(leader) => {
+            leader.last = Some(at);
+        }
     }
 }
 

@@ -1,7 +1,7 @@
 // Leading, and promises.
 ghost use Rattle.std.specs.Prelude.{◌≡◌, ◌+◌, ◌*◌, ◌<◌, ◌≤◌, length, OnErr, IfOk};
 ghost use Rattle.log_model.specs.Log.{told};
-ghost use Rattle.log_model.specs.Rows.{lead, promises, on_prepare, on_promise};
+ghost use Rattle.log_model.specs.Rows.{last_counter, lead, leads, promises, on_prepare, on_promise};
 ghost use Rattle.paxos_log.specs.TierLog.{with_state};
 
 use super::TierLog;
@@ -23,6 +23,17 @@ impl<V: Value> TierLog<V> {
         if promised.counter == u32::MAX {
             return Ok(idle(self.alloc, LogIdle::BallotSpent));
         }
+        self.begin()
+    }
+
+    /// Leads with the next ballot.
+    fn begin(&mut self) -> Result<LogTurn<V>, Memory>
+        requires { self.old.state.promised.counter < last_counter }
+        ensures turn { IfOk result (λ turn. turn ≡ told (leads self.old.faults self.old.me self.old.state)) }
+        ensures after { IfOk result (λ _. self.new ≡ with_state self.old (leads self.old.faults self.old.me self.old.state).state) }
+        ensures memory { OnErr result (self.new ≡ self.old) }
+    {
+        let promised = self.acceptor.promised();
         let ballot = Ballot {
             counter: promised.counter + 1,
             node: self.me,
