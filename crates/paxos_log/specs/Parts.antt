@@ -2,8 +2,8 @@
 use Rattle.std.specs.Prelude.{ℕ, ◌+◌, ◌*◌, Bool, false, ◌&&◌, not, List, [], ◌∷◌, ◌++◌, if◌then◌else◌, Option, Some, None, option_map}
 use Rattle.aeg_base.specs.Ballots.{same_ballot}
 use Rattle.aeg_base.specs.declared.names.Ballot.{Ballot}
-use Rattle.log_model.specs.declared.fact.Fact.TheVariants.{Accepted as Voted}
-use Rattle.log_model.specs.declared.message.PaxMsg.TheVariants.{Accept, Accepted}
+use Rattle.log_model.specs.declared.fact.Fact.TheVariants.{Promised, Accepted as Voted}
+use Rattle.log_model.specs.declared.message.PaxMsg.TheVariants.{Prepare, Accept, Accepted}
 use Rattle.log_model.specs.declared.turn.LogTurn.{LogTurn}
 use Rattle.log_model.specs.Log.{Leader, has, is, is_none, nobody, to_each}
 use Rattle.log_model.specs.Rows.{join, to_offer}
@@ -31,3 +31,7 @@ offer_out u x b p v = record {
   learned = None;
   idle = None;
 }
+
+-- what a leader that begins with b at p writes down and sends
+abbrev pub lead_out : {V : Type 0} → ℕ → ℕ → Ballot → ℕ → LogTurn V
+lead_out u x b p = record { facts = Promised b ∷ []; sends = to_each (2 * u + 1) (is x) (Prepare b p); learned = None; idle = None }

@@ -1,10 +1,11 @@
 // What a leader keeps.
-ghost use Rattle.std.specs.Prelude.{◌≡◌, ◌<◌, length, Some, OnOk, OnErr, IfOk, IfSome, option_copied, option_map};
+ghost use Rattle.std.specs.Prelude.{◌≡◌, ◌+◌, ◌*◌, ◌<◌, ◌≤◌, true, false, length, replicate, slice_set, Some, None, OnOk, OnErr, IfOk, IfSome, option_copied, option_map};
 ghost use Rattle.log_model.specs.Log.{is_better};
 ghost use Rattle.log_model.specs.Rows.{join, to_offer};
 ghost use Rattle.paxos_log.specs.Parts.{takes_promise, after_promise, offered_by};
 ghost use Rattle.paxos_log.specs.TierLog.{as_leader, kept, sent};
 
+use aeg_base::limits::MAX_FAULTS;
 use aeg_base::{Ballot, Memory, Pos, Value};
 use paxos_parts::{Members, is_below, is_same};
 
@@ -17,6 +18,23 @@ pub struct Leading<V> {
     pub promisers: Members,
     pub best: Option<(Ballot, V)>,
     pub last: Option<Pos>,
+}
+
+/// A leader that begins, and has promised itself.
+pub fn begun<V: Value>(u: u8, me: u8, ballot: Ballot, at: Pos, best: Option<(Ballot, V)>) -> Leading<V>
+    requires few { u ≤ MAX_FAULTS }
+    requires node { me < 2 * u + 1 }
+    ensures { result ≡ record { ballot = ballot; led_at = at; promisers = slice_set (replicate (2 * u + 1) false) me true; best = best; last = None } }
+{
+    let mut promisers = Members::new(2 * u + 1);
+    promisers.add(me);
+    Leading {
+        ballot,
+        led_at: at,
+        promisers,
+        best,
+        last: None,
+    }
 }
 
 /// Whether the report has a higher ballot than the best one.
