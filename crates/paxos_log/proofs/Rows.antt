@@ -1,16 +1,14 @@
 -- Rows by the parts of a log that they change.
-use Rattle.std.proofs.Common.{◌≡◌, ℕ, ◌+◌, ◌*◌, ◌≤◌, Bool, true, false, cond, List, [], ◌∷◌, ◌++◌, length, refl, sym, ap, subst, ◌∙◌, inl, inr, arith, Option, Some, None}
+use Rattle.std.proofs.Common.{◌≡◌, ℕ, ◌+◌, ◌*◌, ◌≤◌, Bool, true, false, cond, [], ◌∷◌, ◌++◌, length, refl, sym, ap, subst, ◌∙◌, inl, inr, arith, Option, Some, None}
 use Rattle.std.specs.Prelude.{nat_le, ◌==◌, ◌&&◌, not, ◌⊎◌, IfSome, IsSome, option_map, if◌then◌else◌}
 use Rattle.std.proofs.lemmas.Bool.{cond-true, eq-eqb}
 use Rattle.aeg_base.specs.Ballots.{same_ballot}
 use Rattle.aeg_base.specs.declared.names.Ballot.{Ballot}
 use Rattle.aeg_base.specs.declared.limits.TheConstants.{POSITIONS}
-use Rattle.log_model.specs.declared.fact.Fact.{Fact}
-use Rattle.log_model.specs.declared.message.PaxMsg.{PaxMsg}
 use Rattle.log_model.specs.declared.turn.LogTurn.{LogTurn}
 use Rattle.log_model.specs.declared.fact.Fact.TheVariants.{Accepted as Voted}
 use Rattle.log_model.specs.declared.message.PaxMsg.TheVariants.{Accept, Accepted}
-use Rattle.log_model.specs.declared.turn.Offering.TheVariants.{NotLeader, NoPromises, InFlight, LogFull, Taken, Free}
+use Rattle.log_model.specs.declared.turn.Offering.TheVariants.{NoPromises, InFlight, LogFull, Taken, Free}
 use Rattle.log_model.specs.Log.{Leader, LogState, Turn, told, open_at, stays, to_each, is, nobody, is_none, is_at}
 use Rattle.log_model.specs.Rows.{promised_by, is_taken, wants_as, value_or, to_offer, offers, offer_as, offer, wants, kept_leader, accepts}
 use Rattle.log_model.proofs.Ballots.{same_true}

@@ -1,5 +1,5 @@
 -- Rows as they change the leader's part alone.
-use Rattle.std.specs.Prelude.{ℕ, ◌+◌, ◌*◌, Bool, false, ◌&&◌, not, List, [], ◌∷◌, ◌++◌, if◌then◌else◌, Option, Some, None, option_map}
+use Rattle.std.specs.Prelude.{ℕ, ◌+◌, ◌*◌, Bool, false, ◌&&◌, not, [], ◌∷◌, ◌++◌, if◌then◌else◌, Option, Some, None, option_map}
 use Rattle.aeg_base.specs.Ballots.{same_ballot}
 use Rattle.aeg_base.specs.declared.names.Ballot.{Ballot}
 use Rattle.log_model.specs.declared.fact.Fact.TheVariants.{Promised, Accepted as Voted}

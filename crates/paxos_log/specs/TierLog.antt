@@ -1,10 +1,10 @@
 -- What contracts see of one node's log.
-use Rattle.std.specs.Prelude.{◌≡◌, ℕ, suc, ◌+◌, ◌*◌, ◌<◌, ◌≤◌, Bool, List, [], ◌∷◌, length, Option, Some, None, IfSome, IsSome, option_map, if◌then◌else◌}
+use Rattle.std.specs.Prelude.{◌≡◌, ℕ, ◌+◌, ◌*◌, ◌<◌, ◌≤◌, Bool, List, [], ◌∷◌, length, Option, Some, None, IfSome, IsSome, option_map, if◌then◌else◌}
 use Rattle.aeg_base.specs.Ballots.{same_ballot}
 use Rattle.aeg_base.specs.declared.names.Ballot.{Ballot}
 use Rattle.aeg_base.specs.declared.limits.TheConstants.{POSITIONS}
 use Rattle.log_model.specs.declared.fact.Fact.{Fact}
-use Rattle.log_model.specs.declared.fact.Fact.TheVariants.{Promised, Accepted as Voted, Learned}
+use Rattle.log_model.specs.declared.fact.Fact.TheVariants.{Learned}
 use Rattle.log_model.specs.declared.message.PaxMsg.{PaxMsg}
 use Rattle.log_model.specs.declared.message.PaxMsg.TheVariants.{Accept, Accepted, Learn}
 use Rattle.log_model.specs.declared.turn.Offering.{Offering}

@@ -21,7 +21,13 @@ pub struct Leading<V> {
 }
 
 /// A leader that begins, and has promised itself.
-pub fn begun<V: Value>(u: u8, me: u8, ballot: Ballot, at: Pos, best: Option<(Ballot, V)>) -> Leading<V>
+pub fn begun<V: Value>(
+    u: u8,
+    me: u8,
+    ballot: Ballot,
+    at: Pos,
+    best: Option<(Ballot, V)>,
+) -> Leading<V>
     requires few { u ≤ MAX_FAULTS }
     requires node { me < 2 * u + 1 }
     ensures { result ≡ record { ballot = ballot; led_at = at; promisers = slice_set (replicate (2 * u + 1) false) me true; best = best; last = None } }
@@ -77,7 +83,11 @@ pub fn keep_of_ballot<V: Value>(leader: &mut Option<Leading<V>>, b: Ballot)
 }
 
 /// The ballot and the value with which a leader offers at the open position.
-pub fn value_of<V: Value>(leader: &Option<Leading<V>>, at: Pos, own: Option<&V>) -> Result<Option<(Ballot, V)>, Memory>
+pub fn value_of<V: Value>(
+    leader: &Option<Leading<V>>,
+    at: Pos,
+    own: Option<&V>,
+) -> Result<Option<(Ballot, V)>, Memory>
     ensures { IfOk result (λ offered. offered ≡ offered_by (option_map as_leader leader.now) at (option_copied own.entry)) }
 {
     match leader {
@@ -102,7 +112,13 @@ pub fn note_sent<V: Value>(leader: &mut Option<Leading<V>>, at: Pos)
 }
 
 /// Takes a promise, if there is a leader of its ballot that has sent nothing yet and doesn't have the sender.
-pub fn take_promise<V: Value>(leader: &mut Option<Leading<V>>, from: u8, b: Ballot, p: Pos, report: &Option<(Ballot, V)>) -> Result<bool, Memory>
+pub fn take_promise<V: Value>(
+    leader: &mut Option<Leading<V>>,
+    from: u8,
+    b: Ballot,
+    p: Pos,
+    report: &Option<(Ballot, V)>,
+) -> Result<bool, Memory>
     requires { IfSome leader.old (λ l. from < length l.promisers) }
     ensures taken { IfOk result (λ taken. taken ≡ takes_promise (option_map as_leader leader.old) from b) }
     ensures after { IfOk result (λ _. option_map as_leader leader.new ≡ after_promise (option_map as_leader leader.old) from b p report.now) }
@@ -116,7 +132,13 @@ pub fn take_promise<V: Value>(leader: &mut Option<Leading<V>>, from: u8, b: Ball
 
 impl<V: Value> Leading<V> {
     /// Takes a promise of its ballot, if it has sent nothing yet and doesn't have the sender.
-    fn take(&mut self, from: u8, b: Ballot, p: Pos, report: &Option<(Ballot, V)>) -> Result<bool, Memory>
+    fn take(
+        &mut self,
+        from: u8,
+        b: Ballot,
+        p: Pos,
+        report: &Option<(Ballot, V)>,
+    ) -> Result<bool, Memory>
         requires { from < length self.old.promisers }
         ensures taken { IfOk result (λ taken. taken ≡ takes_promise (Some (as_leader self.old)) from b) }
         ensures after { IfOk result (λ _. Some (as_leader self.new) ≡ after_promise (Some (as_leader self.old)) from b p report.now) }

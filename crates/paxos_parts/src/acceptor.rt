@@ -39,10 +39,7 @@ impl<V: Value> Acceptor<V> {
     pub fn restored(promised: Ballot, vote: Option<Vote<V>>) -> Self
         ensures { result ≡ record { promised = promised; vote = vote } }
     {
-        Acceptor {
-            promised,
-            vote,
-        }
+        Acceptor { promised, vote }
     }
 
     pub fn promised(&self) -> Ballot

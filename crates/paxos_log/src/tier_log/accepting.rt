@@ -13,7 +13,13 @@ use log_model::{Fact, LogIdle, LogTurn, PaxMsg};
 use paxos_parts::is_below;
 
 impl<V: Value> TierLog<V> {
-    pub(crate) fn on_accept(&mut self, from: u8, b: Ballot, p: Pos, v: &V) -> Result<LogTurn<V>, Memory>
+    pub(crate) fn on_accept(
+        &mut self,
+        from: u8,
+        b: Ballot,
+        p: Pos,
+        v: &V,
+    ) -> Result<LogTurn<V>, Memory>
         ensures turn { IfOk result (λ turn. turn ≡ told (on_accept self.old.faults self.old.state from b p v.now)) }
         ensures after { IfOk result (λ _. self.new ≡ with_state self.old (on_accept self.old.faults self.old.state from b p v.now).state) }
         ensures memory { OnErr result (self.new ≡ self.old) }

@@ -52,7 +52,14 @@ impl<V: Value> TierLog<V> {
             Some(offered) => offered,
             None => unreachable!(),
         };
-        let out = offered(self.alloc, self.learner.faults(), self.me, ballot, at, &value)?;
+        let out = offered(
+            self.alloc,
+            self.learner.faults(),
+            self.me,
+            ballot,
+            at,
+            &value,
+        )?;
         note_sent(&mut self.leader, at);
         self.acceptor.vote(ballot, at, value);
         Ok(out)
@@ -60,14 +67,26 @@ impl<V: Value> TierLog<V> {
 }
 
 /// What an offer of the value writes down and sends.
-fn offered<V: Value>(alloc: Global, u: u8, me: u8, b: Ballot, p: Pos, v: &V) -> Result<LogTurn<V>, Memory>
+fn offered<V: Value>(
+    alloc: Global,
+    u: u8,
+    me: u8,
+    b: Ballot,
+    p: Pos,
+    v: &V,
+) -> Result<LogTurn<V>, Memory>
     requires { u ≤ MAX_FAULTS }
     ensures { IfOk result (λ out. out ≡ offer_out u me b p v.now) }
 {
     let nodes = 2 * u + 1;
     let facts = one(alloc, Fact::Accepted(p, b, v.copy()?))?;
     let mut sends = Vec::new(alloc);
-    send_each(&mut sends, nodes, Some(me), &PaxMsg::Accept(b, p, v.copy()?))?;
+    send_each(
+        &mut sends,
+        nodes,
+        Some(me),
+        &PaxMsg::Accept(b, p, v.copy()?),
+    )?;
     send_each(&mut sends, nodes, None, &PaxMsg::Accepted(b, p, v.copy()?))?;
     Ok(turn(facts, sends, None))
 }

@@ -80,7 +80,13 @@ impl<V: Value> TierLog<V> {
         Ok(turn(facts, sends, None))
     }
 
-    pub(crate) fn on_promise(&mut self, from: u8, b: Ballot, p: Pos, report: &Option<(Ballot, V)>) -> Result<LogTurn<V>, Memory>
+    pub(crate) fn on_promise(
+        &mut self,
+        from: u8,
+        b: Ballot,
+        p: Pos,
+        report: &Option<(Ballot, V)>,
+    ) -> Result<LogTurn<V>, Memory>
         requires { from < 2 * self.old.faults + 1 }
         ensures turn { IfOk result (λ turn. turn ≡ told (on_promise self.old.state self.old.state.leader from b p report.now)) }
         ensures after { IfOk result (λ _. self.new ≡ with_state self.old (on_promise self.old.state self.old.state.leader from b p report.now).state) }

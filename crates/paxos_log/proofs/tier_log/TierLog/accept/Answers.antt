@@ -1,4 +1,4 @@
-use Rattle.std.proofs.Common.{◌≡◌, ◌≤◌, ap, length, arith}
+use Rattle.std.proofs.Common.{◌≡◌, ap, length, arith}
 use Rattle.paxos_log.proofs.Rows.{accepted_state, kept_led}
 use Rattle.paxos_log.proofs.tier_log.TierLog.accept.Goals as goal
 

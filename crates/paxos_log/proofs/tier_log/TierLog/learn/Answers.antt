@@ -1,4 +1,3 @@
-use Rattle.std.proofs.Common.{◌≡◌, ◌≤◌, ◌∙◌, sym, length}
 use Rattle.paxos_log.proofs.tier_log.TierLog.learn.Goals as goal
 
 pub invariant_of-self-2 : goal.invariant_of-self-2

@@ -1,4 +1,4 @@
-use Rattle.std.proofs.Common.{◌≡◌, ◌<◌, length, arith}
+use Rattle.std.proofs.Common.{◌<◌, length, arith}
 use Rattle.paxos_log.specs.TierLog.{joined}
 use Rattle.paxos_log.proofs.Early.{before_told, before_after, past_told, past_after}
 use Rattle.paxos_log.proofs.tier_log.TierLog.on_accepted.Goals as goal
