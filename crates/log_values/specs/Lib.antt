@@ -1,2 +1,6 @@
+pub mod Ends
 pub mod Fields
+pub mod Outcomes
 pub mod Reading
+pub mod Records
+pub mod Values
