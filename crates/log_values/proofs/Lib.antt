@@ -7,4 +7,7 @@ pub mod Passing
 pub mod Orders
 pub mod Tokens
 pub mod Wholes
+pub mod CommitGrammar
+pub mod ValueGrammar
+pub mod RecordGrammar
 pub mod Leads

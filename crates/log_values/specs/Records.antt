@@ -1,10 +1,10 @@
 -- Facts and records of a journal: their spellings, what has one, and what bytes spell.
-use Rattle.std.specs.Prelude.{◌≡◌, ℕ, zero, suc, ◌<◌, ◌≤◌, List, [], ◌∷◌, ◌++◌, length, Option, Some, None, ◌==◌, if◌then◌else◌}
+use Rattle.std.specs.Prelude.{◌≡◌, ℕ, zero, suc, ◌<◌, ◌≤◌, List, [], ◌∷◌, ◌++◌, length, Option, Some, None, nat_lt, ◌==◌, if◌then◌else◌}
 use Rattle.std.specs.List.{flat_map, AllByRecursion}
 use Rattle.std.specs.Int.{w16, w32, to_be_bytes}
 use Rattle.aeg_base.specs.declared.limits.TheConstants.{POSITIONS}
 use Rattle.aeg_wire.specs.Fields.{Read, ◌>>=◌, byte_at}
-use Rattle.aeg_wire.specs.Formats.{made, both}
+use Rattle.aeg_wire.specs.Formats.{made, kept, both}
 use Rattle.svc_api.specs.Plan.{IsBackend}
 use Rattle.log_values.specs.declared.fact.Fact.{Fact}
 use Rattle.log_values.specs.declared.fact.Fact.TheVariants as facts
@@ -43,19 +43,11 @@ abbrev pub FitsRecord : List Fact → Type 0
 FitsRecord record_facts = (0 < length record_facts) × AllByRecursion FitsFact record_facts
 
 -- up to so many facts, to the end of the bytes
-unfoldable pub facts_of : ℕ → List ℕ → Option (List Fact)
-facts_of n [] = Some []
-facts_of zero (byte ∷ rest) = None
-facts_of (suc n) (byte ∷ rest) = with_fact (fact_at (byte ∷ rest)) (facts_of n)
-  where
-    with_others : Fact → Option (List Fact) → Option (List Fact)
-    with_others first None = None
-    with_others first (Some others) = Some (first ∷ others)
-    with_fact : Read Fact → (List ℕ → Option (List Fact)) → Option (List Fact)
-    with_fact None others = None
-    with_fact (Some first) others = with_others first.0 (others first.1)
+unfoldable pub facts_at : ℕ → List ℕ → Read (List Fact)
+facts_at n [] = Some ([], [])
+facts_at zero (byte ∷ rest) = None
+facts_at (suc n) (byte ∷ rest) = fact_at (byte ∷ rest) >>= λ first. made (λ others. first.0 ∷ others) (facts_at n first.1)
 
--- The facts that the bytes spell, if they are one or more. There are no more facts than bytes, since each has one.
-unfoldable pub record_of : List ℕ → Option (List Fact)
-record_of [] = None
-record_of (byte ∷ rest) = facts_of (length (byte ∷ rest)) (byte ∷ rest)
+-- A record's facts, one or more. There are no more facts than bytes, since each has a lead byte.
+unfoldable pub record_at : List ℕ → Read (List Fact)
+record_at bytes = kept (λ record_facts. nat_lt 0 (length record_facts)) (facts_at (length bytes) bytes)

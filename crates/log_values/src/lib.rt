@@ -13,6 +13,7 @@ mod mid_value;
 mod misread;
 mod order;
 mod pair_text;
+mod record;
 mod token;
 
 pub use any_value::{AnyValue, take_value};
@@ -26,4 +27,5 @@ pub use fields::{
 pub use mid_value::{MidValue, Verdict};
 pub use misread::Misread;
 pub use order::{is_permutation, put_commit, take_commit};
+pub use record::Record;
 pub use token::{Token, encode_outcome, read_outcome};

@@ -121,14 +121,21 @@ fn outcome_in(alloc: Global, bytes: &[u8]) -> Result<Option<Outcome>, Memory>
     ended(read, from.rest())
 }
 
+fn told_by(alloc: Global, bytes: &[u8]) -> Result<Option<Outcome>, Memory>
+    ensures found { IfOk result (λ found. IfSome found (λ o. Spells FitsOutcome outcome bytes.now o)) }
+    ensures only { (o : Outcome) → Spells FitsOutcome outcome bytes.now o → IfOk result (λ found. found ≡ Some o) }
+    ensures exact { IfOk result (λ found. found ≡ whole (outcome_at bytes.now)) }
+{
+    outcome_in(alloc, bytes)
+}
+
 /// The outcome that a token tells; none where its bytes are outside the grammar.
 pub fn read_outcome(alloc: Global, token: &Token) -> Result<Option<Outcome>, Memory>
     ensures found { IfOk result (λ found. IfSome found (λ o. Spells FitsOutcome outcome token.now o)) }
     ensures only { (o : Outcome) → Spells FitsOutcome outcome token.now o → IfOk result (λ found. found ≡ Some o) }
     ensures exact { IfOk result (λ found. found ≡ whole (outcome_at token.now)) }
 {
-    let bytes = token.bytes();
-    outcome_in(alloc, bytes)
+    told_by(alloc, token.bytes())
 }
 
 #[tactic(auto, unfolding(crate::specs::Outcomes::all_pairs_at))]
@@ -173,14 +180,21 @@ fn pass_outcome(from: &mut Cursor<'_>) -> Option<u8>
     Some(count)
 }
 
-/// A token where it lies, and how many ends it has.
-pub fn pass_token<'a>(from: &mut Cursor<'a>) -> Option<(&'a [u8], u8)>
+fn pass_from<'a>(start: &'a [u8], from: &mut Cursor<'a>) -> Option<(&'a [u8], u8)>
+    requires { start.now ≡ from.old }
     ensures { Found (λ t. (t.0.now, t.1)) result from.new (token_at from.old) }
 {
-    let start = from.rest();
     let Some(count) = pass_outcome(from) else {
         return None;
     };
     let (token, _) = start.split_at(start.len() - from.rest().len());
     Some((token, count))
+}
+
+/// A token where it lies, and how many ends it has.
+pub fn pass_token<'a>(from: &mut Cursor<'a>) -> Option<(&'a [u8], u8)>
+    ensures { Found (λ t. (t.0.now, t.1)) result from.new (token_at from.old) }
+{
+    let start = from.rest();
+    pass_from(start, from)
 }
