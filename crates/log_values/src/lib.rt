@@ -9,6 +9,7 @@ mod entry;
 mod fact;
 mod fields;
 pub mod format;
+mod laws;
 mod mid_value;
 mod misread;
 mod order;
@@ -24,6 +25,7 @@ pub use fields::{
     put_ballot, take_backend, take_ballot, take_client, take_floor, take_number, take_position,
     take_seq, take_stage, take_text, tier_byte,
 };
+pub use laws::{no_spelling_begins_another, tokens_tell_outcomes_apart};
 pub use mid_value::{MidValue, Verdict};
 pub use misread::Misread;
 pub use order::{is_permutation, put_commit, take_commit};
