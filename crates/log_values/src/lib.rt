@@ -4,10 +4,11 @@
 mod any_value;
 mod back_value;
 mod end_text;
-mod ended;
+
 mod entry;
 mod fact;
 mod fields;
+mod finish;
 pub mod format;
 mod laws;
 mod mid_value;
@@ -17,8 +18,10 @@ mod pair_text;
 mod record;
 mod token;
 
+
 pub use any_value::{AnyValue, take_value};
 pub use back_value::BackValue;
+pub use finish::ended;
 pub use entry::Entry;
 pub use fact::Fact;
 pub use fields::{
