@@ -1,1 +1,4 @@
-
+pub mod Kinds
+pub mod LogGrammar
+pub mod BodyGrammar
+pub mod BodyLengths

@@ -68,6 +68,7 @@ fn node(tier: Tier, index: u8) -> End
 }
 
 /// Who sends by these two bytes.
+#[tactic(auto, unfolding(crate::specs::Headers::sender_of))]
 fn sender(tier: u8, index: u8) -> Option<End>
     ensures { result ≡ sender_of tier index }
 {
@@ -123,6 +124,7 @@ pub fn index_byte(from: End) -> u8
     }
 }
 
+#[tactic(auto, unfolding(crate::specs::Headers::judged))]
 fn judge(lead: Lead) -> Result<Header, Refused>
     ensures { result ≡ judged lead }
 {
