@@ -22,7 +22,7 @@ use Rattle.frames.specs.declared.message.Msg.{Msg}
 use Rattle.frames.specs.declared.message.Msg.TheVariants as msgs
 use Rattle.frames.specs.LogMessages.{log_kind, log_body, log_body_at, FitsLog}
 use Rattle.frames.specs.Messages.{kind_of, body, FitsMsg, is_of_log, round_at, other_body_at, body_at}
-use Rattle.frames.proofs.Kinds.{kind_case}
+use Rattle.frames.proofs.KindCase.{kind_case}
 use Rattle.frames.proofs.LogGrammar.{log_takes, log_again}
 
 round_grammar : IsGrammar (λ n. n < ROUNDS) (λ n. to_be_bytes w16 n) round_at

@@ -20,7 +20,7 @@ use Rattle.log_values.proofs.Leads.{chosen, none_is_some}
 use Rattle.log_values.proofs.Tests.{le_true, le_is, lt_true, lt_is}
 use Rattle.log_values.proofs.ValueGrammar.{any_grammar}
 use Rattle.frames.specs.LogMessages.{is_carried, carried_at, IsCarried, open_at, report, FitsReport, report_at, vote_at, log_kind, log_body, log_body_at, FitsLog}
-use Rattle.frames.proofs.Kinds.{kind_case}
+use Rattle.frames.proofs.KindCase.{kind_case}
 
 carried_grammar : (tier : Tier) (pos : ℕ) → IsGrammar (IsCarried tier pos) any_value (carried_at tier pos)
 unfolding carried_at
