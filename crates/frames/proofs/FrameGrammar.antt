@@ -15,6 +15,7 @@ use Rattle.aeg_wire.specs.Formats.{made, both}
 use Rattle.aeg_wire.proofs.Grammar.{IsBytes, Takes, IsGrammar, some_is, made_grammar, both_grammar, distinct}
 use Rattle.aeg_wire.proofs.Numbers.{one_byte, two_bytes}
 use Rattle.log_values.specs.declared.format.TheConstants.{FRAME_VERSION, LAST_KIND, LAST_INDEX}
+use Rattle.log_values.specs.Fields.{tier_number}
 use Rattle.log_values.specs.Reading.{whole}
 use Rattle.log_values.proofs.Leads.{chosen, none_is_some}
 use Rattle.log_values.proofs.Tests.{within, is_within, le_true, lt_true, lt_is}
@@ -129,12 +130,19 @@ sender_takes tier index from e =
 not_past : (n limit : ℕ) → n ≤ limit → ltb limit n ≡ false
 not_past n limit le = grind (arith)
 
-sender_again : (from : End) → IsEnd from → sender_of (end_number from) (end_index from) ≡ Some from
+node_again : (tier : Tier) (index : ℕ) → index ≤ LAST_INDEX → sender_of (tier_number tier) index ≡ Some (node_of tier index)
 unfolding sender_of
-sender_again (Client client) fits = rw (is_within 1 CLIENTS client fits.0 fits.1) refl
-sender_again (Node (record { tier = Mid; index = index })) fits = rw (not_past index LAST_INDEX fits) refl
-sender_again (Node (record { tier = Inv; index = index })) fits = rw (not_past index LAST_INDEX fits) refl
-sender_again (Node (record { tier = Pay; index = index })) fits = rw (not_past index LAST_INDEX fits) refl
+node_again Mid index le = rw (not_past index LAST_INDEX le) refl
+node_again Inv index le = rw (not_past index LAST_INDEX le) refl
+node_again Pay index le = rw (not_past index LAST_INDEX le) refl
+
+client_again : (client : ℕ) → 1 ≤ client → client ≤ CLIENTS → sender_of 3 client ≡ Some (Client client)
+unfolding sender_of
+client_again client low high = rw (is_within 1 CLIENTS client low high) refl
+
+sender_again : (from : End) → IsEnd from → sender_of (end_number from) (end_index from) ≡ Some from
+sender_again (Client client) fits = client_again client fits.0 fits.1
+sender_again (Node n) fits = node_again n.tier n.index fits
 
 -- ---- headers
 
@@ -224,11 +232,14 @@ kind_high (msgs.Answer number code) = omega arith
 kind_high (msgs.Have about number code) = omega arith
 kind_high (msgs.Settle floor) = omega arith
 
+tier_small : (tier : Tier) → tier_number tier < 256
+tier_small Mid = omega arith
+tier_small Inv = omega arith
+tier_small Pay = omega arith
+
 end_number_small : (from : End) → end_number from < 256
 end_number_small (Client client) = omega arith
-end_number_small (Node (record { tier = Mid; index = index })) = omega arith
-end_number_small (Node (record { tier = Inv; index = index })) = omega arith
-end_number_small (Node (record { tier = Pay; index = index })) = omega arith
+end_number_small (Node n) = tier_small n.tier
 
 end_index_small : (from : End) → IsEnd from → end_index from < 256
 end_index_small (Client client) fits = omega (arith, fits.1)
@@ -305,6 +316,18 @@ framed_takes header left found e =
 abbrev FoundIs : List ℕ → Header × Msg → Type 0
 FoundIs bytes found = IsFrame bytes found.0.from found.1 × (found.0 ≡ header_for found.0.from found.1)
 
+abbrev lead_of5 : ℕ → ℕ → ℕ → ℕ → ℕ → Lead
+lead_of5 version kind tier index len = record { version = version; kind = kind; tier = tier; index = index; len = len }
+
+same_lead : (a b c d e v w x y z : ℕ) → a ≡ v → b ≡ w → c ≡ x → d ≡ y → e ≡ z → lead_of5 a b c d e ≡ lead_of5 v w x y z
+same_lead a b c d e v w x y z p q r s t = cc
+
+abbrev header_of3 : ℕ → End → ℕ → Header
+header_of3 kind from len = record { kind = kind; from = from; len = len }
+
+same_header : (from : End) (a b v w : ℕ) → a ≡ v → b ≡ w → header_of3 a from b ≡ header_of3 v from w
+same_header from a b v w p q = cc
+
 assembled : (bytes : List ℕ) (l : Lead) (left : List ℕ) (header : Header) (msg : Msg) → Takes bytes (lead_text l) left → JudgedIs l header → length left ≡ header.len
     → body_at (tier_of header.from) header.kind left ≡ Some (msg, []) → FoundIs bytes (header, msg)
 assembled bytes l left header msg taken is size there =
@@ -313,15 +336,11 @@ assembled bytes l left header msg taken is size there =
     let kind : header.kind ≡ kind_of msg = sym t.1.1 in
     let len : header.len ≡ length (body msg) = sym size ∙ ap length all in
     let sender = is.1.1.1.1 in
-    let same : l ≡ lead_for header.from msg = lead_is l header msg is kind len in
+    let same : l ≡ lead_for header.from msg = same_lead l.version l.kind l.tier l.index l.len FRAME_VERSION (kind_of msg) (end_number header.from) (end_index header.from) (length (body msg))
+          is.0 (sym is.1.0 ∙ kind) (sym sender.0) (sym sender.1.0) (sym is.1.1.0 ∙ len) in
     let parts : bytes ≡ frame header.from msg = taken.parts ∙ ap (λ (k : Lead). lead_text k ++ left) same ∙ ap (λ (w : List ℕ). lead_text (lead_for header.from msg) ++ w) all in
     let sent : is_sent_by header.from (kind_of msg) ≡ true = subst (λ (k : ℕ). is_sent_by header.from k ≡ true) (sym is.1.0 ∙ kind) is.1.1.1.0 in
-    (record { fit = record { sender = sender.1.1; sent = sent; message = t.1.0 }; parts = parts }, header_is header msg kind len)
-  where
-    lead_is : (l : Lead) (header : Header) (msg : Msg) → JudgedIs l header → header.kind ≡ kind_of msg → header.len ≡ length (body msg) → l ≡ lead_for header.from msg
-    lead_is (record { version = v; kind = k; tier = t; index = i; len = n }) header msg is kind len = cc
-    header_is : (header : Header) (msg : Msg) → header.kind ≡ kind_of msg → header.len ≡ length (body msg) → header ≡ header_for header.from msg
-    header_is (record { kind = k; from = f; len = n }) msg kind len = cc
+    (record { fit = record { sender = sender.1.1; sent = sent; message = t.1.0 }; parts = parts }, same_header header.from header.kind header.len (kind_of msg) (length (body msg)) kind len)
 
 judged_case : (bytes : List ℕ) (l : Lead) (left : List ℕ) (j : HeaderRead) (found : Header × Msg) → Takes bytes (lead_text l) left → judged l ≡ j → framed j left ≡ Ok found → FoundIs bytes found
 judged_case bytes l left (Err r) found taken is e = absurd (no_frame r found e)
