@@ -76,6 +76,7 @@ lead_grammar = made_grammar (λ p. (p.0 < 256) × ((p.1.0 < 256) × ((p.1.1.0 < 
   where
     lead_of : Parts1 → Lead
     lead_of p = record { version = p.0; kind = p.1.0; tier = p.1.1.0; index = p.1.1.1.0; len = p.1.1.1.1 }
+
     parts_of : Lead → Parts1
     parts_of l = (l.version, (l.kind, (l.tier, (l.index, l.len))))
 
@@ -108,12 +109,12 @@ node_case tier index from le e =
     elim (chosen {A = Option End} (eqb tier 0) (known (node_of Mid index)) (inv_or tier index) (Some from) e) [
       | inl h ↦ subst (λ (f : End). SenderIs tier index f) (some_is (node_of Mid index) from h.1) (sym (eqb-true tier 0 h.0), (refl, le))
       | inr h ↦ elim (chosen {A = Option End} (eqb tier 1) (known (node_of Inv index)) (pay_or_none tier index) (Some from) h.1) [
-          | inl k ↦ subst (λ (f : End). SenderIs tier index f) (some_is (node_of Inv index) from k.1) (sym (eqb-true tier 1 k.0), (refl, le))
-          | inr k ↦ elim (chosen {A = Option End} (eqb tier 2) (known (node_of Pay index)) None (Some from) k.1) [
-              | inl l ↦ subst (λ (f : End). SenderIs tier index f) (some_is (node_of Pay index) from l.1) (sym (eqb-true tier 2 l.0), (refl, le))
-              | inr l ↦ absurd (none_is_some from l.1)
-            ]
+        | inl k ↦ subst (λ (f : End). SenderIs tier index f) (some_is (node_of Inv index) from k.1) (sym (eqb-true tier 1 k.0), (refl, le))
+        | inr k ↦ elim (chosen {A = Option End} (eqb tier 2) (known (node_of Pay index)) None (Some from) k.1) [
+          | inl l ↦ subst (λ (f : End). SenderIs tier index f) (some_is (node_of Pay index) from l.1) (sym (eqb-true tier 2 l.0), (refl, le))
+          | inr l ↦ absurd (none_is_some from l.1)
         ]
+      ]
     ]
 
 sender_takes : (tier index : ℕ) (from : End) → sender_of tier index ≡ Some from → SenderIs tier index from
@@ -122,9 +123,9 @@ sender_takes tier index from e =
     elim (chosen {A = Option End} (eqb tier 3) (cond (nat_le 1 index && nat_le index CLIENTS) (known (Client index)) None) (cond (ltb LAST_INDEX index) None (mid_or tier index)) (Some from) e) [
       | inl h ↦ client_case tier index from h.0 h.1
       | inr h ↦ elim (chosen {A = Option End} (ltb LAST_INDEX index) None (mid_or tier index) (Some from) h.1) [
-          | inl k ↦ absurd (none_is_some from k.1)
-          | inr k ↦ node_case tier index from (ltb-false LAST_INDEX index k.0) k.1
-        ]
+        | inl k ↦ absurd (none_is_some from k.1)
+        | inr k ↦ node_case tier index from (ltb-false LAST_INDEX index k.0) k.1
+      ]
     ]
 
 not_past : (n limit : ℕ) → n ≤ limit → ltb limit n ≡ false
@@ -167,9 +168,9 @@ from_case l (Some from) header found version e =
     elim (chosen {A = HeaderRead} (is_sent_by from l.kind) (cond (ltb BODY_BYTES l.len) (Err (refused.Row 4)) (Ok (record { kind = l.kind; from = from; len = l.len }))) (Err (refused.Row 3)) (Ok header) e) [
       | inr h ↦ absurd (no_header (refused.Row 3) header h.1)
       | inl h ↦ elim (chosen {A = HeaderRead} (ltb BODY_BYTES l.len) (Err (refused.Row 4)) (Ok (record { kind = l.kind; from = from; len = l.len })) (Ok header) h.1) [
-          | inl k ↦ absurd (no_header (refused.Row 4) header k.1)
-          | inr k ↦ subst (λ (d : Header). JudgedIs l d) (ok_is (record { kind = l.kind; from = from; len = l.len }) header k.1) (version, (refl, (refl, (h.0, sender_takes l.tier l.index from found))))
-        ]
+        | inl k ↦ absurd (no_header (refused.Row 4) header k.1)
+        | inr k ↦ subst (λ (d : Header). JudgedIs l d) (ok_is (record { kind = l.kind; from = from; len = l.len }) header k.1) (version, (refl, (refl, (h.0, sender_takes l.tier l.index from found))))
+      ]
     ]
 
 abbrev after_kind : Lead → HeaderRead
@@ -181,12 +182,12 @@ judged_takes l header e =
     elim (chosen {A = HeaderRead} (not (eqb l.version FRAME_VERSION)) (Err (refused.Row 1)) (cond (ltb l.kind 1) (Err (refused.Row 2)) (cond (ltb LAST_KIND l.kind) (Err (refused.Row 2)) (after_kind l))) (Ok header) e) [
       | inl h ↦ absurd (no_header (refused.Row 1) header h.1)
       | inr h ↦ elim (chosen {A = HeaderRead} (ltb l.kind 1) (Err (refused.Row 2)) (cond (ltb LAST_KIND l.kind) (Err (refused.Row 2)) (after_kind l)) (Ok header) h.1) [
-          | inl k ↦ absurd (no_header (refused.Row 2) header k.1)
-          | inr k ↦ elim (chosen {A = HeaderRead} (ltb LAST_KIND l.kind) (Err (refused.Row 2)) (after_kind l) (Ok header) k.1) [
-              | inl m ↦ absurd (no_header (refused.Row 2) header m.1)
-              | inr m ↦ from_case l (sender_of l.tier l.index) header refl (eqb-true l.version FRAME_VERSION (not_false (eqb l.version FRAME_VERSION) h.0)) m.1
-            ]
+        | inl k ↦ absurd (no_header (refused.Row 2) header k.1)
+        | inr k ↦ elim (chosen {A = HeaderRead} (ltb LAST_KIND l.kind) (Err (refused.Row 2)) (after_kind l) (Ok header) k.1) [
+          | inl m ↦ absurd (no_header (refused.Row 2) header m.1)
+          | inr m ↦ from_case l (sender_of l.tier l.index) header refl (eqb-true l.version FRAME_VERSION (not_false (eqb l.version FRAME_VERSION) h.0)) m.1
         ]
+      ]
     ]
   where
     not_false : (b : Bool) → not b ≡ false → b ≡ true
@@ -306,11 +307,11 @@ framed_takes header left found e =
     elim (chosen {A = Framed} (ltb (length left) header.len) (Err refused.Short) (cond (ltb header.len (length left)) (Err (refused.Row 5)) (with_body header (whole (body_at (tier_of header.from) header.kind left)))) (Ok found) e) [
       | inl h ↦ absurd (no_frame refused.Short found h.1)
       | inr h ↦ elim (chosen {A = Framed} (ltb header.len (length left)) (Err (refused.Row 5)) (with_body header (whole (body_at (tier_of header.from) header.kind left))) (Ok found) h.1) [
-          | inl k ↦ absurd (no_frame (refused.Row 5) found k.1)
-          | inr k ↦
-              let b = body_case header (whole (body_at (tier_of header.from) header.kind left)) found k.1 in
-              (omega (arith, ltb-false (length left) header.len h.0, ltb-false header.len (length left) k.0), (whole_by (body_at (tier_of header.from) header.kind left) found.1 b.0, b.1))
-        ]
+        | inl k ↦ absurd (no_frame (refused.Row 5) found k.1)
+        | inr k ↦
+            let b = body_case header (whole (body_at (tier_of header.from) header.kind left)) found k.1 in
+            (omega (arith, ltb-false (length left) header.len h.0, ltb-false header.len (length left) k.0), (whole_by (body_at (tier_of header.from) header.kind left) found.1 b.0, b.1))
+      ]
     ]
 
 abbrev FoundIs : List ℕ → Header × Msg → Type 0
@@ -337,7 +338,7 @@ assembled bytes l left header msg taken is size there =
     let len : header.len ≡ length (body msg) = sym size ∙ ap length all in
     let sender = is.1.1.1.1 in
     let same : l ≡ lead_for header.from msg = same_lead l.version l.kind l.tier l.index l.len FRAME_VERSION (kind_of msg) (end_number header.from) (end_index header.from) (length (body msg))
-          is.0 (sym is.1.0 ∙ kind) (sym sender.0) (sym sender.1.0) (sym is.1.1.0 ∙ len) in
+    is.0 (sym is.1.0 ∙ kind) (sym sender.0) (sym sender.1.0) (sym is.1.1.0 ∙ len) in
     let parts : bytes ≡ frame header.from msg = taken.parts ∙ ap (λ (k : Lead). lead_text k ++ left) same ∙ ap (λ (w : List ℕ). lead_text (lead_for header.from msg) ++ w) all in
     let sent : is_sent_by header.from (kind_of msg) ≡ true = subst (λ (k : ℕ). is_sent_by header.from k ≡ true) (sym is.1.0 ∙ kind) is.1.1.1.0 in
     (record { fit = record { sender = sender.1.1; sent = sent; message = t.1.0 }; parts = parts }, same_header header.from header.kind header.len (kind_of msg) (length (body msg)) kind len)
@@ -377,7 +378,7 @@ frames_distinct a b m n x y fa fb e =
     let ends : a ≡ b = some_is a b (sym (sender_again a fa.sender) ∙ ap (λ (l : Lead). sender_of l.tier l.index) d.0 ∙ sender_again b fb.sender) in
     let kinds : kind_of m ≡ kind_of n = ap (λ (l : Lead). l.kind) d.0 in
     let reads : body_at (tier_of a) (kind_of m) (body m ++ x) ≡ body_at (tier_of b) (kind_of n) (body n ++ y)
-        = ap (λ (f : End). body_at (tier_of f) (kind_of m) (body m ++ x)) ends ∙ ap (λ (k : ℕ). body_at (tier_of b) k (body m ++ x)) kinds ∙ ap (λ (w : List ℕ). body_at (tier_of b) (kind_of n) w) d.1 in
+    = ap (λ (f : End). body_at (tier_of f) (kind_of m) (body m ++ x)) ends ∙ ap (λ (k : ℕ). body_at (tier_of b) k (body m ++ x)) kinds ∙ ap (λ (w : List ℕ). body_at (tier_of b) (kind_of n) w) d.1 in
     let same = some_is (m, x) (n, y) (sym (body_again (tier_of a) m x fa.message) ∙ reads ∙ body_again (tier_of b) n y fb.message) in
     (ends, (ap (λ (p : Msg × List ℕ). p.0) same, ap (λ (p : Msg × List ℕ). p.1) same))
 

@@ -65,9 +65,9 @@ report_case tier pos lead bytes after v rest first e =
     elim (chosen {A = Read Report} (eqb lead 0) (Some (None, after)) (cond (eqb lead 1) (cond (ltb pos POSITIONS) (made reported (found_at tier pos after)) None) None) (Some (v, rest)) e) [
       | inl h ↦ subst (λ (p : Report × List ℕ). Takes bytes (report p.0) p.1 × FitsReport tier pos p.0) (some_is (None, after) (v, rest) h.1) (subst (λ (k : ℕ). Takes bytes (k ∷ []) after) (eqb-true lead 0 h.0) first, tt)
       | inr h ↦ elim (chosen {A = Read Report} (eqb lead 1) (cond (ltb pos POSITIONS) (made reported (found_at tier pos after)) None) None (Some (v, rest)) h.1) [
-          | inl k ↦ report_one tier pos lead bytes after v rest first k.0 k.1
-          | inr k ↦ absurd (none_is_some (v, rest) k.1)
-        ]
+        | inl k ↦ report_one tier pos lead bytes after v rest first k.0 k.1
+        | inr k ↦ absurd (none_is_some (v, rest) k.1)
+      ]
     ]
 
 report_takes : (tier : Tier) (pos : ℕ) (bytes : List ℕ) (v : Report) (rest : List ℕ) → IsBytes bytes → report_at tier pos bytes ≡ Some (v, rest) → Takes bytes (report v) rest × FitsReport tier pos v

@@ -97,9 +97,7 @@ fn sends(from: End, kind: u8) -> bool
         End::Client(_) => kind == 1,
         End::Node(node) => match node.tier {
             Tier::Mid => 2 <= kind && kind != 11,
-            Tier::Inv | Tier::Pay => {
-                3 <= kind && kind <= 8 || kind == 11 || kind == 14
-            }
+            Tier::Inv | Tier::Pay => { 3 <= kind && kind <= 8 || kind == 11 || kind == 14 }
         },
     }
 }

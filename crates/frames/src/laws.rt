@@ -5,5 +5,4 @@ ghost use Rattle.frames.specs.Frames.{BeginNoOther, AreWhole};
 pub fn no_frame_begins_another()
     ensures distinct { BeginNoOther }
     ensures whole { AreWhole }
-{
-}
+{}

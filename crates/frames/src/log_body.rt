@@ -9,8 +9,7 @@ use aeg_base::limits::POSITIONS;
 use aeg_base::{Ballot, Bytes, Memory, Pos, Tier};
 use aeg_wire::{Cursor, put_u8, put_u16};
 use log_model::PaxMsg;
-use log_values::{AnyValue, MidValue, Misread};
-use log_values::{put_ballot, take_ballot, take_position, take_value};
+use log_values::{AnyValue, MidValue, Misread, put_ballot, take_ballot, take_position, take_value};
 use std::alloc::Global;
 
 fn is_turn_of(pos: Pos, value: &MidValue) -> bool

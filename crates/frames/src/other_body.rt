@@ -8,8 +8,10 @@ use crate::log_body::{kind_of_log, put_log, take_log};
 use aeg_base::limits::ROUNDS;
 use aeg_base::{Bytes, Memory, ReqId, Round, Tier};
 use aeg_wire::{Cursor, put_text, put_u8, put_u16, put_u32};
-use log_values::{Misread, put_commit, take_backend, take_client, take_commit};
-use log_values::{take_floor, take_number, take_seq, take_text, tier_byte};
+use log_values::{
+    Misread, put_commit, take_backend, take_client, take_commit, take_floor, take_number, take_seq,
+    take_text, tier_byte,
+};
 use std::alloc::Global;
 
 #[tactic(auto, unfolding(crate::specs::Messages::round_at))]
@@ -81,12 +83,7 @@ fn is_log_kind(kind: u8) -> bool
 
 /// The body of a message of this kind from this tier.
 #[tactic(auto, unfolding(crate::specs::Messages::body_at))]
-pub fn take_body(
-    alloc: Global,
-    tier: Tier,
-    kind: u8,
-    from: &mut Cursor<'_>,
-) -> Result<Msg, Misread>
+pub fn take_body(alloc: Global, tier: Tier, kind: u8, from: &mut Cursor<'_>) -> Result<Msg, Misread>
     ensures { Gives (λ m. m) result from.new (body_at tier kind from.old) }
 {
     if is_log_kind(kind) {

@@ -7,9 +7,9 @@ ghost use Rattle.frames.specs.Headers.{end_number, end_index};
 ghost use Rattle.frames.specs.Lengths.{sized};
 
 use crate::Msg;
-use crate::reading::tier_in;
 use crate::header::{end_byte, index_byte};
 use crate::other_body::{kind_byte, put_body};
+use crate::reading::tier_in;
 use aeg_base::{Bytes, End, Memory};
 use aeg_wire::{put_u8, put_u16};
 use log_values::format::FRAME_VERSION;
