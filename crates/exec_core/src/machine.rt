@@ -143,11 +143,7 @@ pub struct Machine<P> {
 }
 
 /// Segment `i` makes one step, if it runs. Where a lock that it wants is another's, nothing but its program is changed.
-fn step<P: Program, C: Logged>(
-    m: &mut Machine<P>,
-    cells: &mut C,
-    i: u8,
-) -> Result<Went, Memory>
+fn step<P: Program, C: Logged>(m: &mut Machine<P>, cells: &mut C, i: u8) -> Result<Went, Memory>
     requires slots { i < length m.old.slots.items }
     requires locks { length m.old.owner.items ≡ 256 }
     requires small { i < 255 }
@@ -236,7 +232,12 @@ fn widened(answer: Option<u8>) -> Option<u64>
 }
 
 /// Runs one segment of a job whole.
-fn run_one<S: Service, C: Cells>(svc: &S, segs: &[Seg], cells: &mut C, i: u8) -> Result<Ending, Memory>
+fn run_one<S: Service, C: Cells>(
+    svc: &S,
+    segs: &[Seg],
+    cells: &mut C,
+    i: u8,
+) -> Result<Ending, Memory>
     requires begins { All (BeginsWell (S.beginning svc.now)) segs.now }
     requires here { i < length segs.now }
     ensures ending { IfOk result (λ end. end ≡ ending_of (plan_at (S.beginning svc.now) segs.now i) (C.store cells.old)) }

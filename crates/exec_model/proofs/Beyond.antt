@@ -59,7 +59,7 @@ settle_cut n t h = ap (λ c. cond c (cut n t) (next (cut n t))) (running_cut n t
     at false = refl
 
 again_cut : (n : ℕ) (plan : ℕ → Plan) (t : State) (i : ℕ) → AreSmall n t.group → again plan (cut n t) i ≡ cut n (again plan t i)
-again_cut n plan t i h = λ k. record (again plan t i) { progress = λ j. at j (nat_lt j n) refl k; }
+again_cut n plan t i h = λ k. record (again plan t i) { progress = λ j. at j (nat_lt j n) refl k }
   where
     out : (j : ℕ) → nat_lt j n ≡ false → (b : Bool) → mem j t.group ≡ b → b ≡ false
     out j l true m = let e : true ≡ false = sym (h j m) ∙ l in cc
@@ -97,7 +97,7 @@ act_cut n plan t i (Running (Reads k f)) l h =
 act_cut n plan t i (Running (Writes k v p)) l h =
     ap settle (touch_cut n plan t i k (written t.store k v) p l h) ∙ settle_cut n (touch plan t i k (written t.store k v) p) (small_touched n plan t i k (written t.store k v) p h)
 act_cut n plan t i (Running (Ends e)) l h =
-    ap settle (ap (λ (q : ℕ → Progress). record (leave t i e) { progress = q; }) (update_cut n t.progress i (Ended e) l)) ∙ settle_cut n (leave t i e) h
+    ap settle (ap (λ (q : ℕ → Progress). record (leave t i e) { progress = q }) (update_cut n t.progress i (Ended e) l)) ∙ settle_cut n (leave t i e) h
 act_cut n plan t i (Ended e) l h = refl
 
 turn_cut : (n : ℕ) (plan : ℕ → Plan) (t : State) (i : ℕ) → AreSmall n t.group → turn plan (cut n t) i ≡ cut n (turn plan t i)

@@ -55,9 +55,9 @@ find-among s t q [] pairs = refl
 find-among s t q (e ∷ es) pairs =
     find-among s t q es (if equal then pairs else put key_cmp e.0 (value_at t e.0) pairs)
     ∙ settle ties equal (value_at s q == value_at t q) (find key_cmp q es) (find key_cmp q (if equal then pairs else put key_cmp e.0 (value_at t e.0) pairs)) (find key_cmp q pairs) (Some (value_at t q)) (Some (value_at t e.0)) e.1
-      (there equal)
-      (λ b. ap (λ k. value_at s k == value_at t k) (same_of_tie q e.0 b))
-      (λ b. ap (λ k. Some (value_at t k)) (same_of_tie q e.0 b))
+    (there equal)
+    (λ b. ap (λ k. value_at s k == value_at t k) (same_of_tie q e.0 b))
+    (λ b. ap (λ k. Some (value_at t k)) (same_of_tie q e.0 b))
   where
     equal : Bool
     equal = value_at s e.0 == value_at t e.0
@@ -147,8 +147,8 @@ find-picked s t q (e ∷ es) =
     there (value_at t e.0 == value_at s e.0)
     ∙ ap (λ (r : Option ℕ). cond (value_at t e.0 == value_at s e.0) r (cond (eq_by_cmp key_cmp q e.0) (Some (value_at t e.0)) r)) (find-picked s t q es)
     ∙ pick_one (eq_by_cmp key_cmp q e.0) (value_at t e.0 == value_at s e.0) (value_at t q == value_at s q) (find key_cmp q es) (Some (value_at t q)) (Some (value_at t e.0)) e.1
-      (λ b. ap (λ k. value_at t k == value_at s k) (same_of_tie q e.0 b))
-      (λ b. ap (λ k. Some (value_at t k)) (same_of_tie q e.0 b))
+    (λ b. ap (λ k. value_at t k == value_at s k) (same_of_tie q e.0 b))
+    (λ b. ap (λ k. Some (value_at t k)) (same_of_tie q e.0 b))
   where
     there : (c : Bool) → find key_cmp q (cond c (picked s t es) ((e.0, value_at t e.0) ∷ picked s t es)) ≡ cond c (find key_cmp q (picked s t es)) (cond (eq_by_cmp key_cmp q e.0) (Some (value_at t e.0)) (find key_cmp q (picked s t es)))
     there true = refl
@@ -182,6 +182,6 @@ picked_changes es t = same_entries key_cmp key_cmp_total key_cmp-IsAntisymmetric
     (sorted_picked (unwound es empty) t (pairs_of (touched es empty)) (sorted (touched es empty)))
     (sorted_among (unwound es t) t (pairs_of t) _ (sorted_among (unwound es t) t (pairs_of (unwound es t)) [] tt))
     (λ q. find-picked (unwound es empty) t q (pairs_of (touched es empty))
-      ∙ ap (λ b. cond b (cond (value_at t q == value_at (unwound es empty) q) None (Some (value_at t q))) None) (found_at (touched es empty) q)
-      ∙ same_answer (value_at (touched es empty) q == 0) (value_at (unwound es empty) q) (value_at (unwound es t) q) (value_at t q) (kept_or_back es t q)
-      ∙ sym (find-changes (unwound es t) t q))
+    ∙ ap (λ b. cond b (cond (value_at t q == value_at (unwound es empty) q) None (Some (value_at t q))) None) (found_at (touched es empty) q)
+    ∙ same_answer (value_at (touched es empty) q == 0) (value_at (unwound es empty) q) (value_at (unwound es t) q) (value_at t q) (kept_or_back es t q)
+    ∙ sym (find-changes (unwound es t) t q))
