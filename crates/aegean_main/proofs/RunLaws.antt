@@ -10,6 +10,7 @@ use Rattle.server_model.specs.Backends.{Amounts}
 use Rattle.server_model.specs.Server.{Server}
 use Rattle.one_server.specs.declared.refusal.StepErr.{StepErr}
 use Rattle.one_server.specs.declared.refusal.StepErr.TheVariants as errs
+use Rattle.aegean_main.specs.declared.status.Status.TheVariants.{Illegal}
 use Rattle.aegean_main.specs.declared.run.RunErr.{RunErr}
 use Rattle.aegean_main.specs.declared.run.RunErr.TheVariants as runs
 
@@ -35,6 +36,9 @@ Owing-sent a b c old new rest whole o s = (
 -- nothing more is to be written than this text
 pub Owing-last : (a b c : Option (List ℕ)) (x whole : List ℕ) → Owing a b x whole → Gains b c x → Gains a c whole
 Owing-last a b c x whole o g = let P : List ℕ → Type 0 = λ z. Gains a c z in subst P o.1.1 (Gains-append a b c o.0 x o.1.0 g)
+
+pub Owing-last-same : (a b c : Option (List ℕ)) (x y whole : List ℕ) → Owing a b x whole → y ≡ x → Gains b c y → Gains a c whole
+Owing-last-same a b c x y whole o e g = let P : List ℕ → Type 0 = λ z. Gains b c z in Owing-last a b c x whole o (subst P e g)
 
 -- a front of what is left went out
 pub Owing-front : (a b c : Option (List ℕ)) (x whole : List ℕ) → Owing a b x whole → GainsFront b c x → GainsFront a c whole
@@ -97,3 +101,17 @@ all_run a b lines number s text whole e o =
 
 pub all_run-refused : (lines : List (List ℕ)) (number : ℕ) (s : Server Amounts) → lines ≡ [] → (run_lines number lines s).refused ≡ None
 all_run-refused lines number s e = ap (λ (z : List (List ℕ)). (run_lines number z s).refused) e
+
+pub stopped-refused : (A : Type 0) (lines : List (List ℕ)) (line : List ℕ) (more : List (List ℕ)) (number row : ℕ) (s t : Server Amounts) (old new : List ℕ) (error : StepErr)
+    → lines ≡ line ∷ more → error ≡ errs.Illegal row → RunsLine {A = A} (line_of line) s t old new (Err error) → (run_lines number lines s).refused ≡ Some (number, row)
+stopped-refused A lines line more number row s t old new (errs.Illegal at) e is h =
+    let same : at ≡ row = cc in
+    ap (λ (z : List (List ℕ)). (run_lines number z s).refused) e
+    ∙ ap (λ (z : Outcome). z.refused) (h.0 number (run_lines (number + 1) more)) ∙ ap (λ (z : ℕ). Some (number, z)) same
+stopped-refused A lines line more number row s t old new errs.Memory e is h = absurd (cc)
+
+-- the answer after a step that was refused
+pub Runs-stopped : (a c : Option (List ℕ)) (text : List ℕ) (refused : Option (ℕ × ℕ)) (count number row shown : ℕ) → refused ≡ Some (number, row) → row ≡ shown → Gains a c text
+    → ((ended_with text refused count).status ≡ Illegal number shown) × Gains a c (ended_with text refused count).text
+Runs-stopped a c text None count number row shown e r g = absurd (cc)
+Runs-stopped a c text (Some at) count number row shown e r g = let same : at ≡ (number, row) = cc in (ap (λ (p : ℕ × ℕ). Illegal p.0 p.1) same ∙ ap (λ (z : ℕ). Illegal number z) r, g)
