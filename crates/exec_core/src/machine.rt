@@ -12,6 +12,7 @@ ghost use Rattle.exec_core.specs.States.{owner_of, slot_progress, progress_of, s
 
 use aeg_base::{Cells, Key, Memory, lock_of};
 use exec_model::Seg;
+use std::alloc::Global;
 use svc_api::{Action, Ending, Program, Service, run_segment};
 
 /// Cells that can go back to where they were when they were last marked.
@@ -141,6 +142,26 @@ pub struct Machine<P> {
     pub done: Vec<u8>,
     pub steps: Vec<u8>,
     pub redo: u8,
+}
+
+impl<P: Program> Machine<P> {
+    /// Where all segments are about to begin.
+    pub fn new(alloc: Global, slots: Vec<Slot<P>>) -> Result<Self, Memory>
+        ensures slots { IfOk result (λ m. m.slots.items ≡ slots.items) }
+        ensures free { IfOk result (λ m. (l : ℕ) → owner_of m.owner.items l ≡ 0) }
+        ensures locks { IfOk result (λ m. length m.owner.items ≡ 256) }
+        ensures steps { IfOk result (λ m. m.steps.items ≡ []) }
+        ensures redo { IfOk result (λ m. m.redo ≡ 0) }
+    {
+        let owner = vec![in alloc; 0u8; 256]?;
+        Ok(Machine {
+            slots,
+            owner,
+            done: Vec::new(alloc),
+            steps: Vec::new(alloc),
+            redo: 0,
+        })
+    }
 }
 
 /// Segment `i` makes one step, if it runs. Where a lock that it wants is another's, nothing but its program is changed.
