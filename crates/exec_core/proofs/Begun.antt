@@ -1,5 +1,5 @@
 -- A segment's program does what the job says.
-use Rattle.std.proofs.Common.{◌≡◌, ℕ, zero, suc, ◌<◌, Bool, List, [], ◌∷◌, length, get_or, Option, Some, None, refl, sym, ap, arith}
+use Rattle.std.proofs.Common.{◌≡◌, ℕ, zero, suc, ◌<◌, Bool, List, [], ◌∷◌, length, get_or, Option, Some, None, sym, ap, arith}
 use Rattle.svc_api.specs.Plan.{Plan}
 use Rattle.svc_api.specs.Segment.{Beginning, Begins}
 use Rattle.exec_model.specs.declared.job.Seg.{Seg}

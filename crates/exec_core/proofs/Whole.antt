@@ -1,5 +1,5 @@
 -- What the machine's vectors come to is the run of the job.
-use Rattle.std.proofs.Common.{◌≡◌, ℕ, zero, suc, ◌+◌, ◌<◌, ◌≤◌, Bool, true, false, cond, ◌||◌, ◌==◌, List, [], ◌∷◌, ◌++◌, length, get_or, map, unwrap_or, Option, refl, sym, ap, subst, ◌∙◌, arith, ltb}
+use Rattle.std.proofs.Common.{◌≡◌, ℕ, zero, suc, ◌+◌, ◌<◌, ◌≤◌, Bool, true, false, cond, ◌||◌, ◌==◌, List, [], ◌∷◌, ◌++◌, length, map, unwrap_or, Option, refl, sym, ap, ◌∙◌, arith, ltb}
 use Rattle.std.specs.Prelude.{nat_lt}
 use Rattle.std.proofs.lemmas.Bool.Decides.{nat_tests}
 use Rattle.std.specs.declared.vec.Vec.{Vec}
@@ -11,11 +11,11 @@ use Rattle.exec_model.specs.declared.job.Seg.{Seg}
 use Rattle.std.specs.List.{All}
 use Rattle.exec_model.specs.Machine.{State, Progress, Running, Ended, mem, is_running, concat, start, turns, complete, run, end_of}
 use Rattle.exec_model.specs.Groups.{times, fits, place, mix}
-use Rattle.exec_model.specs.Jobs.{Beginnings, plan_at, locks_at, said_nothing, below, Run, run_of, run_job}
+use Rattle.exec_model.specs.Jobs.{Beginnings, plan_at, locks_at, said_nothing, below, run_job}
 use Rattle.exec_model.proofs.Basics.{times-append, times-mem}
 use Rattle.exec_model.proofs.Mixer.{AreFull-mix, times-mix}
 use Rattle.exec_model.proofs.Ready.{start-ready}
-use Rattle.exec_model.proofs.Beyond.{cut, cut_at, complete_cut, ends_cut}
+use Rattle.exec_model.proofs.Beyond.{cut, complete_cut, ends_cut}
 use Rattle.key_mixer.specs.Lists.{set_at, lists_of as mixer_lists}
 use Rattle.exec_core.specs.declared.machine.Slot.{Slot}
 use Rattle.exec_core.specs.declared.machine.Machine.{Machine}
@@ -93,9 +93,9 @@ comes plan begins segs m m' s s' order groups schedule f mixed goes =
     let t0 = start plans G s in
     let ready = start-ready plans G s (AreFull-mix (locks_at begins segs) n) in
     let end : begun plan m' s' order [] t0 ≡ cut n (run plans G s schedule) =
-        goes t0 ∙ ap (λ (gs : List (List ℕ)). complete plans (turns plans (begun plan m s [] gs t0) schedule)) mixed
-        ∙ ap (λ (t : State). complete plans (turns plans t schedule)) (begun_is plan begins segs m s G f)
-        ∙ complete_cut plans s (concat G) n (single begins segs) (times-mix (locks_at begins segs) n) t0 schedule ready in
+    goes t0 ∙ ap (λ (gs : List (List ℕ)). complete plans (turns plans (begun plan m s [] gs t0) schedule)) mixed
+    ∙ ap (λ (t : State). complete plans (turns plans t schedule)) (begun_is plan begins segs m s G f)
+    ∙ complete_cut plans s (concat G) n (single begins segs) (times-mix (locks_at begins segs) n) t0 schedule ready in
     record {
       steps_are = ap (λ (t : State). t.steps) end;
       order_is = ap (λ (t : State). t.past) end;
@@ -117,10 +117,11 @@ all_small n (x ∷ xs) h (suc k) d lt = all_small n xs (λ j m. h j (or_right (x
 
 are_members : (n : ℕ) (gs : List (List ℕ)) → n ≤ 255 → ((j : ℕ) → 0 < times j (concat gs) → j < n) → AreMembers n gs
 are_members n [] few h = tt
-are_members n (g ∷ gs) few h =
-    (all_small n g (λ j m. in_first j m),
-      all_small 255 g (λ j m. let lt = in_first j m in omega arith),
-      are_members n gs few (λ j m. h j (let a = times-append j g (concat gs) in omega arith)))
+are_members n (g ∷ gs) few h = (
+  all_small n g (λ j m. in_first j m),
+  all_small 255 g (λ j m. let lt = in_first j m in omega arith),
+  are_members n gs few (λ j m. h j (let a = times-append j g (concat gs) in omega arith)),
+)
   where
     in_first : (j : ℕ) → mem j g ≡ true → j < n
     in_first j m = h j (let a = times-append j g (concat gs) in let b = times-mem j g m in omega arith)

@@ -1,12 +1,11 @@
 -- What a run of a job asks for.
-use Rattle.std.specs.Prelude.{◌≡◌, ℕ, ◌==◌, ◌+◌, ◌^◌, List, Option, Some, None, IsSome, if◌then◌else◌}
+use Rattle.std.specs.Prelude.{◌≡◌, ℕ, ◌==◌, ◌+◌, List, Option, Some, None, IsSome, if◌then◌else◌}
 use Rattle.svc_api.specs.Requests.{IsRequest}
 use Rattle.exec_model.specs.declared.job.Seg.{Seg}
 use Rattle.aeg_base.specs.Store.{Store}
 use Rattle.kv_store.specs.Stores.{unwound, StaysWithin}
 use Rattle.exec_model.specs.Jobs.{Beginnings, run_job}
 use Rattle.exec_model.specs.Outcomes.{outcome}
-use Rattle.exec_core.specs.declared.ran.Done.{Done}
 use Rattle.exec_core.specs.declared.ran.Ran.{Ran}
 
 -- its request is one, and has a segment at its stage
@@ -37,11 +36,3 @@ pub record Noted : Type 0 where
 -- a count that stands still at its type's end
 abbrev pub one_more : ℕ → ℕ
 one_more n = if n == 18446744073709551615 then n else n + 1
-
--- the same, of a run whose changes are those since a batch's start
-pub record IsDone (begins : Beginnings) (segs : List Seg) (first s t : Store) (schedule : List ℕ) (done : Done) : Type 0 where
-  pub steps : done.steps ≡ (run_job begins segs s schedule).steps
-  pub order : done.order ≡ (run_job begins segs s schedule).order
-  pub redo : done.redo ≡ (run_job begins segs s schedule).redo
-  pub store : t ≡ (run_job begins segs s schedule).store
-  pub outcome_is : done.outcome ≡ outcome first t (run_job begins segs s schedule).ends

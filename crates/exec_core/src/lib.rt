@@ -6,7 +6,6 @@ mod exec;
 mod gate;
 mod machine;
 mod ran;
-mod run;
 
 pub use batch::Batch;
 pub use exec::Exec;
@@ -14,4 +13,3 @@ pub use exec_model::{Job, Seg};
 pub use gate::{CrossGate, Gate, OpenGate};
 pub use machine::run_groups;
 pub use ran::Ran;
-pub use run::run_by;

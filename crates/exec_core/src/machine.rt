@@ -12,7 +12,6 @@ ghost use Rattle.exec_core.specs.States.{owner_of, slot_progress, progress_of, s
 
 use aeg_base::{Cells, Key, Memory, lock_of};
 use exec_model::Seg;
-use std::alloc::Global;
 use svc_api::{Action, Ending, Program, Service, run_segment};
 
 /// Cells that can go back to where they were when they were last marked.
@@ -144,32 +143,8 @@ pub struct Machine<P> {
     pub redo: u8,
 }
 
-impl<P: Program> Machine<P> {
-    /// Where all segments are about to begin.
-    pub fn new(alloc: Global, slots: Vec<Slot<P>>) -> Result<Self, Memory>
-        ensures slots { IfOk result (λ m. m.slots.items ≡ slots.items) }
-        ensures free { IfOk result (λ m. (l : ℕ) → owner_of m.owner.items l ≡ 0) }
-        ensures locks { IfOk result (λ m. length m.owner.items ≡ 256) }
-        ensures steps { IfOk result (λ m. m.steps.items ≡ []) }
-        ensures redo { IfOk result (λ m. m.redo ≡ 0) }
-    {
-        let owner = vec![in alloc; 0u8; 256]?;
-        Ok(Machine {
-            slots,
-            owner,
-            done: Vec::new(alloc),
-            steps: Vec::new(alloc),
-            redo: 0,
-        })
-    }
-}
-
 /// Segment `i` makes one step, if it runs. Where a lock that it wants is another's, nothing but its program is changed.
-fn step<P: Program, C: Logged>(
-    m: &mut Machine<P>,
-    cells: &mut C,
-    i: u8,
-) -> Result<Went, Memory>
+fn step<P: Program, C: Logged>(m: &mut Machine<P>, cells: &mut C, i: u8) -> Result<Went, Memory>
     requires slots { i < length m.old.slots.items }
     requires locks { length m.old.owner.items ≡ 256 }
     requires small { i < 255 }
@@ -259,7 +234,12 @@ fn widened(answer: Option<u8>) -> Option<u64>
 }
 
 /// Runs one segment of a job whole.
-fn run_one<S: Service, C: Cells>(svc: &S, segs: &[Seg], cells: &mut C, i: u8) -> Result<Ending, Memory>
+fn run_one<S: Service, C: Cells>(
+    svc: &S,
+    segs: &[Seg],
+    cells: &mut C,
+    i: u8,
+) -> Result<Ending, Memory>
     requires begins { All (BeginsWell (S.beginning svc.now)) segs.now }
     requires here { i < length segs.now }
     ensures ending { IfOk result (λ end. end ≡ ending_of (plan_at (S.beginning svc.now) segs.now i) (C.store cells.old)) }

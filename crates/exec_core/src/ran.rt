@@ -13,12 +13,3 @@ pub struct Ran {
     pub outcome: Outcome,
     pub undo: UndoList,
 }
-
-/// What a run made, before it is known how to undo it.
-#[derive(Debug, Drop)]
-pub struct Done {
-    pub steps: Seq<u8>,
-    pub order: Seq<u8>,
-    pub redo: u8,
-    pub outcome: Outcome,
-}

@@ -1,4 +1,4 @@
-use Rattle.std.proofs.Common.{◌≡◌, ◌<◌, ◌∙◌, ℕ, Option, sym, ap, subst, length, get_or, arith}
+use Rattle.std.proofs.Common.{◌≡◌, ◌∙◌, sym, ap, subst, get_or}
 use Rattle.svc_api.specs.Segment.{Begins}
 use Rattle.exec_model.specs.declared.job.Seg.{Seg}
 use Rattle.exec_model.specs.Jobs.{plan_in}

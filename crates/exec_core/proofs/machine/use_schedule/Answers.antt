@@ -1,4 +1,4 @@
-use Rattle.std.proofs.Common.{rules, ◌≡◌, ◌+◌, ◌<◌, ◌≤◌, ◌∙◌, sym, ap, length, get_or, drop, false, arith}
+use Rattle.std.proofs.Common.{rules, ◌≡◌, ◌+◌, ◌<◌, ◌∙◌, sym, ap, length, drop, false, arith}
 use Rattle.exec_model.specs.Machine.{turns}
 use Rattle.exec_model.specs.Jobs.{plan_at}
 use Rattle.exec_core.specs.States.{whole_of, going}
