@@ -1,18 +1,18 @@
 -- What the machine holds of numbers that no segment has doesn't matter.
-use Rattle.std.proofs.Common.{◌≡◌, ◌≢◌, ℕ, zero, suc, ◌+◌, ◌<◌, ◌≤◌, ◌==◌, Bool, true, false, ◌||◌, List, [], ◌∷◌, ◌++◌, length, map, Option, Some, None, unwrap_or, refl, sym, ap, subst, ◌∙◌, inl, inr, ◌⊎◌, cond, arith}
+use Rattle.std.proofs.Common.{◌≡◌, ◌≢◌, ℕ, zero, suc, ◌+◌, ◌<◌, ◌≤◌, ◌==◌, Bool, true, false, ◌||◌, List, [], ◌∷◌, ◌++◌, map, unwrap_or, refl, sym, ap, subst, ◌∙◌, inl, inr, ◌⊎◌, cond, arith}
 use Rattle.std.specs.Prelude.{nat_lt}
 use Rattle.std.proofs.lemmas.Bool.Decides.{nat_tests, eqb_tells}
 use Rattle.aeg_base.specs.Store.{Store, value_at, written}
 use Rattle.aeg_base.specs.Locks.{lock_number}
 use Rattle.aeg_base.specs.declared.names.Key.{Key}
 use Rattle.svc_api.specs.Plan.{Plan, Reads, Writes, Ends}
-use Rattle.exec_model.specs.Serial.{serial, serial_end}
-use Rattle.exec_model.specs.Machine.{State, Progress, Running, Ended, mem, update, any_running, is_running, end_of, or_ended, concat, next, settle, again, touch, leave, act, turn, turns, go_on, finish_one, finish, start, complete, run}
-use Rattle.exec_model.specs.Groups.{times, AreFull, IsOrder}
-use Rattle.exec_model.specs.Jobs.{said_nothing, below, Run, run_of}
+use Rattle.exec_model.specs.Serial.{serial_end}
+use Rattle.exec_model.specs.Machine.{State, Progress, Running, Ended, mem, update, any_running, is_running, end_of, or_ended, concat, next, settle, again, touch, leave, act, turn, turns, go_on, finish_one, finish, complete}
+use Rattle.exec_model.specs.Groups.{times, IsOrder}
+use Rattle.exec_model.specs.Jobs.{said_nothing, below, run_of}
 use Rattle.exec_model.proofs.Basics.{times-mem, times-append, serial_end-none, times-not_mem}
-use Rattle.exec_model.proofs.Ready.{Ready, start-ready, turn-ready, turns-ready}
-use Rattle.exec_model.proofs.Finish.{go_on-keeps, finish_one-keeps}
+use Rattle.exec_model.proofs.Ready.{Ready, turn-ready, turns-ready}
+use Rattle.exec_model.proofs.Finish.{finish_one-keeps}
 
 abbrev pub cut_at : ℕ → (ℕ → Progress) → ℕ → Progress
 cut_at n q = λ i. cond (nat_lt i n) (q i) (Ended said_nothing)
@@ -59,7 +59,7 @@ settle_cut n t h = ap (λ c. cond c (cut n t) (next (cut n t))) (running_cut n t
     at false = refl
 
 again_cut : (n : ℕ) (plan : ℕ → Plan) (t : State) (i : ℕ) → AreSmall n t.group → again plan (cut n t) i ≡ cut n (again plan t i)
-again_cut n plan t i h = λ k. record (again plan t i) { progress = λ j. at j (nat_lt j n) refl k; }
+again_cut n plan t i h = λ k. record (again plan t i) { progress = λ j. at j (nat_lt j n) refl k }
   where
     out : (j : ℕ) → nat_lt j n ≡ false → (b : Bool) → mem j t.group ≡ b → b ≡ false
     out j l true m = let e : true ≡ false = sym (h j m) ∙ l in cc
@@ -97,7 +97,7 @@ act_cut n plan t i (Running (Reads k f)) l h =
 act_cut n plan t i (Running (Writes k v p)) l h =
     ap settle (touch_cut n plan t i k (written t.store k v) p l h) ∙ settle_cut n (touch plan t i k (written t.store k v) p) (small_touched n plan t i k (written t.store k v) p h)
 act_cut n plan t i (Running (Ends e)) l h =
-    ap settle (ap (λ (q : ℕ → Progress). record (leave t i e) { progress = q; }) (update_cut n t.progress i (Ended e) l)) ∙ settle_cut n (leave t i e) h
+    ap settle (ap (λ (q : ℕ → Progress). record (leave t i e) { progress = q }) (update_cut n t.progress i (Ended e) l)) ∙ settle_cut n (leave t i e) h
 act_cut n plan t i (Ended e) l h = refl
 
 turn_cut : (n : ℕ) (plan : ℕ → Plan) (t : State) (i : ℕ) → AreSmall n t.group → turn plan (cut n t) i ≡ cut n (turn plan t i)
