@@ -1,5 +1,5 @@
 -- Puts that are taken back to a mark.
-use Rattle.std.proofs.Common.{◌≡◌, ℕ, zero, suc, ◌≤◌, List, [], ◌∷◌, ◌++◌, length, take, drop, refl, sym, ap, ◌∙◌, arith, take-append-drop}
+use Rattle.std.proofs.Common.{◌≡◌, ℕ, zero, suc, ◌+◌, ◌<◌, ◌≤◌, List, [], ◌∷◌, ◌++◌, length, get_or, take, drop, refl, sym, ap, ◌∙◌, arith, take-append-drop}
 use Rattle.aeg_base.specs.declared.names.Key.{Key}
 use Rattle.aeg_base.specs.Store.{Store, value_at, written}
 use Rattle.kv_store.specs.Stores.{unwound}
@@ -25,3 +25,10 @@ base_kept es es' mark s s' k v le log put =
 pub start_of_mark : (es es' : List (Key × ℕ)) (mark : ℕ) (s s' : Store) → es' ≡ take mark es → s' ≡ unwound (drop mark es) s → unwound es' s' ≡ unwound es s
 start_of_mark es es' mark s s' front back =
     ap (λ xs. unwound xs s') front ∙ ap (unwound (take mark es)) back ∙ sym (unwound-append (take mark es) (drop mark es) s) ∙ ap (λ xs. unwound xs s) (take-append-drop mark es)
+
+-- the element at a place, and those after it
+pub drop_here : (xs : List ℕ) (k : ℕ) → k < length xs → drop k xs ≡ get_or xs k 0 ∷ drop (k + 1) xs
+drop_here [] k lt = absurd (omega arith)
+drop_here (x ∷ xs) zero lt = refl
+drop_here (x ∷ xs) (suc k) lt =
+    drop_here xs k (omega arith) ∙ ap (λ n. get_or xs k 0 ∷ drop n (x ∷ xs)) (let e : suc (k + 1) ≡ suc k + 1 = omega arith in e)

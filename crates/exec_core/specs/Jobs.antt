@@ -1,5 +1,5 @@
 -- What a run of a job asks for.
-use Rattle.std.specs.Prelude.{◌≡◌, ℕ, ◌==◌, ◌+◌, ◌^◌, List, Option, Some, None, IsSome, if◌then◌else◌}
+use Rattle.std.specs.Prelude.{◌≡◌, ℕ, ◌==◌, ◌+◌, List, Option, Some, None, IsSome, if◌then◌else◌}
 use Rattle.svc_api.specs.Requests.{IsRequest}
 use Rattle.exec_model.specs.declared.job.Seg.{Seg}
 use Rattle.aeg_base.specs.Store.{Store}

@@ -10,6 +10,6 @@ mod ran;
 pub use batch::Batch;
 pub use exec::Exec;
 pub use exec_model::{Job, Seg};
-pub use gate::{Gate, OpenGate};
+pub use gate::{CrossGate, Gate, OpenGate};
 pub use machine::run_groups;
 pub use ran::Ran;

@@ -6,7 +6,7 @@ ghost use Rattle.svc_api.specs.Plan.{Plan, store_after, ending_of};
 ghost use Rattle.exec_model.specs.Serial.{serial, serial_end};
 ghost use Rattle.exec_model.specs.Machine.{State, update, mem, or_ended, is_running as runs, any_running as any_runs, turn as turn_of, turns as turns_of, finish as finish_of, complete as complete_of, concat, next};
 ghost use Rattle.exec_model.specs.Groups.{times, AreFull};
-ghost use Rattle.exec_model.specs.Jobs.{plan_at};
+ghost use Rattle.exec_model.specs.Jobs.{plan_at, locks_at};
 ghost use Rattle.exec_core.specs.Jobs.{BeginsWell};
 ghost use Rattle.exec_core.specs.States.{owner_of, slot_progress, progress_of, state_of, went_on, whole_of, going, begun, lists_of, AreMembers, slot_left, left_of, Goes};
 
@@ -134,12 +134,13 @@ fn go<P: Program, C: Logged>(
 }
 
 /// The segments of a group, each with its locks.
+#[derive(Drop)]
 pub struct Machine<P> {
-    slots: Vec<Slot<P>>,
-    owner: Vec<u8>,
-    done: Vec<u8>,
-    steps: Vec<u8>,
-    redo: u8,
+    pub slots: Vec<Slot<P>>,
+    pub owner: Vec<u8>,
+    pub done: Vec<u8>,
+    pub steps: Vec<u8>,
+    pub redo: u8,
 }
 
 /// Segment `i` makes one step, if it runs. Where a lock that it wants is another's, nothing but its program is changed.
@@ -210,10 +211,11 @@ fn any_running<P: Program>(slots: &[Slot<P>], group: &[u8]) -> bool
 }
 
 /// A segment's program, and the answer that it is told first.
-fn begin_one<S: Service>(svc: &S, segs: &[Seg], i: u8) -> Result<(S::Prog, Option<u64>), Memory>
+pub fn begin_one<S: Service>(svc: &S, segs: &[Seg], i: u8) -> Result<(S::Prog, Option<u64>), Memory>
     requires begins { All (BeginsWell (S.beginning svc.now)) segs.now }
     requires here { i < length segs.now }
-    ensures { IfOk result (λ p. S.Prog.plan p.0 p.1 ≡ plan_at (S.beginning svc.now) segs.now i) }
+    ensures plan { IfOk result (λ p. S.Prog.plan p.0 p.1 ≡ plan_at (S.beginning svc.now) segs.now i) }
+    ensures locks { IfOk result (λ p. S.Prog.locks p.0 ≡ locks_at (S.beginning svc.now) segs.now i) }
 {
     let seg = &segs[usize::from(i)];
     let Some(prog) = svc.begin(seg.who, &seg.body, seg.stage)? else {
@@ -365,6 +367,42 @@ fn turn<S: Service, C: Logged>(
     }
 }
 
+/// One entry of the schedule, which is passed over where its segment is not in the group. Answers whether the group is
+/// over with it.
+fn entry<S: Service, C: Logged>(
+    svc: &S,
+    segs: &[Seg],
+    group: &[u8],
+    m: &mut Machine<S::Prog>,
+    cells: &mut C,
+    i: u8,
+) -> Result<bool, Memory>
+    requires begins { All (BeginsWell (S.beginning svc.now)) segs.now }
+    requires here { All (λ j. j < length segs.now) group.now }
+    requires members { All (λ j. j < length m.old.slots.items) group.now }
+    requires numbers { All (λ j. j < 255) group.now }
+    requires once { (j : ℕ) → times j group.now ≤ 1 }
+    requires locks { length m.old.owner.items ≡ 256 }
+    requires redo { m.old.redo < 255 }
+    ensures turn { IfOk result (λ over. (t : State) → t.group ≡ group.now →
+        going S.Prog.plan m.new (C.store cells.new) (C.base cells.new) over t
+        ≡ turn_of (plan_at (S.beginning svc.now) segs.now) (whole_of S.Prog.plan m.old (C.store cells.old) (C.base cells.old) t) i) }
+    ensures over { IfOk result (λ over. over ≡ false → any_runs (progress_of S.Prog.plan m.old.slots.items) group.now ≡ true →
+        any_runs (progress_of S.Prog.plan m.new.slots.items) group.now ≡ true) }
+    ensures slots { OnOk result (length m.new.slots.items ≡ length m.old.slots.items) }
+    ensures locks { OnOk result (length m.new.owner.items ≡ 256) }
+    ensures redo { IfOk result (λ over. over ≡ false → m.new.redo ≡ m.old.redo) }
+    ensures outside { OnOk result ((j : ℕ) → mem j group.now ≡ false → progress_of S.Prog.plan m.new.slots.items j ≡ progress_of S.Prog.plan m.old.slots.items j) }
+    ensures redo_most { OnOk result (m.new.redo ≤ m.old.redo + 1) }
+    ensures start { C.start cells.new ≡ C.start cells.old }
+{
+    if contains(group, i) {
+        turn(svc, segs, group, m, cells, i)
+    } else {
+        Ok(false)
+    }
+}
+
 /// Uses up a schedule, as long as the group is not over: how many entries were used, and whether it is over.
 fn use_schedule<S: Service, C: Logged>(
     svc: &S,
@@ -398,10 +436,7 @@ fn use_schedule<S: Service, C: Logged>(
     let mut over = false;
     let mut used: usize = 0;
     'entries: while !over && used < schedule.len() {
-        let i = schedule[used];
-        if contains(group, i) {
-            over = turn(svc, segs, group, m, cells, i)?;
-        }
+        over = entry(svc, segs, group, m, cells, schedule[used])?;
         used += 1;
     }
     Ok((used, over))

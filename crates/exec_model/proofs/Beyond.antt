@@ -1,18 +1,18 @@
 -- What the machine holds of numbers that no segment has doesn't matter.
-use Rattle.std.proofs.Common.{◌≡◌, ◌≢◌, ℕ, zero, suc, ◌+◌, ◌<◌, ◌≤◌, ◌==◌, Bool, true, false, ◌||◌, List, [], ◌∷◌, ◌++◌, length, map, Option, Some, None, unwrap_or, refl, sym, ap, subst, ◌∙◌, inl, inr, ◌⊎◌, cond, arith}
+use Rattle.std.proofs.Common.{◌≡◌, ◌≢◌, ℕ, zero, suc, ◌+◌, ◌<◌, ◌≤◌, ◌==◌, Bool, true, false, ◌||◌, List, [], ◌∷◌, ◌++◌, map, unwrap_or, refl, sym, ap, subst, ◌∙◌, inl, inr, ◌⊎◌, cond, arith}
 use Rattle.std.specs.Prelude.{nat_lt}
 use Rattle.std.proofs.lemmas.Bool.Decides.{nat_tests, eqb_tells}
 use Rattle.aeg_base.specs.Store.{Store, value_at, written}
 use Rattle.aeg_base.specs.Locks.{lock_number}
 use Rattle.aeg_base.specs.declared.names.Key.{Key}
 use Rattle.svc_api.specs.Plan.{Plan, Reads, Writes, Ends}
-use Rattle.exec_model.specs.Serial.{serial, serial_end}
-use Rattle.exec_model.specs.Machine.{State, Progress, Running, Ended, mem, update, any_running, is_running, end_of, or_ended, concat, next, settle, again, touch, leave, act, turn, turns, go_on, finish_one, finish, start, complete, run}
-use Rattle.exec_model.specs.Groups.{times, AreFull, IsOrder}
-use Rattle.exec_model.specs.Jobs.{said_nothing, below, Run, run_of}
+use Rattle.exec_model.specs.Serial.{serial_end}
+use Rattle.exec_model.specs.Machine.{State, Progress, Running, Ended, mem, update, any_running, is_running, end_of, or_ended, concat, next, settle, again, touch, leave, act, turn, turns, go_on, finish_one, finish, complete}
+use Rattle.exec_model.specs.Groups.{times, IsOrder}
+use Rattle.exec_model.specs.Jobs.{said_nothing, below, run_of}
 use Rattle.exec_model.proofs.Basics.{times-mem, times-append, serial_end-none, times-not_mem}
-use Rattle.exec_model.proofs.Ready.{Ready, start-ready, turn-ready, turns-ready}
-use Rattle.exec_model.proofs.Finish.{go_on-keeps, finish_one-keeps}
+use Rattle.exec_model.proofs.Ready.{Ready, turn-ready, turns-ready}
+use Rattle.exec_model.proofs.Finish.{finish_one-keeps}
 
 abbrev pub cut_at : ℕ → (ℕ → Progress) → ℕ → Progress
 cut_at n q = λ i. cond (nat_lt i n) (q i) (Ended said_nothing)

@@ -1,13 +1,13 @@
 -- The keys that an undo list names whose values differ are all that differ from the list's start.
-use Rattle.std.proofs.Common.{◌≡◌, ◌≢◌, ℕ, zero, suc, ◌==◌, Bool, true, false, cond, not, ◌&&◌, T, List, [], ◌∷◌, Option, Some, None, is_some, unwrap_or, if◌then◌else◌, refl, sym, ap, subst, ◌∙◌, inl, inr, ◌⊎◌, arith}
-use Rattle.std.proofs.lemmas.Bool.Decides.{nat_tests, eqb_tells}
-use Rattle.std.specs.Ordering.{nat_cmp, eq_by_cmp, is_lt, is_eq}
+use Rattle.std.proofs.Common.{◌≡◌, ◌≢◌, ℕ, zero, suc, ◌==◌, Bool, true, false, cond, not, ◌&&◌, T, List, [], ◌∷◌, Option, Some, None, is_some, unwrap_or, if◌then◌else◌, refl, sym, ap, subst, ◌∙◌, arith}
+use Rattle.std.proofs.lemmas.Bool.Decides.{nat_tests}
+use Rattle.std.specs.Ordering.{nat_cmp, eq_by_cmp, is_lt}
 use Rattle.std.specs.Cmp.{unsigned_ties}
 use Rattle.std.specs.Cmp.Derive.{Tied, tie, then_tied, on_tied}
 use Rattle.std.specs.FinMap.Entries.{find, put, is_sorted, below_all, find-put, is_sorted-put, same_entries}
 use Rattle.aeg_base.specs.declared.names.Key.{Key}
 use Rattle.aeg_base.specs.Numbers.{no_zeros}
-use Rattle.aeg_base.specs.Store.{Store, key_cmp, same_key, value_at, written, empty, pairs_of}
+use Rattle.aeg_base.specs.Store.{Store, key_cmp, same_key, value_at, empty, pairs_of}
 use Rattle.aeg_base.proofs.NumberLaws.{number_at-entries}
 use Rattle.aeg_base.proofs.StoreLaws.{key_cmp_total, key_cmp-IsAntisymmetric, value_at-written, value_at-empty}
 use Rattle.kv_store.specs.Stores.{unwound, touched}

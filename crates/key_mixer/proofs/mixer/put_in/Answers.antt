@@ -1,5 +1,4 @@
-use Rattle.std.proofs.Common.{rules, ◌≡◌, ℕ, ◌+◌, ◌<◌, ◌≤◌, ◌∙◌, sym, ap, subst, length, get_or, set, [], ◌∷◌, ◌++◌, arith}
-use Rattle.exec_model.specs.Groups.{place}
+use Rattle.std.proofs.Common.{rules, ◌≡◌, ◌<◌, ◌≤◌, ◌∙◌, sym, ap, subst, length, get_or, set, [], ◌∷◌, ◌++◌, arith}
 use Rattle.key_mixer.specs.Lists.{lists_of, set_at, FirstFit}
 use Rattle.key_mixer.proofs.Fits.{place_first, place_last, get-lists, length-lists, lists-set, lists-append}
 use Rattle.key_mixer.proofs.mixer.put_in.Goals as goal

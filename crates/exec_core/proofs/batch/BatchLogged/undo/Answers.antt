@@ -1,4 +1,4 @@
-use Rattle.std.proofs.Common.{◌≡◌, ◌∙◌, ap}
+use Rattle.std.proofs.Common.{◌∙◌, ap}
 use Rattle.exec_core.specs.Batches.{BatchView}
 use Rattle.exec_core.proofs.Marks.{start_of_mark}
 use Rattle.exec_core.proofs.batch.BatchLogged.undo.Goals as goal

@@ -1,4 +1,4 @@
-use Rattle.std.proofs.Common.{◌≡◌, ◌≤◌, ◌∙◌, sym, ap, subst, length, drop}
+use Rattle.std.proofs.Common.{◌≤◌, ◌∙◌, sym, ap, subst, length, drop}
 use Rattle.kv_store.specs.Stores.{unwound}
 use Rattle.exec_core.specs.Batches.{BatchView}
 use Rattle.exec_core.proofs.Marks.{base_kept}
