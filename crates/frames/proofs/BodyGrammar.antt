@@ -17,7 +17,7 @@ use Rattle.log_values.specs.Outcomes.{commit, commit_at, IsCommit}
 use Rattle.log_values.proofs.CommitGrammar.{commit_grammar}
 use Rattle.log_values.proofs.FieldGrammar.{backend_grammar, client_grammar, seq_grammar, call_number_grammar, floor_grammar}
 use Rattle.log_values.proofs.Leads.{chosen, none_is_some}
-use Rattle.log_values.proofs.Tests.{lt_true, lt_is}
+use Rattle.log_values.proofs.BoolTests.{lt_true, lt_is}
 use Rattle.frames.specs.declared.message.Msg.{Msg}
 use Rattle.frames.specs.declared.message.Msg.TheVariants as msgs
 use Rattle.frames.specs.LogMessages.{log_kind, log_body, log_body_at, FitsLog}

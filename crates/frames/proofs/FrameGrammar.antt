@@ -18,7 +18,7 @@ use Rattle.log_values.specs.declared.format.TheConstants.{FRAME_VERSION, LAST_KI
 use Rattle.log_values.specs.Fields.{tier_number}
 use Rattle.log_values.specs.Reading.{whole}
 use Rattle.log_values.proofs.Leads.{chosen, none_is_some}
-use Rattle.log_values.proofs.Tests.{within, is_within, le_true, lt_true, lt_is}
+use Rattle.log_values.proofs.BoolTests.{within, is_within, le_true, lt_true, lt_is}
 use Rattle.log_model.specs.declared.message.PaxMsg.{PaxMsg}
 use Rattle.log_model.specs.declared.message.PaxMsg.TheVariants.{Prepare, Promise, Accept, Accepted, Ask, Learn, Behind}
 use Rattle.log_values.specs.declared.any_value.AnyValue.{AnyValue}

@@ -17,7 +17,7 @@ use Rattle.log_values.specs.Fields.{ballot, ballot_at, position_at, FitsBallot}
 use Rattle.log_values.specs.Values.{any_value, any_value_at, FitsAny}
 use Rattle.log_values.proofs.FieldGrammar.{ballot_grammar, position_grammar}
 use Rattle.log_values.proofs.Leads.{chosen, none_is_some}
-use Rattle.log_values.proofs.Tests.{le_true, le_is, lt_true, lt_is}
+use Rattle.log_values.proofs.BoolTests.{le_true, le_is, lt_true, lt_is}
 use Rattle.log_values.proofs.ValueGrammar.{any_grammar}
 use Rattle.frames.specs.LogMessages.{is_carried, carried_at, IsCarried, open_at, report, FitsReport, report_at, vote_at, log_kind, log_body, log_body_at, FitsLog}
 use Rattle.frames.proofs.KindCase.{kind_case}

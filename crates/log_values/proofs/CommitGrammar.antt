@@ -9,7 +9,7 @@ use Rattle.aeg_wire.proofs.Grammar.{IsBytes, Takes, Takes-then, IsGrammar, some_
 use Rattle.aeg_wire.proofs.Numbers.{one_byte, bytes_take, bytes_again}
 use Rattle.log_values.specs.Outcomes.{outcome, outcome_at, token_at, is_order, order_text, order_at, commit, commit_at, FitsOutcome, IsCommit}
 use Rattle.log_values.proofs.OutcomeGrammar.{outcome_grammar}
-use Rattle.log_values.proofs.Tests.{and_true, and_is}
+use Rattle.log_values.proofs.BoolTests.{and_true, and_is}
 
 eq_is : (a b : ℕ) → a ≡ b → eqb a b ≡ true
 eq_is a b e = grind (arith)

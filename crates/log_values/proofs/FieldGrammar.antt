@@ -15,7 +15,7 @@ use Rattle.aeg_wire.proofs.Numbers.{one_byte, two_bytes, four_bytes}
 use Rattle.log_values.specs.declared.format.TheConstants.{LAST_INDEX, LAST_STAGE}
 use Rattle.log_values.specs.Fields.{tier_number, backend_at, client_at, seq_at, call_number_at, floor_at, position_at, stage_at, ballot, ballot_at, FitsBallot, IsClient, IsSeq, IsCallNumber, IsFloor}
 use Rattle.log_values.proofs.Leads.{chosen, none_is_some}
-use Rattle.log_values.proofs.Tests.{le_true, le_is, lt_true, lt_is, within, is_within}
+use Rattle.log_values.proofs.BoolTests.{le_true, le_is, lt_true, lt_is, within, is_within}
 
 pub client_grammar : IsGrammar IsClient (λ n. n ∷ []) client_at
 unfolding client_at

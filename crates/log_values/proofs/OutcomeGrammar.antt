@@ -21,7 +21,7 @@ use Rattle.log_values.specs.Outcomes.{pair, pairs_at, rises, ending, ending_at, 
 use Rattle.log_values.proofs.FieldGrammar.{backend_grammar, stage_grammar}
 use Rattle.log_values.proofs.Leads.{chosen, none_is_some, case_of}
 use Rattle.log_values.proofs.Pairs.{pairs_take, pairs_again}
-use Rattle.log_values.proofs.Tests.{le_true, le_is}
+use Rattle.log_values.proofs.BoolTests.{le_true, le_is}
 
 -- ---- ends
 

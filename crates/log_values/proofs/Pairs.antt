@@ -14,7 +14,7 @@ use Rattle.aeg_wire.proofs.Numbers.{one_byte, four_bytes, eight_bytes}
 use Rattle.aeg_wire.proofs.Lists.{with_front}
 use Rattle.log_values.specs.Outcomes.{pair, pair_at, pairs_at, is_after, rises, FitsPair}
 use Rattle.log_values.specs.Reading.{left_after}
-use Rattle.log_values.proofs.Tests.{lt_true, lt_is, and_true, and_is}
+use Rattle.log_values.proofs.BoolTests.{lt_true, lt_is, and_true, and_is}
 
 pub pair_grammar : (last : Option Key) → IsGrammar (λ p. FitsPair p × (is_after last p.0 ≡ true)) pair (pair_at last)
 unfolding pair_at

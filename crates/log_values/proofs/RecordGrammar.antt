@@ -22,7 +22,7 @@ use Rattle.log_values.specs.Values.{any_value, any_value_at, FitsAny}
 use Rattle.log_values.specs.Records.{fact, fact_at, FitsFact, record_text, facts_at, record_at, FitsRecord}
 use Rattle.log_values.proofs.FieldGrammar.{backend_grammar, call_number_grammar, position_grammar, ballot_grammar}
 use Rattle.log_values.proofs.Leads.{chosen, none_is_some, case_of}
-use Rattle.log_values.proofs.Tests.{lt_true, lt_is}
+use Rattle.log_values.proofs.BoolTests.{lt_true, lt_is}
 use Rattle.log_values.proofs.ValueGrammar.{any_grammar}
 use Rattle.log_values.proofs.Wholes.{IsEndGrammar}
 use Rattle.aeg_wire.proofs.Lists.{with_front}
