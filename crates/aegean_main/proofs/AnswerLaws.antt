@@ -1,16 +1,15 @@
 -- The answer to an input, case by case.
-use Rattle.std.proofs.Common.{◌≡◌, ℕ, ◌+◌, ◌<◌, ◌≤◌, List, [], ◌∷◌, ◌++◌, Option, None, Some, Result, Ok, Err, refl, sym, ap, ◌∙◌, length, nat_lt, Bool, true, false, cond, arith}
-use Rattle.std.proofs.lemmas.Grind.{common_steps}
+use Rattle.std.proofs.Common.{◌≡◌, ℕ, ◌+◌, ◌<◌, ◌≤◌, List, [], ◌∷◌, Ok, refl, sym, ap, ◌∙◌, length, nat_lt, true, false, cond, arith}
 use Rattle.aeg_base.specs.declared.limits.TheConstants.{INPUT_BYTES, INPUT_LINES}
 use Rattle.server_model.specs.Backends.{Amounts}
 use Rattle.server_model.specs.Server.{Server, Step, Refused, Goes, opening_server, step}
-use Rattle.server_model.specs.Single.{booking_meaning, Line, Skips, Bad, Steps, line_of, lines_of, Judged, Reads, Fails, judge, judged, judgement, Outcome, goes_on_with, then_told, told_line, run_from, run_of, steps_line}
+use Rattle.server_model.specs.Single.{booking_meaning, Line, Skips, Bad, Steps, line_of, lines_of, Judged, Reads, Fails, judge, judged, judgement, Outcome, goes_on_with, then_told, told_line, run_from}
 use Rattle.server_model.specs.declared.history.Numbered.{Numbered}
-use Rattle.aegean_main.specs.Answer.{Answer, refused_with, ended_with, answer_run, answer_judged, answer_of}
+use Rattle.aegean_main.specs.Answer.{refused_with, answer_run, answer_judged, answer_of}
 use Rattle.aegean_main.specs.Counting.{steps_in}
 use Rattle.aegean_main.specs.Running.{line_run, run_lines}
 use Rattle.aegean_main.specs.declared.status.LimitKind.TheVariants as limits
-use Rattle.aegean_main.specs.declared.status.Status.TheVariants.{Done, Script, Limit, Illegal}
+use Rattle.aegean_main.specs.declared.status.Status.TheVariants.{Script, Limit}
 
 pub nat_lt-above : (a b : ℕ) → a < b → nat_lt a b ≡ true
 nat_lt-above a b h = grind arith

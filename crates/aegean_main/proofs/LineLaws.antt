@@ -1,5 +1,5 @@
 -- The first line of a text, and the lines behind it.
-use Rattle.std.proofs.Common.{◌≡◌, ℕ, List, [], ◌∷◌, length, Option, None, Some, refl, ap, sym, ◌∙◌, cond, MatchOption, IfNone}
+use Rattle.std.proofs.Common.{◌≡◌, ℕ, List, [], ◌∷◌, length, Option, None, Some, ap, sym, ◌∙◌, cond, MatchOption, IfNone}
 use Rattle.std.specs.Borrow.{Bor}
 use Rattle.server_model.specs.Words.{parts_of}
 use Rattle.server_model.specs.Single.{lines_of, ended_lines}

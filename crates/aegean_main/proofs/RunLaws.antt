@@ -1,10 +1,10 @@
 -- What a sink took, and what is left to write.
-use Rattle.std.proofs.Common.{◌≡◌, ℕ, ◌+◌, ◌≤◌, List, [], ◌∷◌, ◌++◌, Option, None, Some, Result, Ok, Err, refl, sym, ap, subst, ◌∙◌, append_assoc, append-nil, length, arith}
+use Rattle.std.proofs.Common.{◌≡◌, ℕ, ◌+◌, ◌≤◌, List, [], ◌∷◌, ◌++◌, Option, None, Some, Result, Ok, Err, refl, sym, ap, subst, ◌∙◌, append_assoc, append-nil, arith}
 use Rattle.aeg_io.specs.Bytes.{Gains, GainsFront}
 use Rattle.aeg_io.specs.Causes.{Rose}
 use Rattle.aeg_io.proofs.Gained.{Gains-nil, Gains-append, GainsFront-first, GainsFront-behind, GainsFront-whole}
 use Rattle.server_model.specs.Single.{Outcome, line_of, steps_line}
-use Rattle.aegean_main.specs.Answer.{answer_run, ended_with}
+use Rattle.aegean_main.specs.Answer.{ended_with}
 use Rattle.aegean_main.specs.Running.{Owing, Runs, RunsLine, run_lines}
 use Rattle.server_model.specs.Backends.{Amounts}
 use Rattle.server_model.specs.Server.{Server}

@@ -1,18 +1,18 @@
 -- What the statuses say, case by case.
-use Rattle.std.proofs.Common.{◌≡◌, ℕ, ◌+◌, ◌<◌, ◌≤◌, ◌⊎◌, inl, inr, List, [], ◌∷◌, ◌++◌, Option, None, Some, IfSome, Result, Ok, Err, refl, sym, ap, subst, ◌∙◌, length, length-append, Bool, true, false, cond, nat_lt, get_or, map, IsTrue, arith}
+use Rattle.std.proofs.Common.{◌≡◌, ℕ, ◌<◌, ◌≤◌, ◌⊎◌, inl, inr, List, [], ◌∷◌, ◌++◌, Option, None, Some, IfSome, Ok, Err, refl, sym, ap, subst, ◌∙◌, length, length-append, Bool, true, false, cond, nat_lt, get_or, map, IsTrue, arith}
 use Rattle.std.specs.Str.{bytes_eq}
 use Rattle.std.proofs.lemmas.Slice.Eq.{bytes_eq-Decides}
 use Rattle.std.specs.Io.KnownBytes.{Consumes}
 use Rattle.aeg_base.specs.declared.limits.TheConstants.{INPUT_BYTES, INPUT_LINES}
-use Rattle.aeg_io.specs.Bytes.{Gains, GainsFront}
-use Rattle.aeg_io.proofs.Gained.{Gains-nil, GainsFront-none}
+use Rattle.aeg_io.specs.Bytes.{Gains}
+use Rattle.aeg_io.proofs.Gained.{Gains-nil}
 use Rattle.server_model.specs.Backends.{Amounts}
 use Rattle.server_model.specs.Server.{Server, Step, Refused, Goes, opening_server, step}
 use Rattle.server_model.specs.History.{IsMade, LegalFrom, Legal, server_or, told_by, told_from, told}
 use Rattle.server_model.specs.Single.{booking_meaning, lines_of, Judged, Reads, Fails, judgement, history_of, Outcome, goes_on_with, run_from, run_of, told_line, steps_line}
 use Rattle.server_model.specs.declared.history.Numbered.{Numbered}
 use Rattle.server_model.specs.declared.history.Told.{Told}
-use Rattle.aegean_main.specs.Answer.{Answer, refused_with, ended_with, answer_run, answer_judged, answer_of}
+use Rattle.aegean_main.specs.Answer.{Answer, refused_with, ended_with, answer_judged, answer_of}
 use Rattle.aegean_main.specs.Running.{Runs}
 use Rattle.aegean_main.specs.Top.{Follows, TellsHistory, told_lines}
 use Rattle.aegean_main.proofs.AnswerLaws.{answer_of-bytes}

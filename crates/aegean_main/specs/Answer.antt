@@ -1,9 +1,7 @@
 -- What `single` answers to an input, and the text that goes out for it.
-use Rattle.std.specs.Prelude.{ℕ, ◌+◌, ◌++◌, List, [], ◌∷◌, length, nat_lt, Option, None, Some, if◌then◌else◌}
+use Rattle.std.specs.Prelude.{ℕ, ◌++◌, List, [], length, nat_lt, Option, None, Some, if◌then◌else◌}
 use Rattle.aeg_base.specs.declared.limits.TheConstants.{INPUT_BYTES, INPUT_LINES}
-use Rattle.server_model.specs.Backends.{Amounts}
-use Rattle.server_model.specs.Server.{Server, step}
-use Rattle.server_model.specs.Single.{booking_meaning, Line, Skips, Bad, Steps, line_of, lines_of, Judged, Reads, Fails, judgement, Outcome, goes_on_with, run_of, steps_line}
+use Rattle.server_model.specs.Single.{lines_of, Judged, Reads, Fails, judgement, Outcome, run_of, steps_line}
 use Rattle.aegean_main.specs.declared.status.LimitKind.TheVariants as limits
 use Rattle.aegean_main.specs.declared.status.Status.{Status}
 use Rattle.aegean_main.specs.declared.status.Status.TheVariants.{Done, Script, Limit, Illegal}

@@ -1,4 +1,4 @@
-use Rattle.std.proofs.Common.{◌≡◌, ◌∙◌, sym, length, ◌+◌, ap, arith}
+use Rattle.std.proofs.Common.{◌≡◌, ◌∙◌, sym, length, ap, arith}
 use Rattle.aeg_io.proofs.Gained.{GainsFront-first}
 use Rattle.aegean_main.specs.Rests.{lines_left}
 use Rattle.aegean_main.proofs.RunLaws.{Owing-sent, Owing-front, Owing-front-same, Owing-last-same, Runs-stopped, stopped-refused, Owing-stop, GainsFront-ended, Runs-last, went_on, went_on-refused, stopped, all_run, all_run-refused}

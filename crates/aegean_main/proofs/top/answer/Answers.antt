@@ -1,4 +1,4 @@
-use Rattle.std.proofs.Common.{◌≡◌, ◌≤◌, length, rules}
+use Rattle.std.proofs.Common.{◌≤◌, length, rules}
 use Rattle.aeg_base.specs.declared.limits.TheConstants.{INPUT_LINES}
 use Rattle.server_model.specs.Single.{lines_of}
 use Rattle.aegean_main.proofs.AnswerLaws.{answer_of-steps}
