@@ -1,0 +1,5 @@
+pub mod Log
+pub mod Rows
+pub mod Recover
+pub mod World
+pub mod Chosen
