@@ -4,9 +4,9 @@ use Rattle.std.specs.Prelude.{slice_get, ◌⊎◌, ◌==◌, slice_index_or}
 use Rattle.std.proofs.lemmas.Bool.{cond_both, eq-eqb, ne_eqb, cond-true, cond-false, cases_eq}
 use Rattle.aeg_base.specs.declared.names.Tier.{Tier}
 use Rattle.aeg_base.specs.declared.names.Tier.TheVariants.{Inv, Pay}
-use Rattle.log_model.specs.World.{put}
-use Rattle.round_model.specs.Tables.{Parked, Want, bump, kept_after, kept_by, last_after, next_after, numbers, parked_of, parks}
-use Rattle.run_model.specs.World.{put_tier}
+use Rattle.round_model.specs.Lists.{at, put_at, OfTiers, of_tier}
+use Rattle.tier_laws.proofs.Lists.{at_here, at_there, tier_same, tier_eq, tier_cases, of_here, of_there}
+use Rattle.round_model.specs.Tables.{Parked, Want, bump, kept_after, kept_by, kept_of, last_of, last_after, next_after, numbers, parked_of, parks}
 use Rattle.server_model.specs.Server.{same_tier}
 use Rattle.svc_api.specs.declared.action.Ending.{Ending}
 use Rattle.svc_api.specs.declared.action.Ending.TheVariants.{Call, Reply}
@@ -16,11 +16,11 @@ pub record Act : Type 0 where
   pub ending : Ending
   pub num : ℕ
 
-abbrev pub acts : (Tier → ℕ) → List Want → List Ending → List Act
+abbrev pub acts : OfTiers ℕ → List Want → List Ending → List Act
 acts next [] es = []
 acts next (w ∷ ws) [] = []
 acts next (w ∷ ws) (Reply text ∷ es) = record { want = w; ending = Reply text; num = 0 } ∷ acts next ws es
-acts next (w ∷ ws) (Call t stage text ∷ es) = record { want = w; ending = Call t stage text; num = next t } ∷ acts (bump next t) ws es
+acts next (w ∷ ws) (Call t stage text ∷ es) = record { want = w; ending = Call t stage text; num = of_tier next t } ∷ acts (bump next t) ws es
 
 -- the act is a call of t with the number n
 abbrev pub NumberedAs : Ending → ℕ → Tier → ℕ → Type 0
@@ -30,76 +30,52 @@ NumberedAs (Call v stage text) k t n = (v ≡ t) × (k ≡ n)
 abbrev pub Numbered : Act → Tier → ℕ → Type 0
 Numbered a t n = NumberedAs a.ending a.num t n
 
-pub put_here : {A : Type 0} (f : ℕ → A) (x : ℕ) (a : A) → put f x a x ≡ a
-put_here f x a = cond-true (x == x) a (f x) (eq-eqb x x refl)
-
-pub put_there : {A : Type 0} (f : ℕ → A) (x : ℕ) (a : A) (y : ℕ) → (y ≡ x → ⊥) → put f x a y ≡ f y
-put_there f x a y e = cond-false (y == x) a (f y) (ne_eqb y x e)
-
-pub tier_same : (t : Tier) → same_tier t t ≡ true
-tier_same Inv = refl
-tier_same Pay = refl
-
-pub tier_eq : (t v : Tier) → same_tier t v ≡ true → t ≡ v
-tier_eq Inv Inv e = refl
-tier_eq Inv Pay e = absurd (cc)
-tier_eq Pay Inv e = absurd (cc)
-tier_eq Pay Pay e = refl
-
-pub tier_cases : (t v : Tier) → (t ≡ v) ⊎ (same_tier t v ≡ false)
-tier_cases Inv Inv = inl refl
-tier_cases Inv Pay = inr refl
-tier_cases Pay Inv = inr refl
-tier_cases Pay Pay = inl refl
-
-pub tier_here : {A : Type 0} (f : Tier → A) (t : Tier) (a : A) → put_tier f t a t ≡ a
-tier_here f t a = cond-true (same_tier t t) a (f t) (tier_same t)
-
-pub tier_there : {A : Type 0} (f : Tier → A) (t : Tier) (a : A) (v : Tier) → same_tier v t ≡ false → put_tier f t a v ≡ f v
-tier_there f t a v e = cond-false (same_tier v t) a (f v) e
-
 -- bump only raises
-pub bump-raises : (next : Tier → ℕ) (t v : Tier) → next v ≤ bump next t v
-bump-raises next t v = cond_both (same_tier v t) (suc (next t)) (next v) (λ z. next v ≤ z) (λ e. let s : v ≡ t = tier_eq v t e in let q : next v ≡ next t = ap next s in omega arith) (λ e. omega arith)
+pub bump-raises : (next : OfTiers ℕ) (t v : Tier) → of_tier next v ≤ of_tier (bump next t) v
+bump-raises next t v = go (tier_cases v t)
+  where
+    go : (v ≡ t) ⊎ (same_tier v t ≡ false) → of_tier next v ≤ of_tier (bump next t) v
+    go (inl e) = omega (arith, ap (of_tier (bump next t)) e, ap (of_tier next) e, of_here next t (suc (of_tier next t)))
+    go (inr e) = omega (arith, of_there next t (suc (of_tier next t)) v e)
 
 -- NUMBERS
 
-pub num-low : (next : Tier → ℕ) (ws : List Want) (es : List Ending) (i : ℕ) (a : Act) (t : Tier) (n : ℕ) → slice_get (acts next ws es) i ≡ Some a → Numbered a t n → next t ≤ n
+pub num-low : (next : OfTiers ℕ) (ws : List Want) (es : List Ending) (i : ℕ) (a : Act) (t : Tier) (n : ℕ) → slice_get (acts next ws es) i ≡ Some a → Numbered a t n → of_tier next t ≤ n
 num-low next [] es i a t n e k = absurd (cc)
 num-low next (w ∷ ws) [] i a t n e k = absurd (cc)
 num-low next (w ∷ ws) (Reply text ∷ es) zero a t n e k = absurd (let s : record { want = w; ending = Reply text; num = 0 } ≡ a = cc in subst (λ b. Numbered b t n) (sym s) k)
 num-low next (w ∷ ws) (Reply text ∷ es) (suc i) a t n e k = num-low next ws es i a t n e k
 num-low next (w ∷ ws) (Call v stage text ∷ es) zero a t n e k =
-    let s : record { want = w; ending = Call v stage text; num = next v } ≡ a = cc in
-    let q : (v ≡ t) × (next v ≡ n) = subst (λ b. Numbered b t n) (sym s) k in
-    let r : next v ≡ next t = ap next q.0 in omega (arith, q.1)
+    let s : record { want = w; ending = Call v stage text; num = of_tier next v } ≡ a = cc in
+    let q : (v ≡ t) × (of_tier next v ≡ n) = subst (λ b. Numbered b t n) (sym s) k in
+    let r : of_tier next v ≡ of_tier next t = ap (of_tier next) q.0 in omega (arith, q.1)
 num-low next (w ∷ ws) (Call v stage text ∷ es) (suc i) a t n e k = omega (arith, num-low (bump next v) ws es i a t n e k, bump-raises next v t)
 
-pub num-high : (next : Tier → ℕ) (ws : List Want) (es : List Ending) (i : ℕ) (a : Act) (t : Tier) (n : ℕ) → slice_get (acts next ws es) i ≡ Some a → Numbered a t n → n < next_after next es t
+pub num-high : (next : OfTiers ℕ) (ws : List Want) (es : List Ending) (i : ℕ) (a : Act) (t : Tier) (n : ℕ) → slice_get (acts next ws es) i ≡ Some a → Numbered a t n → n < of_tier (next_after next es) t
 num-high next [] es i a t n e k = absurd (cc)
 num-high next (w ∷ ws) [] i a t n e k = absurd (cc)
 num-high next (w ∷ ws) (Reply text ∷ es) zero a t n e k = absurd (let s : record { want = w; ending = Reply text; num = 0 } ≡ a = cc in subst (λ b. Numbered b t n) (sym s) k)
 num-high next (w ∷ ws) (Reply text ∷ es) (suc i) a t n e k = num-high next ws es i a t n e k
 num-high next (w ∷ ws) (Call v stage text ∷ es) zero a t n e k =
-    let s : record { want = w; ending = Call v stage text; num = next v } ≡ a = cc in
-    let q : (v ≡ t) × (next v ≡ n) = subst (λ b. Numbered b t n) (sym s) k in
-    let r : next v ≡ next t = ap next q.0 in
-    let b : bump next v t ≡ suc (next v) = cond-true (same_tier t v) (suc (next v)) (next t) (subst (λ z. same_tier z v ≡ true) q.0 (tier_same v)) in
+    let s : record { want = w; ending = Call v stage text; num = of_tier next v } ≡ a = cc in
+    let q : (v ≡ t) × (of_tier next v ≡ n) = subst (λ b. Numbered b t n) (sym s) k in
+    let r : of_tier next v ≡ of_tier next t = ap (of_tier next) q.0 in
+    let b : of_tier (bump next v) t ≡ suc (of_tier next v) = subst (λ z. of_tier (bump next v) z ≡ suc (of_tier next v)) q.0 (of_here next v (suc (of_tier next v))) in
     omega (arith, q.1, r, b, next-raises (bump next v) es t)
   where
-    next-raises : (next : Tier → ℕ) (es : List Ending) (t : Tier) → next t ≤ next_after next es t
+    next-raises : (next : OfTiers ℕ) (es : List Ending) (t : Tier) → of_tier next t ≤ of_tier (next_after next es) t
     next-raises next [] t = omega arith
     next-raises next (Reply text ∷ es) t = next-raises next es t
     next-raises next (Call v stage text ∷ es) t = omega (arith, next-raises (bump next v) es t, bump-raises next v t)
 num-high next (w ∷ ws) (Call v stage text ∷ es) (suc i) a t n e k = num-high (bump next v) ws es i a t n e k
 
-pub next-raises : (next : Tier → ℕ) (es : List Ending) (t : Tier) → next t ≤ next_after next es t
+pub next-raises : (next : OfTiers ℕ) (es : List Ending) (t : Tier) → of_tier next t ≤ of_tier (next_after next es) t
 next-raises next [] t = omega arith
 next-raises next (Reply text ∷ es) t = next-raises next es t
 next-raises next (Call v stage text ∷ es) t = omega (arith, next-raises (bump next v) es t, bump-raises next v t)
 
 -- each number of a tier is given once
-pub num-once : (next : Tier → ℕ) (ws : List Want) (es : List Ending) (i j : ℕ) (a b : Act) (t : Tier) (n : ℕ) → slice_get (acts next ws es) i ≡ Some a → slice_get (acts next ws es) j ≡ Some b → Numbered a t n → Numbered b t n → i ≡ j
+pub num-once : (next : OfTiers ℕ) (ws : List Want) (es : List Ending) (i j : ℕ) (a b : Act) (t : Tier) (n : ℕ) → slice_get (acts next ws es) i ≡ Some a → slice_get (acts next ws es) j ≡ Some b → Numbered a t n → Numbered b t n → i ≡ j
 num-once next [] es i j a b t n e f k l = absurd (cc)
 num-once next (w ∷ ws) [] i j a b t n e f k l = absurd (cc)
 num-once next (w ∷ ws) (Reply text ∷ es) zero j a b t n e f k l = absurd (let s : record { want = w; ending = Reply text; num = 0 } ≡ a = cc in subst (λ b. Numbered b t n) (sym s) k)
@@ -107,34 +83,34 @@ num-once next (w ∷ ws) (Reply text ∷ es) (suc i) zero a b t n e f k l = absu
 num-once next (w ∷ ws) (Reply text ∷ es) (suc i) (suc j) a b t n e f k l = ap suc (num-once next ws es i j a b t n e f k l)
 num-once next (w ∷ ws) (Call v stage text ∷ es) zero zero a b t n e f k l = refl
 num-once next (w ∷ ws) (Call v stage text ∷ es) zero (suc j) a b t n e f k l =
-    let s : record { want = w; ending = Call v stage text; num = next v } ≡ a = cc in
-    let q : (v ≡ t) × (next v ≡ n) = subst (λ b. Numbered b t n) (sym s) k in
-    let c : bump next v t ≡ suc (next v) = cond-true (same_tier t v) (suc (next v)) (next t) (subst (λ z. same_tier z v ≡ true) q.0 (tier_same v)) in
+    let s : record { want = w; ending = Call v stage text; num = of_tier next v } ≡ a = cc in
+    let q : (v ≡ t) × (of_tier next v ≡ n) = subst (λ b. Numbered b t n) (sym s) k in
+    let c : of_tier (bump next v) t ≡ suc (of_tier next v) = subst (λ z. of_tier (bump next v) z ≡ suc (of_tier next v)) q.0 (of_here next v (suc (of_tier next v))) in
     absurd (omega (arith, q.1, c, num-low (bump next v) ws es j b t n f l))
 num-once next (w ∷ ws) (Call v stage text ∷ es) (suc i) zero a b t n e f k l =
-    let s : record { want = w; ending = Call v stage text; num = next v } ≡ b = cc in
-    let q : (v ≡ t) × (next v ≡ n) = subst (λ b. Numbered b t n) (sym s) l in
-    let c : bump next v t ≡ suc (next v) = cond-true (same_tier t v) (suc (next v)) (next t) (subst (λ z. same_tier z v ≡ true) q.0 (tier_same v)) in
+    let s : record { want = w; ending = Call v stage text; num = of_tier next v } ≡ b = cc in
+    let q : (v ≡ t) × (of_tier next v ≡ n) = subst (λ b. Numbered b t n) (sym s) l in
+    let c : of_tier (bump next v) t ≡ suc (of_tier next v) = subst (λ z. of_tier (bump next v) z ≡ suc (of_tier next v)) q.0 (of_here next v (suc (of_tier next v))) in
     absurd (omega (arith, q.1, c, num-low (bump next v) ws es i a t n e k))
 num-once next (w ∷ ws) (Call v stage text ∷ es) (suc i) (suc j) a b t n e f k l = ap suc (num-once (bump next v) ws es i j a b t n e f k l)
 
 -- BY INDEX
 
-pub acts_want : (next : Tier → ℕ) (ws : List Want) (es : List Ending) (i : ℕ) (a : Act) → slice_get (acts next ws es) i ≡ Some a → (slice_get ws i ≡ Some a.want) × (slice_get es i ≡ Some a.ending) × (slice_index_or (numbers next es) i 0 ≡ a.num)
+pub acts_want : (next : OfTiers ℕ) (ws : List Want) (es : List Ending) (i : ℕ) (a : Act) → slice_get (acts next ws es) i ≡ Some a → (slice_get ws i ≡ Some a.want) × (slice_get es i ≡ Some a.ending) × (at 0 (numbers next es) i ≡ a.num)
 acts_want next [] es i a e = absurd (cc)
 acts_want next (w ∷ ws) [] i a e = absurd (cc)
 acts_want next (w ∷ ws) (Reply text ∷ es) zero a e = let s : record { want = w; ending = Reply text; num = 0 } ≡ a = cc in (ap (λ (z : Act). Some z.want) s, ap (λ (z : Act). Some z.ending) s, ap (λ (z : Act). z.num) s)
 acts_want next (w ∷ ws) (Reply text ∷ es) (suc i) a e = acts_want next ws es i a e
-acts_want next (w ∷ ws) (Call v stage text ∷ es) zero a e = let s : record { want = w; ending = Call v stage text; num = next v } ≡ a = cc in (ap (λ (z : Act). Some z.want) s, ap (λ (z : Act). Some z.ending) s, ap (λ (z : Act). z.num) s)
+acts_want next (w ∷ ws) (Call v stage text ∷ es) zero a e = let s : record { want = w; ending = Call v stage text; num = of_tier next v } ≡ a = cc in (ap (λ (z : Act). Some z.want) s, ap (λ (z : Act). Some z.ending) s, ap (λ (z : Act). z.num) s)
 acts_want next (w ∷ ws) (Call v stage text ∷ es) (suc i) a e = acts_want (bump next v) ws es i a e
 
 -- where there is an end for each, each want has its act
-pub want_acts : (next : Tier → ℕ) (ws : List Want) (es : List Ending) (i : ℕ) (w : Want) → length ws ≡ length es → slice_get ws i ≡ Some w → (a : Act) × (slice_get (acts next ws es) i ≡ Some a) × (a.want ≡ w)
+pub want_acts : (next : OfTiers ℕ) (ws : List Want) (es : List Ending) (i : ℕ) (w : Want) → length ws ≡ length es → slice_get ws i ≡ Some w → (a : Act) × (slice_get (acts next ws es) i ≡ Some a) × (a.want ≡ w)
 want_acts next [] es i w l e = absurd (cc)
 want_acts next (v ∷ ws) [] i w l e = absurd (omega arith)
 want_acts next (v ∷ ws) (Reply text ∷ es) zero w l e = (record { want = v; ending = Reply text; num = 0 }, refl, cc)
 want_acts next (v ∷ ws) (Reply text ∷ es) (suc i) w l e = want_acts next ws es i w (omega arith) e
-want_acts next (v ∷ ws) (Call t stage text ∷ es) zero w l e = (record { want = v; ending = Call t stage text; num = next t }, refl, cc)
+want_acts next (v ∷ ws) (Call t stage text ∷ es) zero w l e = (record { want = v; ending = Call t stage text; num = of_tier next t }, refl, cc)
 want_acts next (v ∷ ws) (Call t stage text ∷ es) (suc i) w l e = want_acts (bump next t) ws es i w (omega arith) e
 
 -- CLIENTS
@@ -171,46 +147,46 @@ find_client c (w ∷ ws) = go (cases_eq w.client c) (find_client c ws)
 
 -- THE TABLES, BY CLIENT
 
-pub last-out : (ws : List Want) (last : ℕ → ℕ) (c : ℕ) → NoneOf c ws → last_after ws last c ≡ last c
+pub last-out : (ws : List Want) (last : List ℕ) (c : ℕ) → NoneOf c ws → last_of (last_after ws last) c ≡ last_of last c
 last-out [] last c n = refl
-last-out (w ∷ ws) last c n = last-out ws (put last w.client w.seq) c n.1 ∙ put_there last w.client w.seq c (λ e. n.0 (sym e))
+last-out (w ∷ ws) last c n = last-out ws (put_at 0 last w.client w.seq) c n.1 ∙ at_there 0 last w.client w.seq c (λ e. n.0 (sym e))
 
-pub last-in : (ws : List Want) (last : ℕ → ℕ) (i : ℕ) (w : Want) → Distinct ws → slice_get ws i ≡ Some w → last_after ws last w.client ≡ w.seq
+pub last-in : (ws : List Want) (last : List ℕ) (i : ℕ) (w : Want) → Distinct ws → slice_get ws i ≡ Some w → last_of (last_after ws last) w.client ≡ w.seq
 last-in [] last i w d e = absurd (cc)
 last-in (v ∷ ws) last zero w d e =
     let s : v ≡ w = cc in
-    subst (λ (z : Want). last_after ws (put last v.client v.seq) z.client ≡ z.seq) s (last-out ws (put last v.client v.seq) v.client d.0 ∙ put_here last v.client v.seq)
-last-in (v ∷ ws) last (suc i) w d e = last-in ws (put last v.client v.seq) i w d.1 e
+    subst (λ (z : Want). last_of (last_after ws (put_at 0 last v.client v.seq)) z.client ≡ z.seq) s (last-out ws (put_at 0 last v.client v.seq) v.client d.0 ∙ at_here 0 last v.client v.seq)
+last-in (v ∷ ws) last (suc i) w d e = last-in ws (put_at 0 last v.client v.seq) i w d.1 e
 
-pub kept-out : (ws : List Want) (es : List Ending) (kept : ℕ → Option (List ℕ)) (c : ℕ) → NoneOf c ws → kept_after ws es kept c ≡ kept c
+pub kept-out : (ws : List Want) (es : List Ending) (kept : List (Option (List ℕ))) (c : ℕ) → NoneOf c ws → kept_of (kept_after ws es kept) c ≡ kept_of kept c
 kept-out [] es kept c n = refl
 kept-out (w ∷ ws) [] kept c n = refl
-kept-out (w ∷ ws) (e ∷ es) kept c n = kept-out ws es (put kept w.client (kept_by e)) c n.1 ∙ put_there kept w.client (kept_by e) c (λ f. n.0 (sym f))
+kept-out (w ∷ ws) (e ∷ es) kept c n = kept-out ws es (put_at None kept w.client (kept_by e)) c n.1 ∙ at_there None kept w.client (kept_by e) c (λ f. n.0 (sym f))
 
-pub kept-in : (next : Tier → ℕ) (ws : List Want) (es : List Ending) (kept : ℕ → Option (List ℕ)) (i : ℕ) (a : Act) → Distinct ws → slice_get (acts next ws es) i ≡ Some a → kept_after ws es kept a.want.client ≡ kept_by a.ending
+pub kept-in : (next : OfTiers ℕ) (ws : List Want) (es : List Ending) (kept : List (Option (List ℕ))) (i : ℕ) (a : Act) → Distinct ws → slice_get (acts next ws es) i ≡ Some a → kept_of (kept_after ws es kept) a.want.client ≡ kept_by a.ending
 kept-in next [] es kept i a d e = absurd (cc)
 kept-in next (w ∷ ws) [] kept i a d e = absurd (cc)
 kept-in next (w ∷ ws) (Reply text ∷ es) kept zero a d e =
     let s : record { want = w; ending = Reply text; num = 0 } ≡ a = cc in
-    subst (λ (z : Act). kept_after ws es (put kept w.client (Some text)) z.want.client ≡ kept_by z.ending) s (kept-out ws es (put kept w.client (Some text)) w.client d.0 ∙ put_here kept w.client (Some text))
-kept-in next (w ∷ ws) (Reply text ∷ es) kept (suc i) a d e = kept-in next ws es (put kept w.client (Some text)) i a d.1 e
+    subst (λ (z : Act). kept_of (kept_after ws es (put_at None kept w.client (Some text))) z.want.client ≡ kept_by z.ending) s (kept-out ws es (put_at None kept w.client (Some text)) w.client d.0 ∙ at_here None kept w.client (Some text))
+kept-in next (w ∷ ws) (Reply text ∷ es) kept (suc i) a d e = kept-in next ws es (put_at None kept w.client (Some text)) i a d.1 e
 kept-in next (w ∷ ws) (Call t stage text ∷ es) kept zero a d e =
-    let s : record { want = w; ending = Call t stage text; num = next t } ≡ a = cc in
-    subst (λ (z : Act). kept_after ws es (put kept w.client None) z.want.client ≡ kept_by z.ending) s (kept-out ws es (put kept w.client None) w.client d.0 ∙ put_here kept w.client None)
-kept-in next (w ∷ ws) (Call t stage text ∷ es) kept (suc i) a d e = kept-in (bump next t) ws es (put kept w.client None) i a d.1 e
+    let s : record { want = w; ending = Call t stage text; num = of_tier next t } ≡ a = cc in
+    subst (λ (z : Act). kept_of (kept_after ws es (put_at None kept w.client None)) z.want.client ≡ kept_by z.ending) s (kept-out ws es (put_at None kept w.client None) w.client d.0 ∙ at_here None kept w.client None)
+kept-in next (w ∷ ws) (Call t stage text ∷ es) kept (suc i) a d e = kept-in (bump next t) ws es (put_at None kept w.client None) i a d.1 e
 
 -- what is parked for the act
 abbrev pub parked_by : Want → ℕ → Ending → Option Parked
 parked_by w k (Reply text) = None
 parked_by w k (Call t stage text) = Some (record { client = w.client; seq = w.seq; body = w.body; stage = stage; tier = t; num = k; text = text })
 
-pub parks-out : (next : Tier → ℕ) (ws : List Want) (es : List Ending) (c : ℕ) → NoneOf c ws → parked_of c (parks next ws es) ≡ None
+pub parks-out : (next : OfTiers ℕ) (ws : List Want) (es : List Ending) (c : ℕ) → NoneOf c ws → parked_of c (parks next ws es) ≡ None
 parks-out next [] es c n = refl
 parks-out next (w ∷ ws) [] c n = refl
 parks-out next (w ∷ ws) (Reply text ∷ es) c n = parks-out next ws es c n.1
 parks-out next (w ∷ ws) (Call t stage text ∷ es) c n = cond-false (w.client == c) _ (parked_of c (parks (bump next t) ws es)) (ne_eqb w.client c n.0) ∙ parks-out (bump next t) ws es c n.1
 
-pub parks-in : (next : Tier → ℕ) (ws : List Want) (es : List Ending) (i : ℕ) (a : Act) → Distinct ws → slice_get (acts next ws es) i ≡ Some a → parked_of a.want.client (parks next ws es) ≡ parked_by a.want a.num a.ending
+pub parks-in : (next : OfTiers ℕ) (ws : List Want) (es : List Ending) (i : ℕ) (a : Act) → Distinct ws → slice_get (acts next ws es) i ≡ Some a → parked_of a.want.client (parks next ws es) ≡ parked_by a.want a.num a.ending
 parks-in next [] es i a d e = absurd (cc)
 parks-in next (w ∷ ws) [] i a d e = absurd (cc)
 parks-in next (w ∷ ws) (Reply text ∷ es) zero a d e =
@@ -218,7 +194,7 @@ parks-in next (w ∷ ws) (Reply text ∷ es) zero a d e =
     subst (λ (z : Act). parked_of z.want.client (parks next ws es) ≡ parked_by z.want z.num z.ending) s (parks-out next ws es w.client d.0)
 parks-in next (w ∷ ws) (Reply text ∷ es) (suc i) a d e = parks-in next ws es i a d.1 e
 parks-in next (w ∷ ws) (Call t stage text ∷ es) zero a d e =
-    let s : record { want = w; ending = Call t stage text; num = next t } ≡ a = cc in
+    let s : record { want = w; ending = Call t stage text; num = of_tier next t } ≡ a = cc in
     subst (λ (z : Act). parked_of z.want.client (parks next (w ∷ ws) (Call t stage text ∷ es)) ≡ parked_by z.want z.num z.ending) s
     (cond-true (w.client == w.client) _ (parked_of w.client (parks (bump next t) ws es)) (eq-eqb w.client w.client refl))
 parks-in next (w ∷ ws) (Call t stage text ∷ es) (suc i) a d e =

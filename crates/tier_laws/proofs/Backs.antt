@@ -3,9 +3,10 @@ use Rattle.std.proofs.Common.{◌≡◌, ℕ, ◌<◌, ◌≤◌, Bool, true, fa
 use Rattle.std.specs.Prelude.{slice_get, ◌⊎◌, ◌==◌, ◌||◌, take}
 use Rattle.std.proofs.lemmas.Bool.{eq-eqb, ne_eqb, cond-true, cond-false, cases_eq}
 use Rattle.aeg_base.specs.declared.names.Tier.{Tier}
-use Rattle.log_model.specs.World.{put}
+use Rattle.run_model.specs.Histories.{put}
 use Rattle.log_values.specs.declared.value.AnyValue.{AnyValue}
-use Rattle.log_values.specs.declared.value.AnyValue.TheVariants.{Back as OfBack}
+use Rattle.log_values.specs.declared.value.AnyValue.TheVariants.{Back as OfBack, Mid as OfMid}
+use Rattle.aeg_base.specs.declared.names.Tier.TheVariants.{Mid as MidTier, Inv, Pay}
 use Rattle.log_values.specs.declared.value.BackValue.TheVariants.{Call as Called, Settle as Settled}
 use Rattle.round_model.specs.After.{after}
 use Rattle.round_model.specs.Lists.{half, is_some}
@@ -17,12 +18,13 @@ use Rattle.server_model.specs.Backends.{Served as Coded}
 use Rattle.server_model.specs.History.{History as History_}
 use Rattle.server_model.specs.Server.{same_tier}
 use Rattle.server_model.specs.declared.history.Hist.TheVariants.{Serve}
-use Rattle.tier_laws.proofs.Acts.{put_here, put_there, tier_cases, tier_here, tier_there}
+use Rattle.tier_laws.proofs.Lists.{put_here, put_there, tier_cases, tier_here, tier_there}
 use Rattle.tier_laws.proofs.Ledger.{Decision, Extended, Ledger, TablesOk, answers-kept, decision-more, get-last, kept-refl, legal-append, server-append, tables-kept}
 use Rattle.tier_laws.proofs.Mirrors.{Mirrors}
 use Rattle.tier_laws.proofs.Rounds.{Kept, number_cases}
 use Rattle.tier_laws.proofs.Stable.{after-more}
-use Rattle.tier_laws.specs.Maps.{Done, IsDone, Server, Step, coded, empty_server, put_number, result_or, server, step}
+use Rattle.tier_laws.proofs.Maps.{IsDone, Server, coded, empty_server, put_number, result_or, server, step}
+use Rattle.tier_laws.proofs.Maps.Result.{Done}
 
 pub back-append : {B : Type 0} (m : Service B) (t : Tier) (R : BackRun B) (vs : List AnyValue) (v : AnyValue) → back_from m t R (vs ++ v ∷ []) ≡ back_value m t (back_from m t R vs) v
 back-append m t R [] v = refl
@@ -34,6 +36,7 @@ back-push m t vs v = back-append m t _ vs v
 -- a code stays
 pub value-keeps : {B : Type 0} (m : Service B) (t : Tier) (R : BackRun B) (v : AnyValue) (n code : ℕ) → R.code n ≡ Some code → (back_value m t R v).code n ≡ Some code
 value-keeps m t R (OfBack (Settled g)) n code e = e
+value-keeps m t R (OfMid v) n code e = e
 value-keeps {B} m t R (OfBack (Called k text)) n code e = go (R.code k) refl
   where
     go : (o : Option ℕ) → R.code k ≡ o → (cond (is_some (R.code k)) R (back_serve m t R k text)).code n ≡ Some code
@@ -56,6 +59,7 @@ called-code m t R [] n = go (is_some (R.code n))
     go true = refl
     go false = refl
 called-code m t R (OfBack (Settled g) ∷ vs) n = called-code m t R vs n
+called-code m t R (OfMid v ∷ vs) n = called-code m t R vs n
 called-code {B} m t R (OfBack (Called k text) ∷ vs) n = called-code m t (back_value m t R (OfBack (Called k text))) vs n ∙ go (R.code k) refl (cases_eq k n)
   where
     same : (b c : Bool) → b ≡ true → (b || c) ≡ true
@@ -127,8 +131,10 @@ ledger_quiet {B} m D L K h t v g same f = record {
   settles = by_tier (λ w vs. SettlesIn m w vs) K t (K t ++ v ∷ []) (settles-push m t (K t) v (g.settles t) f) (λ w e. g.settles w);
 }
 
-serve_done : {B : Type 0} (m : Service B) (O : Server B) (t : Tier) (n : ℕ) (text : List ℕ) → O.calls t n ≡ Some text → O.served t n ≡ None → step m O (Serve t n) ≡ Done (coded O t n (m.meaning.serve t (O.backs t) text))
-serve_done m O t n text e f = rw (e, f) refl
+serve_done : {B : Type 0} (m : Service B) (O : Server B) (t : Tier) (n : ℕ) (text : List ℕ) → same_tier t MidTier ≡ false → O.calls t n ≡ Some text → O.served t n ≡ None → step m O (Serve t n, []) ≡ Done (coded O t n (m.meaning.serve t (O.backs t) text))
+serve_done m O MidTier n text b e f = absurd (cc)
+serve_done m O Inv n text b e f = rw (e, f) refl
+serve_done m O Pay n text b e f = rw (e, f) refl
 
 coded_kept : {B : Type 0} (O : Server B) (t : Tier) (n : ℕ) (b : Coded B) → O.served t n ≡ None → Kept O (coded O t n b)
 coded_kept {B} O t n b e = record { calls = λ v k text f. f; replies = λ c s text f. f; served = λ v k code f. served v k code f (number_cases O.served t n (Some b.code) v k) }
@@ -141,21 +147,21 @@ coded_mirrors : {B : Type 0} (m : Service B) (T : Tables) (O : Server B) (t : Ti
 coded_mirrors m T O t n b k = record { store = k.store; last = k.last; progress = k.progress; calls = k.calls; parked = k.parked; one = k.one; first = k.first; bounded = record { low = k.bounded.low; ended = k.bounded.ended } }
 
 -- a call that is served
-ledger_served : {B : Type 0} (m : Service B) (D : ℕ) (L : List AnyValue) (K : Tier → List AnyValue) (h : History_) (t : Tier) (n : ℕ) (text : List ℕ) (g : Ledger m D L K h) → (server m h).calls t n ≡ Some text → (back_run m t (K t)).code n ≡ None
-    → Extended m D h L (put_tier K t (K t ++ OfBack (Called n text) ∷ [])) (h ++ Serve t n ∷ [])
-ledger_served {B} m D L K h t n text g c none = record {
+ledger_served : {B : Type 0} (m : Service B) (D : ℕ) (L : List AnyValue) (K : Tier → List AnyValue) (h : History_) (t : Tier) (n : ℕ) (text : List ℕ) (g : Ledger m D L K h) → same_tier t MidTier ≡ false → (server m h).calls t n ≡ Some text → (back_run m t (K t)).code n ≡ None
+    → Extended m D h L (put_tier K t (K t ++ OfBack (Called n text) ∷ [])) (h ++ (Serve t n, []) ∷ [])
+ledger_served {B} m D L K h t n text g b c none = record {
   kept = subst (Kept (server m h)) (sym next) kept;
   ledger = record {
-    legal = legal-append m (empty_server m) h (Serve t n ∷ []) g.legal (subst (λ z. IsDone z × Unit {0}) (sym done) (tt, tt));
+    legal = legal-append m (empty_server m) h ((Serve t n, []) ∷ []) g.legal (subst (λ z. IsDone z × Unit {0}) (sym done) (tt, tt));
     tables = g.tables;
     is_after = subst (λ (z : Server B). after m D L z.served (half (length L)) ≡ Some g.tables) (sym next) (after-more m D L L O.served new.served (half (length L)) g.tables (record { at = λ i v e. e }) (answers-kept O new kept) g.is_after);
     mirrors = subst (Mirrors m g.tables) (sym next) (coded_mirrors m g.tables O t n (m.meaning.serve t (O.backs t) text) g.mirrors);
     tables_ok = subst (λ z. TablesOk z g.tables) (sym next) (tables-kept O new g.tables kept g.tables_ok);
     decided = λ r l. subst (λ z. Decision m D L z r) (sym next) (decision-more m D L L O new r (record { at = λ i v e. e }) kept (g.decided r l));
-    served = by_tier (λ w vs. (k : ℕ) → (server m (h ++ Serve t n ∷ [])).served w k ≡ (back_run m w vs).code k) K t (K t ++ OfBack (Called n text) ∷ [])
+    served = by_tier (λ w vs. (k : ℕ) → (server m (h ++ (Serve t n, []) ∷ [])).served w k ≡ (back_run m w vs).code k) K t (K t ++ OfBack (Called n text) ∷ [])
         (λ k. ap (λ (z : Server B). z.served t k) next ∙ ap (λ (f : ℕ → Option ℕ). f k) (tier_here O.served t (put (O.served t) n (Some (m.meaning.serve t (O.backs t) text).code))) ∙ here k (cases_eq k n) ∙ ap (λ (R : BackRun B). R.code k) (sym pushed))
         (λ w e k. ap (λ (z : Server B). z.served w k) next ∙ ap (λ (f : ℕ → Option ℕ). f k) (tier_there O.served t _ w e) ∙ g.served w k);
-    backs = by_tier (λ w vs. (server m (h ++ Serve t n ∷ [])).backs w ≡ (back_run m w vs).state) K t (K t ++ OfBack (Called n text) ∷ [])
+    backs = by_tier (λ w vs. (server m (h ++ (Serve t n, []) ∷ [])).backs w ≡ (back_run m w vs).state) K t (K t ++ OfBack (Called n text) ∷ [])
         (ap (λ (z : Server B). z.backs t) next ∙ tier_here O.backs t (m.meaning.serve t (O.backs t) text).state ∙ ap (λ b. (m.meaning.serve t b text).state) (g.backs t) ∙ ap (λ (R : BackRun B). R.state) (sym pushed))
         (λ w e. ap (λ (z : Server B). z.backs w) next ∙ tier_there O.backs t _ w e ∙ g.backs w);
     settles = by_tier (λ w vs. SettlesIn m w vs) K t (K t ++ OfBack (Called n text) ∷ []) (settles-push m t (K t) (OfBack (Called n text)) (g.settles t) (λ f k e. absurd (cc))) (λ w e. g.settles w);
@@ -174,11 +180,11 @@ ledger_served {B} m D L K h t n text g c none = record {
     kept : Kept O new
     kept = coded_kept O t n (m.meaning.serve t (O.backs t) text) served_none
 
-    done : step m O (Serve t n) ≡ Done new
-    done = serve_done m O t n text c served_none
+    done : step m O (Serve t n, []) ≡ Done new
+    done = serve_done m O t n text b c served_none
 
-    next : server m (h ++ Serve t n ∷ []) ≡ new
-    next = server-append m (empty_server m) h (Serve t n ∷ []) ∙ ap (result_or O) done
+    next : server m (h ++ (Serve t n, []) ∷ []) ≡ new
+    next = server-append m (empty_server m) h ((Serve t n, []) ∷ []) ∙ ap (result_or O) done
 
     pushed : back_run m t (K t ++ OfBack (Called n text) ∷ []) ≡ back_serve m t (back_run m t (K t)) n text
     pushed = back-push m t (K t) (OfBack (Called n text)) ∙ ap (λ z. cond (is_some z) (back_run m t (K t)) (back_serve m t (back_run m t (K t)) n text)) none
@@ -191,15 +197,15 @@ code_cases : (o : Option ℕ) (b : Bool) → is_some o ≡ b → ((b ≡ true) �
 code_cases None b e = inr (sym e, refl)
 code_cases (Some c) b e = inl (sym e, (c, refl))
 
-pub ledger_called : {B : Type 0} (m : Service B) (D : ℕ) (L : List AnyValue) (K : Tier → List AnyValue) (h : History_) (t : Tier) (n : ℕ) (text : List ℕ) → (server m h).calls t n ≡ Some text → Ledger m D L K h
+pub ledger_called : {B : Type 0} (m : Service B) (D : ℕ) (L : List AnyValue) (K : Tier → List AnyValue) (h : History_) (t : Tier) (n : ℕ) (text : List ℕ) → same_tier t MidTier ≡ false → (server m h).calls t n ≡ Some text → Ledger m D L K h
     → Extended m D h L (put_tier K t (K t ++ OfBack (Called n text) ∷ [])) (h ++ back_steps t (K t) (OfBack (Called n text)))
-ledger_called {B} m D L K h t n text c g = go (code_cases ((back_run m t (K t)).code n) (is_called n (K t)) (called-code m t _ (K t) n))
+ledger_called {B} m D L K h t n text b c g = go (code_cases ((back_run m t (K t)).code n) (is_called n (K t)) (called-code m t _ (K t) n))
   where
     go : ((is_called n (K t) ≡ true) × ((code : ℕ) × ((back_run m t (K t)).code n ≡ Some code))) ⊎ ((is_called n (K t) ≡ false) × ((back_run m t (K t)).code n ≡ None)) → Extended m D h L (put_tier K t (K t ++ OfBack (Called n text) ∷ [])) (h ++ back_steps t (K t) (OfBack (Called n text)))
-    go (inl e) = subst (λ z. Extended m D h L (put_tier K t (K t ++ OfBack (Called n text) ∷ [])) z) (sym (ap (λ z. h ++ z) (cond-true (is_called n (K t)) [] (Serve t n ∷ []) e.0) ∙ nil h))
+    go (inl e) = subst (λ z. Extended m D h L (put_tier K t (K t ++ OfBack (Called n text) ∷ [])) z) (sym (ap (λ z. h ++ z) (cond-true (is_called n (K t)) [] ((Serve t n, []) ∷ []) e.0) ∙ nil h))
         (record { kept = kept-refl (server m h); ledger = ledger_quiet m D L K h t (OfBack (Called n text)) g (ap (λ z. cond (is_some z) (back_run m t (K t)) (back_serve m t (back_run m t (K t)) n text)) e.1.1) (λ f k q. absurd (cc)) })
-    go (inr e) = subst (λ z. Extended m D h L (put_tier K t (K t ++ OfBack (Called n text) ∷ [])) z) (sym (ap (λ z. h ++ z) (cond-false (is_called n (K t)) [] (Serve t n ∷ []) e.0)))
-        (ledger_served m D L K h t n text g c e.1)
+    go (inr e) = subst (λ z. Extended m D h L (put_tier K t (K t ++ OfBack (Called n text) ∷ [])) z) (sym (ap (λ z. h ++ z) (cond-false (is_called n (K t)) [] ((Serve t n, []) ∷ []) e.0)))
+        (ledger_served m D L K h t n text g b c e.1)
 
 pub ledger_settled : {B : Type 0} (m : Service B) (D : ℕ) (L : List AnyValue) (K : Tier → List AnyValue) (h : History_) (t : Tier) (f : ℕ) → ((n : ℕ) → 0 < n → n < f → (code : ℕ) × ((server m h).served t n ≡ Some code)) → Ledger m D L K h
     → Extended m D h L (put_tier K t (K t ++ OfBack (Settled f) ∷ [])) (h ++ back_steps t (K t) (OfBack (Settled f)))
@@ -208,10 +214,10 @@ ledger_settled {B} m D L K h t f k g = subst (λ z. Extended m D h L (put_tier K
     all : (e n : ℕ) → OfBack (Settled f) ≡ OfBack (Settled e) → 0 < n → n < e → (code : ℕ) × ((back_run m t (K t)).code n ≡ Some code)
     all e n q a b = let same : f ≡ e = cc in let r = k n a (omega arith) in (r.0, sym (g.served t n) ∙ r.1)
 
-pub ledger_start : {B : Type 0} (m : Service B) (D : ℕ) (ok : Mirrors m (tables0 m D) (empty_server m)) → TablesOk (empty_server m) (tables0 m D) → Ledger m D [] (λ t. []) []
+pub ledger_start : {B : Type 0} (m : Service B) (D : ℕ) (ok : Mirrors m (tables0 D) (empty_server m)) → TablesOk (empty_server m) (tables0 D) → Ledger m D [] (λ t. []) []
 ledger_start m D k t = record {
   legal = tt;
-  tables = tables0 m D;
+  tables = tables0 D;
   is_after = refl;
   mirrors = k;
   tables_ok = t;

@@ -15,7 +15,7 @@ use Rattle.log_values.specs.declared.value.Verdict.{Verdict}
 use Rattle.round_model.specs.After.{Round, after, order_in, round, round_at, verdict_at, verdict_in}
 use Rattle.round_model.specs.Lists.{concat, half, odd}
 use Rattle.round_model.specs.Service.{Finish, Service, finish, is_order, serial_end, times}
-use Rattle.round_model.specs.Tables.{Codes as Answers, Parked, Tables, Want, job_of, kept_after, kept_by, last_after, numbers, settled, wants}
+use Rattle.round_model.specs.Tables.{last_of, kept_of, Codes as Answers, Parked, Tables, Want, job_of, kept_after, kept_by, last_after, numbers, settled, wants}
 use Rattle.run_model.specs.Histories.{back_run, steps_by, verdict_steps}
 use Rattle.server_model.specs.History.{History as History_}
 use Rattle.server_model.specs.declared.history.Hist.TheVariants.{Serve}
@@ -26,7 +26,7 @@ use Rattle.tier_laws.proofs.Legal.{RoundDone, Setting, ends_of, job-length, leng
 use Rattle.tier_laws.proofs.Mirrors.{Mirrors, mirrors_kept, setting}
 use Rattle.tier_laws.proofs.Rounds.{Kept, ToldOne, told-kept}
 use Rattle.tier_laws.proofs.Stable.{MoreAnswers, MoreLog, RoundParts, after-more, after-step, round-more, round_parts, then_parts, verdict-more}
-use Rattle.tier_laws.specs.Maps.{Legal, LegalFrom, Server, Step, empty_server, result_or, server, server_from, step}
+use Rattle.tier_laws.proofs.Maps.{Legal, LegalFrom, Server, empty_server, result_or, server, server_from, step}
 
 -- LISTS AND POSITIONS
 
@@ -66,11 +66,11 @@ half-is (suc n) = go (odd n) (half-is n)
 -- WHAT ONLY GROWS
 
 pub record TablesOk {B : Type 0} (O : Server B) (T : Tables) : Type 0 where
-  pub kept : (c : ℕ) (text : List ℕ) → T.kept c ≡ Some text → O.replies c (T.last c) ≡ Some text
+  pub kept : (c : ℕ) (text : List ℕ) → kept_of T.kept c ≡ Some text → O.replies c (last_of T.last c) ≡ Some text
   pub parked : (i : ℕ) (p : Parked) → slice_get (concat T.queue) i ≡ Some p → O.calls p.tier p.num ≡ Some p.text
 
 pub tables-kept : {B : Type 0} (O P : Server B) (T : Tables) → Kept O P → TablesOk O T → TablesOk P T
-tables-kept O P T g k = record { kept = λ c text e. g.replies c (T.last c) text (k.kept c text e); parked = λ i p e. g.calls p.tier p.num p.text (k.parked i p e) }
+tables-kept O P T g k = record { kept = λ c text e. g.replies c (last_of T.last c) text (k.kept c text e); parked = λ i p e. g.calls p.tier p.num p.text (k.parked i p e) }
 
 -- the ends of a job stand at the server
 pub record ToldAll {B : Type 0} (O : Server B) (X : List Act) : Type 0 where
@@ -167,14 +167,14 @@ finished_tables {B} m O P T ws J order k t g d l told = record {
   parked = λ i p e. (k.parked i p e).0;
 }
   where
-    kept : (c : ℕ) (text : List ℕ) → kept_after ws (finish m J order T.store).ends T.kept c ≡ Some text → ((i : ℕ) × (w : Want) × (slice_get ws i ≡ Some w) × (w.client ≡ c)) ⊎ NoneOf c ws → P.replies c (last_after ws T.last c) ≡ Some text
+    kept : (c : ℕ) (text : List ℕ) → kept_of (kept_after ws (finish m J order T.store).ends T.kept) c ≡ Some text → ((i : ℕ) × (w : Want) × (slice_get ws i ≡ Some w) × (w.client ≡ c)) ⊎ NoneOf c ws → P.replies c (last_of (last_after ws T.last) c) ≡ Some text
     kept c text e (inl f) =
         let a = want_acts T.next ws (finish m J order T.store).ends f.0 f.1 l f.2 in
         let same : a.0.want.client ≡ c = ap (λ (z : Want). z.client) a.2 ∙ f.3 in
-        let q : kept_by a.0.ending ≡ Some text = sym (kept-in T.next ws (finish m J order T.store).ends T.kept f.0 a.0 d a.1) ∙ ap (kept_after ws (finish m J order T.store).ends T.kept) same ∙ e in
+        let q : kept_by a.0.ending ≡ Some text = sym (kept-in T.next ws (finish m J order T.store).ends T.kept f.0 a.0 d a.1) ∙ ap (kept_of (kept_after ws (finish m J order T.store).ends T.kept)) same ∙ e in
         let in_ws = (acts_want T.next ws (finish m J order T.store).ends f.0 a.0 a.1).0 in
-        subst (λ z. P.replies z (last_after ws T.last z) ≡ Some text) same (ap (P.replies a.0.want.client) (last-in ws T.last f.0 a.0.want d in_ws) ∙ told_kept P a.0.want a.0.num a.0.ending text (told.at f.0 a.0 a.1) q)
-    kept c text e (inr n) = ap (P.replies c) (last-out ws T.last c n) ∙ g.replies c (T.last c) text (t.kept c text (sym (kept-out ws (finish m J order T.store).ends T.kept c n) ∙ e))
+        subst (λ z. P.replies z (last_of (last_after ws T.last) z) ≡ Some text) same (ap (P.replies a.0.want.client) (last-in ws T.last f.0 a.0.want d in_ws) ∙ told_kept P a.0.want a.0.num a.0.ending text (told.at f.0 a.0 a.1) q)
+    kept c text e (inr n) = ap (P.replies c) (last-out ws T.last c n) ∙ g.replies c (last_of T.last c) text (t.kept c text (sym (kept-out ws (finish m J order T.store).ends T.kept c n) ∙ e))
 
 -- at tables T that the server mirrors
 fact_at : {B : Type 0} (m : Service B) (O : Server B) (T : Tables) (es : List Entry) (J : List Seg) (order : List ℕ) → Mirrors m T O → TablesOk O T → job_of O.served (wants m T es) ≡ Some J → is_order (length J) order ≡ true → (s : Store) → s ≡ O.store
@@ -307,7 +307,7 @@ ledger_verdict {B} m D L K h v R o e q g = subst (λ z. Extended m D h (L ++ OfM
 
     steps : verdict_steps m (round m D L (server m h).served (half (length L))) v ≡ steps_by (wants m g.tables p.batch) (numbers g.tables.next (ends_of m R.job (order_in (length R.job) v) (server m h).store)) (order_in (length R.job) v)
     steps = ap (λ z. verdict_steps m z v) (e ∙ ap Some same)
-        ∙ cond-true (is_order (length R.job) (ordered R v)) (steps_by (wants m g.tables p.batch) (numbers g.tables.next (ends_of m R.job (ordered R v) g.tables.store)) (ordered R v)) (Serve Inv 0 ∷ []) q
+        ∙ cond-true (is_order (length R.job) (ordered R v)) (steps_by (wants m g.tables p.batch) (numbers g.tables.next (ends_of m R.job (ordered R v) g.tables.store)) (ordered R v)) ((Serve Inv 0, []) ∷ []) q
         ∙ ap (λ z. steps_by (wants m g.tables p.batch) (numbers g.tables.next (ends_of m R.job (ordered R v) z)) (ordered R v)) (sym g.mirrors.store)
 
 pub extend_batch : {B : Type 0} (m : Service B) (D : ℕ) (L : List AnyValue) (K : Tier → List AnyValue) (h : History_) (es : List Entry) → odd (length L) ≡ false → Ledger m D L K h → Extended m D h (L ++ OfMid (Batch es) ∷ []) K (h ++ [])

@@ -1,0 +1,10 @@
+pub mod Maps
+pub mod Lists
+pub mod Stable
+pub mod Acts
+pub mod Rounds
+pub mod Wants
+pub mod Legal
+pub mod Mirrors
+pub mod Ledger
+pub mod Backs

@@ -3,18 +3,20 @@ use Rattle.std.proofs.Common.{◌≡◌, ℕ, ◌<◌, true, List, [], ◌∷◌
 use Rattle.std.specs.Prelude.{slice_get, ◌⊎◌, replicate}
 use Rattle.std.proofs.lemmas.Bool.{and_parts}
 use Rattle.aeg_base.specs.declared.names.Tier.{Tier}
+use Rattle.aeg_base.specs.declared.names.Tier.TheVariants.{Mid as MidTier, Inv, Pay}
 use Rattle.exec_model.specs.declared.job.Seg.{Seg}
 use Rattle.log_values.specs.declared.value.Entry.{Entry}
-use Rattle.round_model.specs.Lists.{concat, head_of, tail_of}
+use Rattle.round_model.specs.Lists.{of_tier, concat, head_of, tail_of}
 use Rattle.round_model.specs.Service.{Service, all_below, each_once, finish, is_order, serial, serial_end, times}
-use Rattle.round_model.specs.Tables.{Parked, Tables, Want, fresh_of, job_of, last_after, next_after, parked_of, parks, resumed, settled, started, tables0, wants}
+use Rattle.round_model.specs.Tables.{last_of, Parked, Tables, Want, fresh_of, job_of, last_after, next_after, parked_of, parks, resumed, settled, started, tables0, wants}
 use Rattle.svc_api.specs.declared.action.Ending.{Ending}
 use Rattle.svc_api.specs.declared.action.Ending.TheVariants.{Call, Reply}
 use Rattle.tier_laws.proofs.Acts.{Act, Distinct, NoneOf, Numbered, acts_want, find_client, last-in, last-out, next-raises, none_not, num-high, num-low, parked_by, parks-in, parks-out, want_acts}
+use Rattle.tier_laws.proofs.Lists.{at-replicate}
 use Rattle.tier_laws.proofs.Legal.{Setting, acts_of, ends_of, job-length, length-tabulate, once-at, within_get}
 use Rattle.tier_laws.proofs.Rounds.{Bounded, Partway, ToldOne, WantOk, progress_by}
-use Rattle.tier_laws.proofs.Wants.{IsFresh, concat-head, concat-push, distinct-apart, distinct-join, distinct-left, distinct-right, fresh-at, fresh-distinct, get_cases, get_map, is_fresh_parts, map-append, map_get, none-parts, none_from, none_parked, parked-skip, parked-stop, parked_at, parks-distinct, parks-none, parks_acts}
-use Rattle.tier_laws.specs.Maps.{Progress, Server, empty_server}
+use Rattle.tier_laws.proofs.Wants.{IsFresh, in_range_parts, concat-head, concat-push, distinct-apart, distinct-join, distinct-left, distinct-right, fresh-at, fresh-distinct, get_cases, get_map, is_fresh_parts, map-append, map_get, none-parts, none_from, none_parked, parked-skip, parked-stop, parked_at, parks-distinct, parks-none, parks_acts}
+use Rattle.tier_laws.proofs.Maps.{Progress, Server, empty_server}
 
 abbrev pub in_progress : Option Parked → Option Progress
 in_progress None = None
@@ -22,12 +24,12 @@ in_progress (Some p) = Some (record { seq = p.seq; body = p.body; stage = p.stag
 
 pub record Mirrors {B : Type 0} (m : Service B) (T : Tables) (O : Server B) : Type 0 where
   pub store : O.store ≡ T.store
-  pub last : (c : ℕ) → O.last c ≡ T.last c
+  pub last : (c : ℕ) → O.last c ≡ last_of T.last c
   pub progress : (c : ℕ) → O.progress c ≡ in_progress (parked_of c (concat T.queue))
-  pub calls : (t : Tier) (n : ℕ) (text : List ℕ) → O.calls t n ≡ Some text → (0 < n) × (n < T.next t)
-  pub parked : (i : ℕ) (p : Parked) → slice_get (concat T.queue) i ≡ Some p → (O.calls p.tier p.num ≡ Some p.text) × (p.seq ≡ T.last p.client)
+  pub calls : (t : Tier) (n : ℕ) (text : List ℕ) → O.calls t n ≡ Some text → (0 < n) × (n < of_tier T.next t)
+  pub parked : (i : ℕ) (p : Parked) → slice_get (concat T.queue) i ≡ Some p → (O.calls p.tier p.num ≡ Some p.text) × (p.seq ≡ last_of T.last p.client)
   pub one : Distinct (map resumed (concat T.queue))
-  pub first : (t : Tier) → 0 < T.next t
+  pub first : (t : Tier) → 0 < of_tier T.next t
   pub bounded : Bounded O
 
 -- the parked requests that wait for this round, and those that wait longer
@@ -83,7 +85,7 @@ want_ok {B} m T O es i w k e = go (get_cases (map resumed (head_of T.queue)) (ma
     go (inr r) =
         let a = get_map started (fresh_of m T [] es) r.0 w r.1 in
         let f : IsFresh m T a.0 = is_fresh_parts m T a.0 (fresh-at m T [] es r.0 a.0 a.1).0 in
-        subst (λ (z : Want). WantOk m O z z.call) a.2 (f.seq ∙ ap suc (sym (k.last a.0.client)), k.progress a.0.client ∙ ap in_progress f.idle, f.body, refl)
+        subst (λ (z : Want). WantOk m O z z.call) a.2 (f.seq ∙ ap suc (sym (k.last a.0.client)), k.progress a.0.client ∙ ap in_progress f.idle, f.body, refl, omega (arith, (in_range_parts a.0 f.range).high))
 
 pub setting : {B : Type 0} (m : Service B) (T : Tables) (O : Server B) (es : List Entry) (J : List Seg) (order : List ℕ) → Mirrors m T O → job_of O.served (wants m T es) ≡ Some J → is_order (length J) order ≡ true
     → Setting m O T.next (wants m T es) J order
@@ -149,12 +151,12 @@ mirrors_kept {B} m T O es J order P k g r b = record {
     act : (i : ℕ) (w : Want) → slice_get ws i ≡ Some w → (a : Act) × (slice_get (acts_of m O T.next ws J order) i ≡ Some a) × (a.want ≡ w)
     act i w e = want_acts T.next ws (ends_of m J order O.store) i w (omega (arith, job-length O.served ws J g.job, length-tabulate (length J) (serial_end m J order O.store))) e
 
-    last : (c : ℕ) → ((i : ℕ) × (w : Want) × (slice_get ws i ≡ Some w) × (w.client ≡ c)) ⊎ NoneOf c ws → P.last c ≡ last_after ws T.last c
+    last : (c : ℕ) → ((i : ℕ) × (w : Want) × (slice_get ws i ≡ Some w) × (w.client ≡ c)) ⊎ NoneOf c ws → P.last c ≡ last_of (last_after ws T.last) c
     last c (inl f) =
         let a = act f.0 f.1 f.2 in
         let h = finished f.0 a.0 a.1 in
         let q : P.last f.1.client ≡ f.1.seq = subst (λ (z : Want). P.last z.client ≡ z.seq) a.2 h.0 in
-        subst (λ z. P.last z ≡ last_after ws T.last z) f.3 (q ∙ sym (last-in ws T.last f.0 f.1 g.distinct f.2))
+        subst (λ z. P.last z ≡ last_of (last_after ws T.last) z) f.3 (q ∙ sym (last-in ws T.last f.0 f.1 g.distinct f.2))
     last c (inr n) = (r.others c n).0 ∙ k.last c ∙ sym (last-out ws T.last c n)
 
     progress : (c : ℕ) → ((i : ℕ) × (w : Want) × (slice_get ws i ≡ Some w) × (w.client ≡ c)) ⊎ NoneOf c ws → P.progress c ≡ in_progress (parked_of c (concat (tail_of T.queue ++ new ∷ [])))
@@ -171,11 +173,11 @@ mirrors_kept {B} m T O es J order P k g r b = record {
         ∙ ap in_progress (parked-skip c (head_of T.queue) tail (none-parts c (map resumed (head_of T.queue)) (map started (fresh_of m T [] es)) n).0)
         ∙ ap in_progress (sym (parked-stop c tail new (parks-out T.next ws (ends_of m J order O.store) c n))) ∙ ap (λ z. in_progress (parked_of c z)) (sym (concat-push (tail_of T.queue) new))
 
-    calls : (t : Tier) (n : ℕ) (text : List ℕ) → (O.calls t n ≡ Some text) ⊎ ((i : ℕ) × (a : Act) × (slice_get (acts_of m O T.next ws J order) i ≡ Some a) × (0 < times i order) × Numbered a t n) → (0 < n) × (n < next_after T.next (ends_of m J order O.store) t)
+    calls : (t : Tier) (n : ℕ) (text : List ℕ) → (O.calls t n ≡ Some text) ⊎ ((i : ℕ) × (a : Act) × (slice_get (acts_of m O T.next ws J order) i ≡ Some a) × (0 < times i order) × Numbered a t n) → (0 < n) × (n < of_tier (next_after T.next (ends_of m J order O.store)) t)
     calls t n text (inl e) = let q = k.calls t n text e in (q.0, omega (arith, q.1, next-raises T.next (ends_of m J order O.store) t))
     calls t n text (inr f) = (omega (arith, k.first t, num-low T.next ws (ends_of m J order O.store) f.0 f.1 t n f.2 f.4), num-high T.next ws (ends_of m J order O.store) f.0 f.1 t n f.2 f.4)
 
-    parked : (p : Parked) (i : ℕ) → (slice_get tail i ≡ Some p) ⊎ ((j : ℕ) × (slice_get new j ≡ Some p)) → (P.calls p.tier p.num ≡ Some p.text) × (p.seq ≡ last_after ws T.last p.client)
+    parked : (p : Parked) (i : ℕ) → (slice_get tail i ≡ Some p) ⊎ ((j : ℕ) × (slice_get new j ≡ Some p)) → (P.calls p.tier p.num ≡ Some p.text) × (p.seq ≡ last_of (last_after ws T.last) p.client)
     parked p i (inl e) =
         let h = old (head_of T.queue) tail i p e in
         let q = k.parked h.0 p (subst (λ z. slice_get z h.0 ≡ Some p) (sym (concat-head T.queue)) h.1) in
@@ -189,7 +191,7 @@ mirrors_kept {B} m T O es J order P k g r b = record {
         let q = parked_is a.1.want a.1.num a.1.ending p a.3 in
         let h = finished a.0 a.1 a.2 in (
           ap (P.calls p.tier) q.3 ∙ told_call P a.1.want a.1.num a.1.ending p.tier p.stage p.text h.2 q.2,
-          q.1 ∙ sym (last-in ws T.last a.0 a.1.want g.distinct (acts_want T.next ws (ends_of m J order O.store) a.0 a.1 a.2).0) ∙ ap (last_after ws T.last) (sym q.0),
+          q.1 ∙ sym (last-in ws T.last a.0 a.1.want g.distinct (acts_want T.next ws (ends_of m J order O.store) a.0 a.1 a.2).0) ∙ ap (last_of (last_after ws T.last)) (sym q.0),
         )
 
 -- THE START
@@ -198,14 +200,19 @@ no_parked : (D : ℕ) → concat (replicate {A = List Parked} D []) ≡ []
 no_parked zero = refl
 no_parked (suc D) = no_parked D
 
-pub mirrors_start : {B : Type 0} (m : Service B) (D : ℕ) → Mirrors m (tables0 m D) (empty_server m)
+pub mirrors_start : {B : Type 0} (m : Service B) (D : ℕ) → Mirrors m (tables0 D) (empty_server m)
 mirrors_start {B} m D = record {
   store = refl;
-  last = λ c. refl;
+  last = λ c. sym (at-replicate 0 17 c);
   progress = λ c. ap (λ z. in_progress (parked_of c z)) (sym (no_parked D));
   calls = λ t n text e. absurd (cc);
   parked = λ i p e. absurd (let f : slice_get [] i ≡ Some p = subst (λ z. slice_get z i ≡ Some p) (no_parked D) e in cc);
   one = subst (λ z. Distinct (map resumed z)) (sym (no_parked D)) tt;
-  first = λ t. omega arith;
+  first = first;
   bounded = record { low = λ c s text e. absurd (cc); ended = λ c s text e f. absurd (cc) };
 }
+  where
+    first : (t : Tier) → 0 < of_tier (tables0 D).next t
+    first MidTier = omega arith
+    first Inv = omega arith
+    first Pay = omega arith

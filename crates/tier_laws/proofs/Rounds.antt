@@ -1,30 +1,33 @@
 -- The heart: the steps of a round are legal in any order of its job, and what the server comes to.
 use Rattle.std.proofs.Common.{◌≡◌, ℕ, ◌+◌, ◌<◌, ◌≤◌, true, false, cond, List, [], ◌∷◌, ◌++◌, refl, sym, ap, ◌∙◌, subst, inl, inr, Option, Some, None, suc, arith}
 use Rattle.std.specs.Prelude.{slice_get, ◌⊎◌, ◌==◌}
-use Rattle.std.proofs.lemmas.Bool.{eq-eqb, ne_eqb, cond-true, cond-false, cases_eq}
+use Rattle.std.proofs.lemmas.Bool.{lt-ltb, eq-eqb, ne_eqb, cond-true, cond-false, cases_eq}
 use Rattle.aeg_base.specs.Store.{Store}
 use Rattle.aeg_base.specs.declared.names.Tier.{Tier}
 use Rattle.exec_model.specs.declared.job.Seg.{Seg}
-use Rattle.log_model.specs.World.{put}
+use Rattle.run_model.specs.Histories.{put}
 use Rattle.round_model.specs.Service.{Service, is_request, run, times}
 use Rattle.round_model.specs.Tables.{Number, Want, answered, as_seg}
 use Rattle.server_model.specs.Server.{same_tier}
 use Rattle.server_model.specs.declared.history.Hist.TheVariants.{Resume, Start}
 use Rattle.svc_api.specs.declared.action.Ending.{Ending}
 use Rattle.svc_api.specs.declared.action.Ending.TheVariants.{Call, Reply}
-use Rattle.tier_laws.proofs.Acts.{Act, NoneOf, Numbered, NumberedAs, none_not, put_here, put_there, tier_cases, tier_here, tier_there}
+use Rattle.run_model.specs.Histories.{HistoryStep}
+use Rattle.tier_laws.proofs.Acts.{Act, NoneOf, Numbered, NumberedAs, none_not}
+use Rattle.tier_laws.proofs.Lists.{put_here, put_there, tier_cases, tier_here, tier_there}
 use Rattle.tier_laws.proofs.Stable.{then_parts}
-use Rattle.tier_laws.specs.Maps.{Done, Progress, Server, Step, called, first_seg, next_seg, put_number, ran, replied, step}
+use Rattle.tier_laws.proofs.Maps.{Progress, Server, called, first_seg, next_seg, put_number, ran, replied, step}
+use Rattle.tier_laws.proofs.Maps.Result.{Done}
 
 -- ONE STEP
 
-abbrev pub step_for : Want → Option Number → ℕ → Step
-step_for w None k = Start w.client w.seq w.body k
-step_for w (Some c) k = Resume w.client w.seq k
+abbrev pub step_for : Want → Option Number → ℕ → HistoryStep
+step_for w None k = (Start (record { client = w.client; seq = w.seq }) k, w.body)
+step_for w (Some c) k = (Resume (record { client = w.client; seq = w.seq }) k, [])
 
 -- the want can run at the server
 abbrev pub WantOk : {B : Type 0} → Service B → Server B → Want → Option Number → Type 0
-WantOk m O w None = (w.seq ≡ suc (O.last w.client)) × (O.progress w.client ≡ None) × (is_request m w.body ≡ true) × (w.stage ≡ 0)
+WantOk m O w None = (w.seq ≡ suc (O.last w.client)) × (O.progress w.client ≡ None) × (is_request m (record { client = w.client; seq = w.seq }) w.body ≡ true) × (w.stage ≡ 0) × (w.client < 17)
 WantOk m O w (Some k) = (w.seq ≡ O.last w.client) × (O.progress w.client ≡ Some (record { seq = w.seq; body = w.body; stage = w.stage; tier = k.tier; num = k.num }))
 
 -- the number is 0 where the segment replies, and new where it calls
@@ -41,19 +44,19 @@ ran_done : {B : Type 0} (O : Server B) (w : Want) (k : ℕ) (store : Store) (e :
 ran_done O w k store (Reply text) n = rw n refl
 ran_done O w k store (Call t stage text) n = rw (ne_eqb k 0 (omega arith), n.1) refl
 
-start_done : {B : Type 0} (m : Service B) (O : Server B) (c s : ℕ) (body : List ℕ) (k : ℕ) → s ≡ suc (O.last c) → O.progress c ≡ None → is_request m body ≡ true
-    → step m O (Start c s body k) ≡ ran O c s body k (run m (first_seg c s body) O.store).store (run m (first_seg c s body) O.store).ending
-start_done m O c s body k e f g = rw (eq-eqb s (suc (O.last c)) e, f, g) refl
+start_done : {B : Type 0} (m : Service B) (O : Server B) (c s : ℕ) (body : List ℕ) (k : ℕ) → s ≡ suc (O.last c) → O.progress c ≡ None → is_request m (record { client = c; seq = s }) body ≡ true → c < 17
+    → step m O (Start (record { client = c; seq = s }) k, body) ≡ ran O c s body k (run m (first_seg c s body) O.store).store (run m (first_seg c s body) O.store).ending
+start_done m O c s body k e f g l = rw (lt-ltb c 17 l, eq-eqb s (suc (O.last c)) e, f, g) refl
 
 resume_done : {B : Type 0} (m : Service B) (O : Server B) (c s k : ℕ) (g : Progress) (code : ℕ) → O.progress c ≡ Some g → g.seq ≡ s → O.served g.tier g.num ≡ Some code
-    → step m O (Resume c s k) ≡ ran O c s g.body k (run m (next_seg c g code) O.store).store (run m (next_seg c g code) O.store).ending
+    → step m O (Resume (record { client = c; seq = s }) k, []) ≡ ran O c s g.body k (run m (next_seg c g code) O.store).store (run m (next_seg c g code) O.store).ending
 resume_done m O c s k g code e f h = rw (e, eq-eqb g.seq s f, h) refl
 
 pub act_done : {B : Type 0} (m : Service B) (O : Server B) (w : Want) (q : Option Number) (k : ℕ) (j : Seg) → WantOk m O w q → answered O.served w q ≡ Some j → NumberOk O (run m j O.store).ending k
     → step m O (step_for w q k) ≡ Done (acted O w k (run m j O.store).ending (run m j O.store).store)
 act_done m O w None k j o a n =
-    let s : first_seg w.client w.seq w.body ≡ j = (λ i. record { client = w.client; seq = w.seq; body = w.body; stage = sym o.3 i; answer = None }) ∙ cc in
-    start_done m O w.client w.seq w.body k o.0 o.1 o.2 ∙ ap (λ z. ran O w.client w.seq w.body k (run m z O.store).store (run m z O.store).ending) s ∙ ran_done O w k (run m j O.store).store (run m j O.store).ending n
+    let s : first_seg w.client w.seq w.body ≡ j = (λ i. record { who = record { client = w.client; seq = w.seq }; body = w.body; stage = sym o.3 i; answer = None }) ∙ cc in
+    start_done m O w.client w.seq w.body k o.0 o.1 o.2 o.4 ∙ ap (λ z. ran O w.client w.seq w.body k (run m z O.store).store (run m z O.store).ending) s ∙ ran_done O w k (run m j O.store).store (run m j O.store).ending n
 act_done m O w (Some c) k j o a n =
     let p = then_parts (O.served c.tier c.num) (λ code. Some (as_seg w (Some code))) j a in
     let s : next_seg w.client (record { seq = w.seq; body = w.body; stage = w.stage; tier = c.tier; num = c.num }) p.0 ≡ j = cc in

@@ -1,12 +1,13 @@
 -- The wants of a round: their clients differ, and none of them is parked elsewhere.
-use Rattle.std.proofs.Common.{◌≡◌, ℕ, Bool, true, false, cond, List, [], ◌∷◌, ◌++◌, map, refl, sym, ap, ◌∙◌, subst, inl, inr, Option, Some, None, zero, suc}
-use Rattle.std.specs.Prelude.{slice_get, ◌⊎◌, ◌==◌, ◌&&◌, ◌||◌, not}
-use Rattle.std.proofs.lemmas.Bool.{eq-eqb, eqb-true, ne_eqb, cond-true, cond-false, cases_eq, and_parts}
+use Rattle.std.proofs.Common.{◌≡◌, ℕ, ◌≤◌, Bool, true, false, cond, List, [], ◌∷◌, ◌++◌, map, refl, sym, ap, ◌∙◌, subst, inl, inr, Option, Some, None, zero, suc}
+use Rattle.std.specs.Prelude.{nat_le, slice_get, ◌⊎◌, ◌==◌, ◌&&◌, ◌||◌, not}
+use Rattle.std.proofs.lemmas.Bool.{leb-true, eq-eqb, eqb-true, ne_eqb, cond-true, cond-false, cases_eq, and_parts}
 use Rattle.aeg_base.specs.declared.names.Tier.{Tier}
 use Rattle.log_values.specs.declared.value.Entry.{Entry}
 use Rattle.round_model.specs.Lists.{concat, head_of, is_some, mem, tail_of}
 use Rattle.round_model.specs.Service.{Service, is_request}
-use Rattle.round_model.specs.Tables.{Parked, Tables, Want, bump, fresh_of, is_busy, is_fresh, parked_of, parks, resumed, started}
+use Rattle.round_model.specs.Lists.{OfTiers, of_tier}
+use Rattle.round_model.specs.Tables.{in_range, last_of, who_of, Parked, Tables, Want, bump, fresh_of, is_busy, is_fresh, parked_of, parks, resumed, started}
 use Rattle.svc_api.specs.declared.action.Ending.{Ending}
 use Rattle.svc_api.specs.declared.action.Ending.TheVariants.{Call, Reply}
 use Rattle.tier_laws.proofs.Acts.{Act, Distinct, NoneOf, acts, none_not, parked_by}
@@ -100,20 +101,20 @@ parked-stop c (p ∷ Q) R e = cond_same (p.client == c) (Some p) (parked_of c (Q
     cond_same true x y z f = refl
     cond_same false x y z f = f
 
-pub parks_acts : (next : Tier → ℕ) (ws : List Want) (es : List Ending) (i : ℕ) (p : Parked) → slice_get (parks next ws es) i ≡ Some p → (j : ℕ) × (a : Act) × (slice_get (acts next ws es) j ≡ Some a) × (parked_by a.want a.num a.ending ≡ Some p)
+pub parks_acts : (next : OfTiers ℕ) (ws : List Want) (es : List Ending) (i : ℕ) (p : Parked) → slice_get (parks next ws es) i ≡ Some p → (j : ℕ) × (a : Act) × (slice_get (acts next ws es) j ≡ Some a) × (parked_by a.want a.num a.ending ≡ Some p)
 parks_acts next [] es i p e = absurd (cc)
 parks_acts next (w ∷ ws) [] i p e = absurd (cc)
 parks_acts next (w ∷ ws) (Reply text ∷ es) i p e = let r = parks_acts next ws es i p e in (suc r.0, r.1, r.2, r.3)
-parks_acts next (w ∷ ws) (Call t stage text ∷ es) zero p e = (0, record { want = w; ending = Call t stage text; num = next t }, refl, e)
+parks_acts next (w ∷ ws) (Call t stage text ∷ es) zero p e = (0, record { want = w; ending = Call t stage text; num = of_tier next t }, refl, e)
 parks_acts next (w ∷ ws) (Call t stage text ∷ es) (suc i) p e = let r = parks_acts (bump next t) ws es i p e in (suc r.0, r.1, r.2, r.3)
 
-pub parks-none : (next : Tier → ℕ) (ws : List Want) (es : List Ending) (c : ℕ) → NoneOf c ws → NoneOf c (map resumed (parks next ws es))
+pub parks-none : (next : OfTiers ℕ) (ws : List Want) (es : List Ending) (c : ℕ) → NoneOf c ws → NoneOf c (map resumed (parks next ws es))
 parks-none next [] es c n = tt
 parks-none next (w ∷ ws) [] c n = tt
 parks-none next (w ∷ ws) (Reply text ∷ es) c n = parks-none next ws es c n.1
 parks-none next (w ∷ ws) (Call t stage text ∷ es) c n = (n.0, parks-none (bump next t) ws es c n.1)
 
-pub parks-distinct : (next : Tier → ℕ) (ws : List Want) (es : List Ending) → Distinct ws → Distinct (map resumed (parks next ws es))
+pub parks-distinct : (next : OfTiers ℕ) (ws : List Want) (es : List Ending) → Distinct ws → Distinct (map resumed (parks next ws es))
 parks-distinct next [] es d = tt
 parks-distinct next (w ∷ ws) [] d = tt
 parks-distinct next (w ∷ ws) (Reply text ∷ es) d = parks-distinct next ws es d.1
@@ -183,8 +184,9 @@ fresh-at m T seen (x ∷ es) i e f = go (mem x.client seen) (is_fresh m T x) ref
     go false false k i g r q = later (q i g)
 
 pub record IsFresh {B : Type 0} (m : Service B) (T : Tables) (e : Entry) : Type 0 where
-  pub body : is_request m e.body ≡ true
-  pub seq : e.seq ≡ suc (T.last e.client)
+  pub body : is_request m (who_of e) e.body ≡ true
+  pub seq : e.seq ≡ suc (last_of T.last e.client)
+  pub range : in_range e ≡ true
   pub idle : parked_of e.client (concat T.queue) ≡ None
 
 none_some : {A : Type 0} (o : Option A) → not (is_some o) ≡ true → o ≡ None
@@ -193,6 +195,19 @@ none_some (Some a) e = absurd (cc)
 
 pub is_fresh_parts : {B : Type 0} (m : Service B) (T : Tables) (e : Entry) → is_fresh m T e ≡ true → IsFresh m T e
 is_fresh_parts m T e f =
-    let p = and_parts (is_request m e.body) (e.seq == suc (T.last e.client) && not (is_busy T e.client)) f in
-    let q = and_parts (e.seq == suc (T.last e.client)) (not (is_busy T e.client)) p.1 in
-    record { body = p.0; seq = eqb-true e.seq (suc (T.last e.client)) q.0; idle = none_some (parked_of e.client (concat T.queue)) q.1 }
+    let r = and_parts (in_range e) (is_request m (who_of e) e.body && ((e.seq == suc (last_of T.last e.client)) && not (is_busy T e.client))) f in
+    let p = and_parts (is_request m (who_of e) e.body) ((e.seq == suc (last_of T.last e.client)) && not (is_busy T e.client)) r.1 in
+    let q = and_parts (e.seq == suc (last_of T.last e.client)) (not (is_busy T e.client)) p.1 in
+    record { body = p.0; seq = eqb-true e.seq (suc (last_of T.last e.client)) q.0; idle = none_some (parked_of e.client (concat T.queue)) q.1; range = r.0 }
+
+-- an entry in range has a client up to 16, and so on
+pub record InRange (e : Entry) : Type 0 where
+  pub low : 1 ≤ e.client
+  pub high : e.client ≤ 16
+  pub seq : e.seq ≤ 65536
+
+pub in_range_parts : (e : Entry) → in_range e ≡ true → InRange e
+in_range_parts e f =
+    let p = and_parts (nat_le 1 e.client && nat_le e.client 16) (nat_le e.seq 65536) f in
+    let q = and_parts (nat_le 1 e.client) (nat_le e.client 16) p.0 in
+    record { low = leb-true 1 e.client q.0; high = leb-true e.client 16 q.1; seq = leb-true e.seq 65536 p.1 }

@@ -1,0 +1,2 @@
+//! What holds after every list of events: the laws of the three tiers, each the contract of a function with an empty body.
+#![tactic(auto)]
