@@ -8,3 +8,5 @@ pub mod Legal
 pub mod Mirrors
 pub mod Ledger
 pub mod Backs
+pub mod Logs
+pub mod Past
