@@ -10,3 +10,7 @@ pub mod Ledger
 pub mod Backs
 pub mod Logs
 pub mod Past
+pub mod Changes
+pub mod Ranges
+pub mod Apply
+pub mod Verdicts

@@ -36,15 +36,18 @@ pub record Mirrors {B : Type 0} (m : Service B) (T : Tables) (O : Server B) : Ty
 pub record Split (T : Tables) : Type 0 where
   pub one : Distinct (map resumed (head_of T.queue) ++ map resumed (concat (tail_of T.queue)))
 
+pub split_of : (T : Tables) → Distinct (map resumed (concat T.queue)) → Split T
+split_of T one = record { one = subst Distinct (ap (map resumed) (concat-head T.queue) ∙ map-append resumed (head_of T.queue) (concat (tail_of T.queue))) one }
+
 split : {B : Type 0} (m : Service B) (T : Tables) (O : Server B) → Mirrors m T O → Split T
-split m T O k = record { one = subst Distinct (ap (map resumed) (concat-head T.queue) ∙ map-append resumed (head_of T.queue) (concat (tail_of T.queue))) k.one }
+split m T O k = split_of T k.one
 
 -- no want's client waits longer
-tail_apart : {B : Type 0} (m : Service B) (T : Tables) (O : Server B) (es : List Entry) (i : ℕ) (w : Want) → Mirrors m T O → slice_get (wants m T es) i ≡ Some w → NoneOf w.client (map resumed (concat (tail_of T.queue)))
-tail_apart {B} m T O es i w k e = go (get_cases (map resumed (head_of T.queue)) (map started (fresh_of m T [] es)) i w e)
+pub tail_apart_of : {B : Type 0} (m : Service B) (T : Tables) (es : List Entry) (i : ℕ) (w : Want) → Distinct (map resumed (concat T.queue)) → slice_get (wants m T es) i ≡ Some w → NoneOf w.client (map resumed (concat (tail_of T.queue)))
+tail_apart_of {B} m T es i w one e = go (get_cases (map resumed (head_of T.queue)) (map started (fresh_of m T [] es)) i w e)
   where
     go : (slice_get (map resumed (head_of T.queue)) i ≡ Some w) ⊎ ((j : ℕ) × (slice_get (map started (fresh_of m T [] es)) j ≡ Some w)) → NoneOf w.client (map resumed (concat (tail_of T.queue)))
-    go (inl f) = distinct-apart (map resumed (head_of T.queue)) (map resumed (concat (tail_of T.queue))) i w (split m T O k).one f
+    go (inl f) = distinct-apart (map resumed (head_of T.queue)) (map resumed (concat (tail_of T.queue))) i w (split_of T one).one f
     go (inr r) =
         let a = get_map started (fresh_of m T [] es) r.0 w r.1 in
         let f : IsFresh m T a.0 = is_fresh_parts m T a.0 (fresh-at m T [] es r.0 a.0 a.1).0 in
@@ -52,8 +55,8 @@ tail_apart {B} m T O es i w k e = go (get_cases (map resumed (head_of T.queue)) 
         let n2 : NoneOf a.0.client (map resumed (head_of T.queue) ++ map resumed (concat (tail_of T.queue))) = subst (NoneOf a.0.client) (ap (map resumed) (concat-head T.queue) ∙ map-append resumed (head_of T.queue) (concat (tail_of T.queue))) n in
         subst (λ (z : Want). NoneOf z.client (map resumed (concat (tail_of T.queue)))) a.2 (none-parts a.0.client (map resumed (head_of T.queue)) (map resumed (concat (tail_of T.queue))) n2).1
 
-wants_distinct : {B : Type 0} (m : Service B) (T : Tables) (O : Server B) (es : List Entry) → Mirrors m T O → Distinct (wants m T es)
-wants_distinct {B} m T O es k = distinct-join (map resumed (head_of T.queue)) (map started (fresh_of m T [] es)) (distinct-left (map resumed (head_of T.queue)) (map resumed (concat (tail_of T.queue))) (split m T O k).one) (fresh-distinct m T [] es) (record { at = at })
+pub wants_distinct_of : {B : Type 0} (m : Service B) (T : Tables) (es : List Entry) → Distinct (map resumed (concat T.queue)) → Distinct (wants m T es)
+wants_distinct_of {B} m T es one = distinct-join (map resumed (head_of T.queue)) (map started (fresh_of m T [] es)) (distinct-left (map resumed (head_of T.queue)) (map resumed (concat (tail_of T.queue))) (split_of T one).one) (fresh-distinct m T [] es) (record { at = at })
   where
     at : (i : ℕ) (w : Want) → slice_get (map resumed (head_of T.queue)) i ≡ Some w → NoneOf w.client (map started (fresh_of m T [] es))
     at i w e = none_from w.client (map started (fresh_of m T [] es)) (λ j v f g.
@@ -63,6 +66,26 @@ wants_distinct {B} m T O es k = distinct-join (map resumed (head_of T.queue)) (m
         let n2 : NoneOf a.0.client (map resumed (head_of T.queue) ++ map resumed (concat (tail_of T.queue))) = subst (NoneOf a.0.client) (ap (map resumed) (concat-head T.queue) ∙ map-append resumed (head_of T.queue) (concat (tail_of T.queue))) n in
         let n3 : NoneOf a.0.client (map resumed (head_of T.queue)) = (none-parts a.0.client (map resumed (head_of T.queue)) (map resumed (concat (tail_of T.queue))) n2).0 in
         none_not a.0.client (map resumed (head_of T.queue)) i w n3 e (sym g ∙ sym (ap (λ (z : Want). z.client) a.2)))
+
+tail_apart : {B : Type 0} (m : Service B) (T : Tables) (O : Server B) (es : List Entry) (i : ℕ) (w : Want) → Mirrors m T O → slice_get (wants m T es) i ≡ Some w → NoneOf w.client (map resumed (concat (tail_of T.queue)))
+tail_apart m T O es i w k e = tail_apart_of m T es i w k.one e
+
+wants_distinct : {B : Type 0} (m : Service B) (T : Tables) (O : Server B) (es : List Entry) → Mirrors m T O → Distinct (wants m T es)
+wants_distinct m T O es k = wants_distinct_of m T es k.one
+
+-- the requests that wait after a round are of different clients
+pub settled_one : {B : Type 0} (m : Service B) (T : Tables) (es : List Entry) (ends : List Ending) → Distinct (map resumed (concat T.queue)) → Distinct (map resumed (concat (tail_of T.queue ++ parks T.next (wants m T es) ends ∷ [])))
+settled_one {B} m T es ends one = subst Distinct (sym (ap (map resumed) (concat-push (tail_of T.queue) new) ∙ map-append resumed tail new)) (distinct-join (map resumed tail) (map resumed new) (distinct-right (map resumed (head_of T.queue)) (map resumed tail) (split_of T one).one) (parks-distinct T.next (wants m T es) ends (wants_distinct_of m T es one))
+    (record { at = λ i w e. let a = get_map resumed tail i w e in subst (λ (z : Want). NoneOf z.client (map resumed new)) a.2 (parks-none T.next (wants m T es) ends a.0.client (away i a.0 a.1)) }))
+  where
+    tail : List Parked
+    tail = concat (tail_of T.queue)
+
+    new : List Parked
+    new = parks T.next (wants m T es) ends
+
+    away : (i : ℕ) (p : Parked) → slice_get tail i ≡ Some p → NoneOf p.client (wants m T es)
+    away i p e = none_from p.client (wants m T es) (λ j w f h. none_not w.client (map resumed tail) i (resumed p) (tail_apart_of m T es j w one f) (map_get resumed tail i p e) (sym h))
 
 want_ok : {B : Type 0} (m : Service B) (T : Tables) (O : Server B) (es : List Entry) (i : ℕ) (w : Want) → Mirrors m T O → slice_get (wants m T es) i ≡ Some w → WantOk m O w w.call
 want_ok {B} m T O es i w k e = go (get_cases (map resumed (head_of T.queue)) (map started (fresh_of m T [] es)) i w e)
@@ -106,7 +129,7 @@ by_progress w k (Reply text) = refl
 by_progress w k (Call t stage text) = refl
 
 -- what is parked for an act is its call
-parked_is : (w : Want) (k : ℕ) (e : Ending) (p : Parked) → parked_by w k e ≡ Some p → (p.client ≡ w.client) × (p.seq ≡ w.seq) × (e ≡ Call p.tier p.stage p.text) × (p.num ≡ k)
+pub parked_is : (w : Want) (k : ℕ) (e : Ending) (p : Parked) → parked_by w k e ≡ Some p → (p.client ≡ w.client) × (p.seq ≡ w.seq) × (e ≡ Call p.tier p.stage p.text) × (p.num ≡ k)
 parked_is w k (Reply text) p f = absurd (cc)
 parked_is w k (Call t stage text) p f =
     let s : record { client = w.client; seq = w.seq; body = w.body; stage = stage; tier = t; num = k; text = text } ≡ p = cc in
@@ -124,8 +147,7 @@ mirrors_kept {B} m T O es J order P k g r b = record {
   progress = λ c. progress c (find_client c ws);
   calls = λ t n text e. calls t n text (r.calls t n text e);
   parked = λ i p e. parked p i (get_cases tail new i p (subst (λ z. slice_get z i ≡ Some p) (concat-push (tail_of T.queue) new) e));
-  one = subst Distinct (sym (ap (map resumed) (concat-push (tail_of T.queue) new) ∙ map-append resumed tail new)) (distinct-join (map resumed tail) (map resumed new) (distinct-right (map resumed (head_of T.queue)) (map resumed tail) (split m T O k).one) (parks-distinct T.next ws (ends_of m J order O.store) g.distinct)
-      (record { at = λ i w e. let a = get_map resumed tail i w e in subst (λ (z : Want). NoneOf z.client (map resumed new)) a.2 (parks-none T.next ws (ends_of m J order O.store) a.0.client (away i a.0 a.1)) }));
+  one = settled_one m T es (ends_of m J order O.store) k.one;
   first = λ t. omega (arith, k.first t, next-raises T.next (ends_of m J order O.store) t);
   bounded = b;
 }
@@ -196,7 +218,7 @@ mirrors_kept {B} m T O es J order P k g r b = record {
 
 -- THE START
 
-no_parked : (D : ℕ) → concat (replicate {A = List Parked} D []) ≡ []
+pub no_parked : (D : ℕ) → concat (replicate {A = List Parked} D []) ≡ []
 no_parked zero = refl
 no_parked (suc D) = no_parked D
 

@@ -23,6 +23,7 @@ use Rattle.frames.specs.declared.message.Msg.TheVariants as msgs
 use Rattle.round_model.specs.Tables.{pending_of, Number, Tables, Want}
 use Rattle.round_model.specs.Verdicts.{Vote, same_token}
 use Rattle.run_model.specs.World.{Config}
+use Rattle.tier_laws.specs.Said.{Laws}
 use Rattle.tier_laws.proofs.Ledger.{Decision, TablesOk, answers-kept, decision-more, tables-kept}
 use Rattle.tier_laws.proofs.Rounds.{Kept}
 use Rattle.tier_laws.proofs.Stable.{MoreAnswers, MoreLog, after-more, round-more}
@@ -217,6 +218,7 @@ other-more c P Q x σ g e k = record {
 
 -- what is known of the past, whatever the nodes
 pub record Known {B : Type 0} (c : Config B) (P : Past B) : Type 0 where
+  pub laws : Laws c.service
   pub values : (p : ℕ) (v : AnyValue) → slice_get P.log p ≡ Some v → MidOk c P p v
   pub decided : (r : ℕ) → r < half (length P.log) → Decision c.service c.depth P.log P.server r
   pub runs : (i : ℕ) (v : Vote) → slice_get P.runs i ≡ Some v → RunOk c P v
