@@ -14,3 +14,7 @@ pub mod Changes
 pub mod Ranges
 pub mod Apply
 pub mod Verdicts
+pub mod Soups
+pub mod Moves
+pub mod Rows
+pub mod Offers
