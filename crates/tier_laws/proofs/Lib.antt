@@ -18,3 +18,6 @@ pub mod Soups
 pub mod Moves
 pub mod Rows
 pub mod Offers
+pub mod BackRows
+pub mod BackLearn
+pub mod BackMoves
