@@ -21,3 +21,6 @@ pub mod Offers
 pub mod BackRows
 pub mod BackLearn
 pub mod BackMoves
+pub mod Core
+pub mod MidSteps
+pub mod BackSteps

@@ -99,3 +99,8 @@ back_soup-other Pay t x sends e = log_soup-other Pay t x sends e
 pub every-log : {B : Type 0} (c : Config B) (Q : Past B) (t : Tier) (x : ℕ) (sends : List (ℕ × PaxMsg AnyValue)) → Every (SentOk c Q) (log_packets t x sends)
 every-log c Q t x [] = tt
 every-log c Q t x (s ∷ sends) = (tt, every-log c Q t x sends)
+
+pub back_nil : (t : Tier) → back_soup t [] ≡ []
+back_nil MidTier = refl
+back_nil Inv = refl
+back_nil Pay = refl
