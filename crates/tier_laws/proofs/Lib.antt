@@ -24,3 +24,6 @@ pub mod BackMoves
 pub mod Core
 pub mod MidSteps
 pub mod BackSteps
+pub mod Shows
+pub mod Grow
+pub mod Events

@@ -3,6 +3,8 @@ use Rattle.std.specs.Prelude.{◌≡◌, ◌≢◌, ◌⊎◌, ◌<◌, ◌≤�
 use Rattle.aeg_base.specs.Store.{Store, value_at}
 use Rattle.aeg_base.specs.declared.names.Key.{Key}
 use Rattle.svc_api.specs.Plan.{IsKey}
+use Rattle.aeg_base.specs.declared.names.ReqId.{ReqId}
+use Rattle.svc_api.specs.Segment.{GoesOn}
 use Rattle.svc_api.specs.Requests.{IsRequest}
 use Rattle.exec_model.specs.declared.job.Seg.{Seg}
 use Rattle.exec_model.specs.Jobs.{run_job}
@@ -23,10 +25,12 @@ pub record IsJob (J : List Seg) : Type 0 where
   pub asked : (i : ℕ) (j : Seg) → slice_get J i ≡ Some j → IsRequest j.who
 
 -- A run's order of finishing is an order of its job, and its store and ends are those of the segments one after another
--- in that order. Stores stay stores, and a token is read as the outcome that it spells.
+-- in that order. Stores stay stores, and a token is read as the outcome that it spells. A request whose segment calls has
+-- the stage that the call names.
 pub record Laws {B : Type 0} (m : Service B) : Type 0 where
   pub orders : (J : List Seg) (s : Store) (schedule : List ℕ) → is_order (length J) (run_job m.begins J s schedule).order ≡ true
   pub store : (J : List Seg) (s : Store) (schedule : List ℕ) → (run_job m.begins J s schedule).store ≡ serial m J (run_job m.begins J s schedule).order s
   pub ends : (J : List Seg) (s : Store) (schedule : List ℕ) → (run_job m.begins J s schedule).ends ≡ tabulate (length J) (serial_end m J (run_job m.begins J s schedule).order s)
   pub stores : (J : List Seg) (order : List ℕ) (s : Store) → IsJob J → is_order (length J) order ≡ true → IsStore s → IsStore (serial m J order s)
   pub reads : (J : List Seg) (order : List ℕ) (s : Store) → IsJob J → is_order (length J) order ≡ true → IsStore s → m.read (token_of m s (finish m J order s)) ≡ Some (changes.outcome s (finish m J order s).store (finish m J order s).ends)
+  pub again : (who : ReqId) (body : List ℕ) (stage : ℕ) → GoesOn (m.meaning.table who body stage) (m.meaning.table who body)
