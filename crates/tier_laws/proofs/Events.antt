@@ -187,14 +187,14 @@ log_part-first : (t : Tier) (from to : End) (p : PaxMsg AnyValue) (ys : List (Lo
 log_part-first t from to p ys e = rw e refl
 
 -- a packet of a tier's log stands among its packets
-log_place : (t : Tier) (soup : List Packet) (i : ℕ) (from to : End) (p : PaxMsg AnyValue) → is_in t from ≡ true → slice_get soup i ≡ Some (record { from = from; to = to; message = msgs.Log p }) → (j : ℕ) × (slice_get (log_soup t soup) j ≡ Some (record { from = index_of from; to = index_of to; msg = p }))
+pub log_place : (t : Tier) (soup : List Packet) (i : ℕ) (from to : End) (p : PaxMsg AnyValue) → is_in t from ≡ true → slice_get soup i ≡ Some (record { from = from; to = to; message = msgs.Log p }) → (j : ℕ) × (slice_get (log_soup t soup) j ≡ Some (record { from = index_of from; to = index_of to; msg = p }))
 log_place t [] i from to p b e = absurd (cc)
 log_place t (k ∷ soup) zero from to p b e =
     let s : record { from = from; to = to; message = msgs.Log p } ≡ k = cc in
     (0, subst (λ (z : Packet). slice_get (log_part t z.from z.to z.message ++ log_soup t soup) 0 ≡ Some (record { from = index_of from; to = index_of to; msg = p })) s (log_part-first t from to p (log_soup t soup) b))
 log_place t (k ∷ soup) (suc i) from to p b e = let r = log_place t soup i from to p b e in get-past (log_part t k.from k.to k.message) (log_soup t soup) r.0 _ r.1
 
-back_place : (t : Tier) (soup : List Packet) (i : ℕ) (from to : End) (p : PaxMsg AnyValue) → same_tier t MidTier ≡ false → is_in t from ≡ true → slice_get soup i ≡ Some (record { from = from; to = to; message = msgs.Log p }) → (j : ℕ) × (slice_get (back_soup t soup) j ≡ Some (record { from = index_of from; to = index_of to; msg = p }))
+pub back_place : (t : Tier) (soup : List Packet) (i : ℕ) (from to : End) (p : PaxMsg AnyValue) → same_tier t MidTier ≡ false → is_in t from ≡ true → slice_get soup i ≡ Some (record { from = from; to = to; message = msgs.Log p }) → (j : ℕ) × (slice_get (back_soup t soup) j ≡ Some (record { from = index_of from; to = index_of to; msg = p }))
 back_place MidTier soup i from to p m b e = absurd (cc)
 back_place Inv soup i from to p m b e = log_place Inv soup i from to p b e
 back_place Pay soup i from to p m b e = log_place Pay soup i from to p b e

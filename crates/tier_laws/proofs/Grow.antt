@@ -246,7 +246,7 @@ record MidGrown {B : Type 0} (c : Config B) (w : World B) (codes : ℕ → List 
   back : (t : Tier) → Nearly c.u (back_soup t w.soup) (w.logs t)
 
 -- the history's list of served calls is looked up as the maps say
-served_same : {B : Type 0} (c : Config B) (w : World B) (codes : ℕ → List Code) (h : ℕ → List (LogFact AnyValue)) (k : Tier → ℕ → List (LogFact AnyValue)) → Core c w codes h k → served_of c w ≡ (server c.service w.hist).served
+pub served_same : {B : Type 0} (c : Config B) (w : World B) (codes : ℕ → List Code) (h : ℕ → List (LogFact AnyValue)) (k : Tier → ℕ → List (LogFact AnyValue)) → Core c w codes h k → served_of c w ≡ (server c.service w.hist).served
 served_same c w codes h k i = λ j t n. (shown c.service w.hist i.laws.again i.ledger.legal).shows.served t n j
 
 extend_by : {B : Type 0} (c : Config B) (w : World B) (codes : ℕ → List Code) (h : ℕ → List (LogFact AnyValue)) (k : Tier → ℕ → List (LogFact AnyValue)) (v : AnyValue) → Core c w codes h k → MidOk c (past c w codes) (length w.log) v

@@ -27,3 +27,7 @@ pub mod BackSteps
 pub mod Shows
 pub mod Grow
 pub mod Events
+pub mod Told
+pub mod Later
+pub mod Before
+pub mod Few
