@@ -1,0 +1,4 @@
+pub mod Headers
+pub mod Messages
+pub mod LogMessages
+pub mod Frames

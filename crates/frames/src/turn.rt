@@ -1,12 +1,8 @@
-// What a node answers.
+// What a node answers to a packet or a command.
+use crate::Refused;
 use aeg_base::{Ballot, CallNo, Pos, Round, Seq, Tier};
 
-#[derive(Clone, Copy, Debug, PartialEq, Eq)]
-pub enum Refused {
-    Short,
-    Row(u8),
-}
-
+/// How a job ran: its round, the steps of its segments, their order, and how often a group was run again.
 #[derive(Debug, Drop)]
 pub struct RunNote {
     pub round: Round,
@@ -15,6 +11,7 @@ pub struct RunNote {
     pub redo: u8,
 }
 
+/// Why nothing was done.
 #[derive(Clone, Copy, Debug, PartialEq, Eq)]
 pub enum Idle {
     BallotSpent,
@@ -31,10 +28,20 @@ pub enum Idle {
     Behind { pos: Pos },
 }
 
+/// What a node's turn came to. A node that dropped a packet, or was idle, is as it was.
 #[derive(Debug, Drop)]
 pub enum Turn {
     Did,
     Ran(RunNote),
     Dropped(Refused),
     Idle(Idle),
+}
+
+/// Why a node went down.
+#[derive(Clone, Copy, Debug, PartialEq, Eq)]
+pub enum Fault {
+    Disk,
+    JournalFull { len: u64 },
+    BadRecord { at: u64 },
+    Memory,
 }

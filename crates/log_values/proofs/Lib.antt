@@ -1,0 +1,13 @@
+pub mod Tests
+pub mod FieldGrammar
+pub mod Misses
+pub mod OutcomeGrammar
+pub mod Pairs
+pub mod Passing
+pub mod Orders
+pub mod Tokens
+pub mod Wholes
+pub mod CommitGrammar
+pub mod ValueGrammar
+pub mod RecordGrammar
+pub mod Leads

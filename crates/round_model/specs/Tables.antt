@@ -7,7 +7,7 @@ use Rattle.aeg_base.specs.declared.names.Tier.{Tier}
 use Rattle.svc_api.specs.declared.action.Ending.{Ending}
 use Rattle.svc_api.specs.declared.action.Ending.TheVariants.{Reply, Call}
 use Rattle.exec_model.specs.declared.job.Seg.{Seg}
-use Rattle.log_values.specs.declared.value.Entry.{Entry}
+use Rattle.log_values.specs.declared.entry.Entry.{Entry}
 use Rattle.round_model.specs.Lists.{is_some, and_then, at, put_at, concat, head_of, tail_of, mem, OfTiers, of_tier, with_tier}
 use Rattle.round_model.specs.Service.{Service, is_request, Finish}
 

@@ -8,7 +8,7 @@ use Rattle.server_model.specs.Server.{same_tier, found_in}
 use Rattle.server_model.specs.History.{served}
 use Rattle.log_model.specs.World.{Packet as LogPacket}
 use Rattle.log_model.specs.Chosen.{chosen_among}
-use Rattle.log_values.specs.declared.value.AnyValue.{AnyValue}
+use Rattle.log_values.specs.declared.any_value.AnyValue.{AnyValue}
 use Rattle.frames.specs.declared.message.Msg.{Msg}
 use Rattle.frames.specs.declared.message.Msg.TheVariants as msgs
 use Rattle.round_model.specs.Tables.{Codes}

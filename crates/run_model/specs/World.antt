@@ -13,8 +13,8 @@ use Rattle.log_model.specs.Recover.{newest}
 use Rattle.log_model.specs.World.{Mode, Node as NodeOf, Device, put, recorded, stands, failed, writes, is_fine}
 use Rattle.log_model.specs.World.Mode.{Up, Down, Gone}
 use Rattle.log_model.specs.World.Device.{Fine as WasFine, CutKeep, CutDrop, Fault as WasFault}
-use Rattle.log_values.specs.declared.value.AnyValue.{AnyValue}
-use Rattle.log_values.specs.declared.value.Entry.{Entry}
+use Rattle.log_values.specs.declared.any_value.AnyValue.{AnyValue}
+use Rattle.log_values.specs.declared.entry.Entry.{Entry}
 use Rattle.log_values.specs.declared.fact.Fact.{Fact}
 use Rattle.frames.specs.declared.message.Msg.{Msg}
 use Rattle.frames.specs.declared.message.Msg.TheVariants as msgs

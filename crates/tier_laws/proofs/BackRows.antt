@@ -18,9 +18,9 @@ use Rattle.log_model.specs.Rows.{lead, offer, on_msg}
 use Rattle.log_model.specs.World.{Packet as LogPacket, put}
 use Rattle.log_model.specs.declared.fact.Fact.{Fact as LogFact}
 use Rattle.log_model.specs.declared.message.PaxMsg.{PaxMsg}
-use Rattle.log_values.specs.declared.value.AnyValue.{AnyValue}
-use Rattle.log_values.specs.declared.value.AnyValue.TheVariants.{Back as OfBack, Mid as OfMid}
-use Rattle.log_values.specs.declared.value.BackValue.TheVariants.{Call as Called, Settle as Settled}
+use Rattle.log_values.specs.declared.any_value.AnyValue.{AnyValue}
+use Rattle.log_values.specs.declared.any_value.AnyValue.TheVariants.{Back as OfBack, Mid as OfMid}
+use Rattle.log_values.specs.declared.back_value.BackValue.TheVariants.{Call as Called, Settle as Settled}
 use Rattle.round_model.specs.Answers.{Code, code_of, sorted}
 use Rattle.round_model.specs.Copies.{floor_at, Copy, codes_from, copies_but, copies_from, copy_of, due, due_among, greater, has_text, is_ready, least_ready, lesser, many_at_least}
 use Rattle.round_model.specs.Lists.{put_at, each, is_some}

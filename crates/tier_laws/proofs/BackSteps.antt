@@ -13,9 +13,9 @@ use Rattle.log_model.specs.Recover.{learned_in, newest, newest_onto, onto, recov
 use Rattle.log_model.specs.World.{Device, Mode, Node, Packet as LogPacket, failed, is_fine, put, recorded, stands, writes}
 use Rattle.log_model.specs.World.Mode.{Down, Gone, Up}
 use Rattle.log_model.specs.declared.fact.Fact.{Fact as LogFact}
-use Rattle.log_values.specs.declared.value.AnyValue.{AnyValue}
-use Rattle.log_values.specs.declared.value.AnyValue.TheVariants.{Back as OfBack}
-use Rattle.log_values.specs.declared.value.BackValue.TheVariants.{Call as Called, Settle as Settled}
+use Rattle.log_values.specs.declared.any_value.AnyValue.{AnyValue}
+use Rattle.log_values.specs.declared.any_value.AnyValue.TheVariants.{Back as OfBack}
+use Rattle.log_values.specs.declared.back_value.BackValue.TheVariants.{Call as Called, Settle as Settled}
 use Rattle.round_model.specs.Answers.{Code}
 use Rattle.round_model.specs.Service.{Service}
 use Rattle.run_model.specs.World.{Config, World, at_back, back_node, back_up, crashed, is_well, moved, put_tier, restarted, sent, up_from, with_back}

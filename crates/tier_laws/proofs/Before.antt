@@ -4,10 +4,10 @@ use Rattle.std.specs.Prelude.{slice_get, ◌⊎◌}
 use Rattle.aeg_base.specs.declared.names.Tier.{Tier}
 use Rattle.aeg_base.specs.declared.names.Tier.TheVariants.{Inv, Pay}
 use Rattle.log_model.specs.Chosen.{Meets, chosen_among}
-use Rattle.log_values.specs.declared.value.AnyValue.{AnyValue}
-use Rattle.log_values.specs.declared.value.AnyValue.TheVariants.{Mid as OfMid}
-use Rattle.log_values.specs.declared.value.MidValue.TheVariants.{Verdict as Decided}
-use Rattle.log_values.specs.declared.value.Verdict.{Verdict}
+use Rattle.log_values.specs.declared.any_value.AnyValue.{AnyValue}
+use Rattle.log_values.specs.declared.any_value.AnyValue.TheVariants.{Mid as OfMid}
+use Rattle.log_values.specs.declared.mid_value.MidValue.TheVariants.{Verdict as Decided}
+use Rattle.log_values.specs.declared.mid_value.Verdict.{Verdict}
 use Rattle.round_model.specs.After.{round}
 use Rattle.run_model.specs.Runs.{back_chosen, back_grows, grows, mid_chosen, mid_grows, world}
 use Rattle.run_model.specs.World.{Config, World, happens, start}

@@ -8,13 +8,13 @@ use Rattle.aeg_base.specs.declared.names.Tier.TheVariants.{Inv, Pay}
 use Rattle.log_model.proofs.Invariant.{all_same, soup-refl}
 use Rattle.log_model.specs.Chosen.{Meets, chosen_among}
 use Rattle.log_model.specs.declared.fact.Fact.{Fact as LogFact}
-use Rattle.log_values.specs.declared.value.AnyValue.{AnyValue}
-use Rattle.log_values.specs.declared.value.AnyValue.TheVariants.{Back as OfBack, Mid as OfMid}
-use Rattle.log_values.specs.declared.value.BackValue.TheVariants.{Call as Called, Settle as Settled}
-use Rattle.log_values.specs.declared.value.Entry.{Entry}
-use Rattle.log_values.specs.declared.value.MidValue.TheVariants.{Batch, Verdict as Decided}
-use Rattle.log_values.specs.declared.value.Verdict.{Verdict}
-use Rattle.log_values.specs.declared.value.Verdict.TheVariants.{Commit, Serial}
+use Rattle.log_values.specs.declared.any_value.AnyValue.{AnyValue}
+use Rattle.log_values.specs.declared.any_value.AnyValue.TheVariants.{Back as OfBack, Mid as OfMid}
+use Rattle.log_values.specs.declared.back_value.BackValue.TheVariants.{Call as Called, Settle as Settled}
+use Rattle.log_values.specs.declared.entry.Entry.{Entry}
+use Rattle.log_values.specs.declared.mid_value.MidValue.TheVariants.{Batch, Verdict as Decided}
+use Rattle.log_values.specs.declared.mid_value.Verdict.{Verdict}
+use Rattle.log_values.specs.declared.mid_value.Verdict.TheVariants.{Commit, Serial}
 use Rattle.round_model.specs.After.{Round, after, batch_in, order_in, round, round_at}
 use Rattle.round_model.specs.Answers.{Code}
 use Rattle.round_model.specs.Lists.{at, below, half, head_of, odd, tabulate}

@@ -12,8 +12,8 @@ use Rattle.log_model.specs.Chosen.{chosen_among}
 use Rattle.log_model.specs.World.{Device, Mode, Node, stands}
 use Rattle.log_model.specs.World.Mode.{Down, Gone, Up}
 use Rattle.log_values.specs.declared.fact.Fact.{Fact}
-use Rattle.log_values.specs.declared.value.AnyValue.{AnyValue}
-use Rattle.log_values.specs.declared.value.Entry.{Entry}
+use Rattle.log_values.specs.declared.any_value.AnyValue.{AnyValue}
+use Rattle.log_values.specs.declared.entry.Entry.{Entry}
 use Rattle.frames.specs.declared.message.Msg.{Msg}
 use Rattle.frames.specs.declared.message.Msg.TheVariants as msgs
 use Rattle.round_model.specs.Lists.{is_some}

@@ -15,8 +15,8 @@ use Rattle.log_model.specs.World.{Device, Mode, Node, Packet as LogPacket, faile
 use Rattle.log_model.specs.World.Mode.{Down, Gone, Up}
 use Rattle.log_model.specs.declared.fact.Fact.{Fact as LogFact}
 use Rattle.log_values.specs.declared.fact.Fact.{Fact}
-use Rattle.log_values.specs.declared.value.AnyValue.{AnyValue}
-use Rattle.log_values.specs.declared.value.Entry.{Entry}
+use Rattle.log_values.specs.declared.any_value.AnyValue.{AnyValue}
+use Rattle.log_values.specs.declared.entry.Entry.{Entry}
 use Rattle.round_model.specs.Answers.{Code, code_of}
 use Rattle.round_model.specs.Lists.{concat, half, is_some}
 use Rattle.round_model.specs.Service.{Service, run}

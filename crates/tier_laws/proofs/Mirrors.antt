@@ -5,7 +5,7 @@ use Rattle.std.proofs.lemmas.Bool.{and_parts}
 use Rattle.aeg_base.specs.declared.names.Tier.{Tier}
 use Rattle.aeg_base.specs.declared.names.Tier.TheVariants.{Mid as MidTier, Inv, Pay}
 use Rattle.exec_model.specs.declared.job.Seg.{Seg}
-use Rattle.log_values.specs.declared.value.Entry.{Entry}
+use Rattle.log_values.specs.declared.entry.Entry.{Entry}
 use Rattle.round_model.specs.Lists.{of_tier, concat, head_of, tail_of}
 use Rattle.round_model.specs.Service.{Service, all_below, each_once, finish, is_order, serial, serial_end, times}
 use Rattle.round_model.specs.Tables.{last_of, Parked, Tables, Want, fresh_of, job_of, last_after, next_after, parked_of, parks, resumed, settled, started, tables0, wants}

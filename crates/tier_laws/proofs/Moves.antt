@@ -19,9 +19,9 @@ use Rattle.log_model.specs.declared.fact.Fact.{Fact as LogFact}
 use Rattle.log_model.specs.declared.message.PaxMsg.{PaxMsg}
 use Rattle.log_values.specs.declared.fact.Fact.{Fact}
 use Rattle.log_values.specs.declared.fact.Fact.TheVariants.{Held}
-use Rattle.log_values.specs.declared.value.AnyValue.{AnyValue}
-use Rattle.log_values.specs.declared.value.Entry.{Entry}
-use Rattle.log_values.specs.declared.value.Verdict.{Verdict}
+use Rattle.log_values.specs.declared.any_value.AnyValue.{AnyValue}
+use Rattle.log_values.specs.declared.entry.Entry.{Entry}
+use Rattle.log_values.specs.declared.mid_value.Verdict.{Verdict}
 use Rattle.round_model.specs.Answers.{Code, Noted, code_of}
 use Rattle.round_model.specs.Lists.{OfTiers, of_tier, concat, each, is_some}
 use Rattle.round_model.specs.Service.{Finish, Service, run}

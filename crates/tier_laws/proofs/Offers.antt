@@ -17,11 +17,11 @@ use Rattle.log_model.specs.World.{Packet as LogPacket, put}
 use Rattle.log_model.specs.declared.fact.Fact.{Fact as LogFact}
 use Rattle.log_model.specs.declared.message.PaxMsg.{PaxMsg}
 use Rattle.log_values.specs.declared.fact.Fact.{Fact}
-use Rattle.log_values.specs.declared.value.AnyValue.{AnyValue}
-use Rattle.log_values.specs.declared.value.AnyValue.TheVariants.{Mid as OfMid}
-use Rattle.log_values.specs.declared.value.Entry.{Entry}
-use Rattle.log_values.specs.declared.value.MidValue.TheVariants.{Batch, Verdict as Decided}
-use Rattle.log_values.specs.declared.value.Verdict.{Verdict}
+use Rattle.log_values.specs.declared.any_value.AnyValue.{AnyValue}
+use Rattle.log_values.specs.declared.any_value.AnyValue.TheVariants.{Mid as OfMid}
+use Rattle.log_values.specs.declared.entry.Entry.{Entry}
+use Rattle.log_values.specs.declared.mid_value.MidValue.TheVariants.{Batch, Verdict as Decided}
+use Rattle.log_values.specs.declared.mid_value.Verdict.{Verdict}
 use Rattle.round_model.specs.Answers.{Code, Noted, code_of, floor, insert, least_open, sorted, usable}
 use Rattle.round_model.specs.Lists.{and_then, concat, each, half, is_nil, is_some, odd}
 use Rattle.round_model.specs.Service.{Finish, Service}

@@ -5,13 +5,13 @@ use Rattle.aeg_base.specs.Store.{Store}
 use Rattle.aeg_base.specs.declared.names.Tier.{Tier}
 use Rattle.log_model.proofs.Basics.{Every, count-more, every-weaker}
 use Rattle.log_model.specs.Log.{count_below}
-use Rattle.log_values.specs.declared.value.AnyValue.{AnyValue}
-use Rattle.log_values.specs.declared.value.AnyValue.TheVariants.{Back as OfBack, Mid as OfMid}
-use Rattle.log_values.specs.declared.value.BackValue.TheVariants.{Call as Called, Settle as Settled}
-use Rattle.log_values.specs.declared.value.Entry.{Entry}
-use Rattle.log_values.specs.declared.value.MidValue.TheVariants.{Batch, Verdict as Decided}
-use Rattle.log_values.specs.declared.value.Verdict.{Verdict}
-use Rattle.log_values.specs.declared.value.Verdict.TheVariants.{Commit, Serial}
+use Rattle.log_values.specs.declared.any_value.AnyValue.{AnyValue}
+use Rattle.log_values.specs.declared.any_value.AnyValue.TheVariants.{Back as OfBack, Mid as OfMid}
+use Rattle.log_values.specs.declared.back_value.BackValue.TheVariants.{Call as Called, Settle as Settled}
+use Rattle.log_values.specs.declared.entry.Entry.{Entry}
+use Rattle.log_values.specs.declared.mid_value.MidValue.TheVariants.{Batch, Verdict as Decided}
+use Rattle.log_values.specs.declared.mid_value.Verdict.{Verdict}
+use Rattle.log_values.specs.declared.mid_value.Verdict.TheVariants.{Commit, Serial}
 use Rattle.round_model.specs.After.{Round, after, round}
 use Rattle.round_model.specs.Answers.{Code, Noted, code_of}
 use Rattle.round_model.specs.Lists.{half, is_some, odd}

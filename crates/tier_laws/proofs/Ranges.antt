@@ -10,9 +10,9 @@ use Rattle.svc_api.specs.Requests.{IsRequest}
 use Rattle.svc_api.specs.declared.action.Ending.{Ending}
 use Rattle.exec_model.specs.declared.job.Seg.{Seg}
 use Rattle.log_model.specs.Log.{count_below}
-use Rattle.log_values.specs.declared.value.AnyValue.{AnyValue}
-use Rattle.log_values.specs.declared.value.Verdict.{Verdict}
-use Rattle.log_values.specs.declared.value.Entry.{Entry}
+use Rattle.log_values.specs.declared.any_value.AnyValue.{AnyValue}
+use Rattle.log_values.specs.declared.mid_value.Verdict.{Verdict}
+use Rattle.log_values.specs.declared.entry.Entry.{Entry}
 use Rattle.round_model.specs.Lists.{and_then, concat, head_of, tail_of}
 use Rattle.round_model.specs.Service.{Service, finish, is_order}
 use Rattle.round_model.specs.Tables.{Parked, Tables, tables0, fresh_of, Number, Want, resumed, started, wants, Codes, as_seg, answered, job_of, parks, settled}

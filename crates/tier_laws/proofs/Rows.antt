@@ -17,10 +17,10 @@ use Rattle.log_model.specs.declared.fact.Fact.{Fact as LogFact}
 use Rattle.log_model.specs.declared.message.PaxMsg.{PaxMsg}
 use Rattle.log_values.specs.declared.fact.Fact.{Fact}
 use Rattle.log_values.specs.declared.fact.Fact.TheVariants.{Held}
-use Rattle.log_values.specs.declared.value.AnyValue.{AnyValue}
-use Rattle.log_values.specs.declared.value.Entry.{Entry}
-use Rattle.log_values.specs.declared.value.MidValue.TheVariants.{Batch, Verdict as Decided}
-use Rattle.log_values.specs.declared.value.Verdict.{Verdict}
+use Rattle.log_values.specs.declared.any_value.AnyValue.{AnyValue}
+use Rattle.log_values.specs.declared.entry.Entry.{Entry}
+use Rattle.log_values.specs.declared.mid_value.MidValue.TheVariants.{Batch, Verdict as Decided}
+use Rattle.log_values.specs.declared.mid_value.Verdict.{Verdict}
 use Rattle.round_model.specs.After.{batch_at, verdict_at}
 use Rattle.round_model.specs.Answers.{Code, Noted, code_of, floor, insert, is_noted, least_open, many_hold, sorted, usable}
 use Rattle.round_model.specs.Lists.{put_at, and_then, concat, each, half, is_nil, is_some, odd}

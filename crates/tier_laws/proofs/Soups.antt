@@ -7,7 +7,7 @@ use Rattle.server_model.specs.Server.{same_tier}
 use Rattle.log_model.specs.declared.message.PaxMsg.{PaxMsg}
 use Rattle.log_model.specs.World.{Packet as LogPacket, packets_of}
 use Rattle.log_model.proofs.Basics.{Every}
-use Rattle.log_values.specs.declared.value.AnyValue.{AnyValue}
+use Rattle.log_values.specs.declared.any_value.AnyValue.{AnyValue}
 use Rattle.round_model.specs.Lists.{each}
 use Rattle.tier_model.specs.Moves.{Packet, log_packet, log_packets}
 use Rattle.run_model.specs.Runs.{log_part, log_soup}

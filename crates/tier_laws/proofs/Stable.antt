@@ -3,9 +3,9 @@ use Rattle.std.proofs.Common.{◌≡◌, ℕ, ◌+◌, ◌*◌, List, [], ◌∷
 use Rattle.std.specs.Prelude.{slice_get}
 use Rattle.aeg_base.specs.declared.names.Tier.{Tier}
 use Rattle.exec_model.specs.declared.job.Seg.{Seg}
-use Rattle.log_values.specs.declared.value.AnyValue.{AnyValue}
-use Rattle.log_values.specs.declared.value.Entry.{Entry}
-use Rattle.log_values.specs.declared.value.Verdict.{Verdict}
+use Rattle.log_values.specs.declared.any_value.AnyValue.{AnyValue}
+use Rattle.log_values.specs.declared.entry.Entry.{Entry}
+use Rattle.log_values.specs.declared.mid_value.Verdict.{Verdict}
 use Rattle.round_model.specs.After.{Round, after, batch_at, batch_in, done, round, round_at, verdict_at, verdict_in}
 use Rattle.round_model.specs.Lists.{and_then}
 use Rattle.round_model.specs.Service.{Service}

@@ -7,10 +7,10 @@ use Rattle.aeg_base.specs.declared.names.Tier.{Tier}
 use Rattle.exec_model.specs.declared.job.Seg.{Seg}
 use Rattle.log_model.proofs.Basics.{count-more}
 use Rattle.log_model.specs.Log.{count_below}
-use Rattle.log_values.specs.declared.value.AnyValue.{AnyValue}
-use Rattle.log_values.specs.declared.value.Entry.{Entry}
-use Rattle.log_values.specs.declared.value.Verdict.{Verdict}
-use Rattle.log_values.specs.declared.value.Verdict.TheVariants.{Commit, Serial}
+use Rattle.log_values.specs.declared.any_value.AnyValue.{AnyValue}
+use Rattle.log_values.specs.declared.entry.Entry.{Entry}
+use Rattle.log_values.specs.declared.mid_value.Verdict.{Verdict}
+use Rattle.log_values.specs.declared.mid_value.Verdict.TheVariants.{Commit, Serial}
 use Rattle.round_model.specs.After.{Round, after, batch_at, round, round_at, verdict_at}
 use Rattle.round_model.specs.Answers.{Code, Noted, code_of, is_noted, many_hold, usable}
 use Rattle.round_model.specs.Lists.{and_then, each, is_some, lowest}

@@ -17,10 +17,10 @@ use Rattle.log_model.specs.Log.{LogState, count_below}
 use Rattle.log_model.specs.Recover.{newest, recover}
 use Rattle.log_model.specs.World.{Mode, Node}
 use Rattle.log_model.specs.World.Mode.{Up, Down, Gone}
-use Rattle.log_values.specs.declared.value.AnyValue.{AnyValue}
-use Rattle.log_values.specs.declared.value.Entry.{Entry}
-use Rattle.log_values.specs.declared.value.Verdict.{Verdict}
-use Rattle.log_values.specs.declared.value.Verdict.TheVariants.{Commit, Serial}
+use Rattle.log_values.specs.declared.any_value.AnyValue.{AnyValue}
+use Rattle.log_values.specs.declared.entry.Entry.{Entry}
+use Rattle.log_values.specs.declared.mid_value.Verdict.{Verdict}
+use Rattle.log_values.specs.declared.mid_value.Verdict.TheVariants.{Commit, Serial}
 use Rattle.log_values.specs.declared.fact.Fact.{Fact}
 use Rattle.round_model.specs.Lists.{tabulate}
 use Rattle.round_model.specs.Service.{Service, serial, serial_end, finish, is_order, token_of}

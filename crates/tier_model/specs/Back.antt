@@ -4,9 +4,9 @@ use Rattle.aeg_base.specs.declared.names.Tier.{Tier}
 use Rattle.aeg_base.specs.declared.names.Tier.TheVariants as tiers
 use Rattle.server_model.specs.Server.{Meaning}
 use Rattle.log_model.specs.Log.{LogState, Turn, nobody}
-use Rattle.log_values.specs.declared.value.AnyValue.{AnyValue}
-use Rattle.log_values.specs.declared.value.AnyValue.TheVariants.{Mid, Back as InBack}
-use Rattle.log_values.specs.declared.value.BackValue.TheVariants.{Call, Settle}
+use Rattle.log_values.specs.declared.any_value.AnyValue.{AnyValue}
+use Rattle.log_values.specs.declared.any_value.AnyValue.TheVariants.{Mid, Back as InBack}
+use Rattle.log_values.specs.declared.back_value.BackValue.TheVariants.{Call, Settle}
 use Rattle.frames.specs.declared.message.Msg.TheVariants as msgs
 use Rattle.round_model.specs.Lists.{is_some, each}
 use Rattle.round_model.specs.Service.{Service}

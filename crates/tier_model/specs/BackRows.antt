@@ -8,9 +8,9 @@ use Rattle.log_model.specs.declared.turn.Offering.TheVariants.{NotLeader, NoProm
 use Rattle.log_model.specs.Log.{nobody, open_at}
 use Rattle.log_model.specs.Rows.{lead, offer, wants, on_msg}
 use Rattle.log_model.specs.Recover.{recover}
-use Rattle.log_values.specs.declared.value.AnyValue.{AnyValue}
-use Rattle.log_values.specs.declared.value.AnyValue.TheVariants.{Back as InBack}
-use Rattle.log_values.specs.declared.value.BackValue.TheVariants.{Call, Settle}
+use Rattle.log_values.specs.declared.any_value.AnyValue.{AnyValue}
+use Rattle.log_values.specs.declared.any_value.AnyValue.TheVariants.{Back as InBack}
+use Rattle.log_values.specs.declared.back_value.BackValue.TheVariants.{Call, Settle}
 use Rattle.log_values.specs.declared.fact.Fact.{Fact}
 use Rattle.frames.specs.declared.message.Msg.{Msg}
 use Rattle.frames.specs.declared.message.Msg.TheVariants as msgs

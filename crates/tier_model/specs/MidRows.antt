@@ -14,10 +14,10 @@ use Rattle.log_model.specs.declared.turn.Offering.TheVariants.{NotLeader, NoProm
 use Rattle.log_model.specs.Log.{is, nobody, open_at}
 use Rattle.log_model.specs.Rows.{lead, offer, wants as log_wants, on_msg}
 use Rattle.log_model.specs.Recover.{recover}
-use Rattle.log_values.specs.declared.value.AnyValue.{AnyValue}
-use Rattle.log_values.specs.declared.value.AnyValue.TheVariants.{Mid as InMid}
-use Rattle.log_values.specs.declared.value.MidValue.TheVariants.{Batch, Verdict as Decided}
-use Rattle.log_values.specs.declared.value.Entry.{Entry}
+use Rattle.log_values.specs.declared.any_value.AnyValue.{AnyValue}
+use Rattle.log_values.specs.declared.any_value.AnyValue.TheVariants.{Mid as InMid}
+use Rattle.log_values.specs.declared.mid_value.MidValue.TheVariants.{Batch, Verdict as Decided}
+use Rattle.log_values.specs.declared.entry.Entry.{Entry}
 use Rattle.log_values.specs.declared.fact.Fact.{Fact}
 use Rattle.log_values.specs.declared.fact.Fact.TheVariants.{Held}
 use Rattle.frames.specs.declared.message.Msg.{Msg}

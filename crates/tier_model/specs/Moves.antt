@@ -16,7 +16,7 @@ use Rattle.log_model.specs.declared.turn.LogIdle.TheVariants as log_idle
 use Rattle.log_model.specs.declared.turn.Offering.{Offering}
 use Rattle.log_model.specs.declared.turn.Offering.TheVariants.{NotLeader, NoPromises, InFlight, LogFull, Taken, Free}
 use Rattle.log_model.specs.Log.{is}
-use Rattle.log_values.specs.declared.value.AnyValue.{AnyValue}
+use Rattle.log_values.specs.declared.any_value.AnyValue.{AnyValue}
 use Rattle.log_values.specs.declared.fact.Fact.{Fact}
 use Rattle.log_values.specs.declared.fact.Fact.TheVariants.{Promised, Accepted, Learned, Held}
 use Rattle.frames.specs.declared.message.Msg.{Msg}
@@ -25,7 +25,7 @@ use Rattle.frames.specs.declared.turn.Turn.{Turn}
 use Rattle.frames.specs.declared.turn.Turn.TheVariants.{Did, Ran, Dropped, Idle as Idles}
 use Rattle.frames.specs.declared.turn.Idle.{Idle}
 use Rattle.frames.specs.declared.turn.Idle.TheVariants as why
-use Rattle.frames.specs.declared.turn.Refused.TheVariants.{Row}
+use Rattle.frames.specs.declared.header.Refused.TheVariants.{Row}
 use Rattle.round_model.specs.Lists.{each}
 use Rattle.round_model.specs.Answers.{Code}
 

@@ -1,0 +1,46 @@
+// The packets that a turn sends.
+ghost use Rattle.std.specs.Prelude.{◌≡◌, ◌++◌, ◌∷◌, [], OnOk, OnErr};
+
+use aeg_base::{Bytes, End, Memory, Seq};
+use std::alloc::Global;
+use std::marker::Model;
+
+/// The packets that a turn sends, in order, each with whom it goes to.
+#[derive(Debug, Drop)]
+pub struct Outbox {
+    packets: Seq<(End, Bytes)>,
+}
+
+impl Model for Outbox {
+    ghost use Rattle.std.specs.Prelude.{List, ℕ};
+    ghost use Rattle.aeg_base.specs.declared.names.End.{End};
+
+    ghost Value = { List (End × List ℕ) };
+
+    ghost view = { λ o. o.packets };
+}
+
+impl Outbox {
+    /// No packets.
+    pub fn new(alloc: Global) -> Self
+        ensures { result ≡ [] }
+    {
+        Outbox {
+            packets: Seq::new(alloc),
+        }
+    }
+
+    /// Adds a packet at the end.
+    pub fn push(&mut self, to: End, bytes: Bytes) -> Result<(), Memory>
+        ensures ok { OnOk result (self.new ≡ self.old ++ (to, bytes) ∷ []) }
+        ensures err { OnErr result (self.new ≡ self.old) }
+    {
+        self.packets.push((to, bytes))
+    }
+
+    pub fn items(&self) -> &[(End, Bytes)]
+        ensures { result.now ≡ self.now }
+    {
+        self.packets.items()
+    }
+}

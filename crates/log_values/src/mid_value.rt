@@ -1,0 +1,95 @@
+// What the log of the middle tier agrees on.
+ghost use Rattle.std.specs.Prelude.{◌≡◌, ◌++◌, OnOk, IfOk, IfSome, Some};
+ghost use Rattle.log_values.specs.declared.mid_value.MidValue.{MidValue};
+ghost use Rattle.log_values.specs.Values.{mid_value, mid_value_at, mid_body_at, FitsMid};
+ghost use Rattle.log_values.specs.Reading.{Gives, Spells, whole};
+
+use crate::ended::ended;
+use crate::entry::{put_entries, take_entries};
+use crate::format::{BATCH, COMMIT, SERIAL};
+use crate::order::{put_commit, take_commit};
+use crate::{Entry, Misread, Token};
+use aeg_base::{Bytes, Memory, Seq};
+use aeg_wire::{Cursor, put_u8};
+use std::alloc::Global;
+
+/// What became of a round: a token with an order of its segments, or the word that the job runs one by one.
+#[derive(Debug, Drop)]
+pub enum Verdict {
+    Commit { token: Token, order: Seq<u8> },
+    Serial,
+}
+
+/// A value of the middle log: a round's batch, and then its verdict.
+#[derive(Debug, Drop)]
+pub enum MidValue {
+    Batch(Seq<Entry>),
+    Verdict(Verdict),
+}
+
+/// What stands behind a lead byte.
+#[tactic(auto, unfolding(crate::specs::Values::mid_body_at))]
+pub fn take_mid(alloc: Global, lead: u8, from: &mut Cursor<'_>) -> Result<MidValue, Misread>
+    ensures { Gives (λ v. v) result from.new (mid_body_at lead from.old) }
+{
+    match lead {
+        BATCH => {
+            let entries = take_entries(alloc, from)?;
+            Ok(MidValue::Batch(entries))
+        }
+        COMMIT => {
+            let (token, order) = take_commit(alloc, from)?;
+            Ok(MidValue::Verdict(Verdict::Commit { token, order }))
+        }
+        SERIAL => Ok(MidValue::Verdict(Verdict::Serial)),
+        _ => Err(Misread::Outside),
+    }
+}
+
+#[tactic(auto, unfolding(crate::specs::Values::mid_value_at))]
+fn take_led(alloc: Global, from: &mut Cursor<'_>) -> Result<MidValue, Misread>
+    ensures { Gives (λ v. v) result from.new (mid_value_at from.old) }
+{
+    let lead = from.take_u8().ok_or(Misread::Outside)?;
+    let value = take_mid(alloc, lead, from)?;
+    Ok(value)
+}
+
+fn value_in(alloc: Global, bytes: &[u8]) -> Result<Option<MidValue>, Memory>
+    ensures { IfOk result (λ found. found ≡ whole (mid_value_at bytes.now)) }
+{
+    let mut from = Cursor::new(bytes);
+    let read = take_led(alloc, &mut from);
+    ended(read, from.rest())
+}
+
+impl MidValue {
+    /// Writes the one spelling of the value.
+    pub fn encode(&self, out: &mut Bytes) -> Result<(), Memory>
+        requires { FitsMid self.now }
+        ensures { OnOk result (out.new ≡ out.old ++ mid_value self.now) }
+    {
+        match self {
+            MidValue::Batch(entries) => {
+                put_u8(out, BATCH)?;
+                put_u8(out, entries.items().len() as u8)?;
+                put_entries(out, entries.items())?;
+            }
+            MidValue::Verdict(Verdict::Commit { token, order }) => {
+                put_u8(out, COMMIT)?;
+                put_commit(out, token, order.items())?;
+            }
+            MidValue::Verdict(Verdict::Serial) => put_u8(out, SERIAL)?,
+        }
+        Ok(())
+    }
+
+    /// The value that the bytes spell, all of them; none where they spell none.
+    pub fn decode(alloc: Global, bytes: &[u8]) -> Result<Option<Self>, Memory>
+        ensures found { IfOk result (λ found. IfSome found (λ v. Spells FitsMid mid_value bytes.now v)) }
+        ensures only { (v : MidValue) → Spells FitsMid mid_value bytes.now v → IfOk result (λ found. found ≡ Some v) }
+        ensures exact { IfOk result (λ found. found ≡ whole (mid_value_at bytes.now)) }
+    {
+        value_in(alloc, bytes)
+    }
+}
