@@ -1,5 +1,5 @@
 -- A store computes.
-use Rattle.std.specs.Prelude.{◌≡◌, ℕ, List, [], ◌∷◌, refl}
+use Rattle.std.specs.Prelude.{◌≡◌, [], ◌∷◌, refl}
 use Rattle.aeg_base.specs.Numbers.{checked, number_at, with_number}
 use Rattle.aeg_base.specs.Store.{empty, value_at, written, pairs_of, written_all}
 

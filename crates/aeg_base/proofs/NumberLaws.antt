@@ -1,5 +1,5 @@
 -- What a finite map of numbers holds after a write, and that maps which answer alike are equal.
-use Rattle.std.proofs.Common.{◌≡◌, ◌≢◌, ℕ, zero, suc, Bool, true, false, cond, ◌==◌, ◌&&◌, not, List, [], ◌∷◌, if◌then◌else◌, refl, sym, ap, subst, ◌∙◌, unwrap_or, None, Some, Option, eqb-true}
+use Rattle.std.proofs.Common.{◌≡◌, ◌≢◌, ℕ, Bool, true, false, cond, ◌==◌, ◌&&◌, not, List, [], ◌∷◌, if◌then◌else◌, refl, sym, ap, subst, ◌∙◌, unwrap_or, None, Some, Option, eqb-true}
 use Rattle.std.specs.Prelude.{T}
 use Rattle.std.specs.Ordering.{eq_by_cmp}
 use Rattle.std.specs.Cmp.{IsTotalOrder, eq_by_cmp_equiv, alike_right}
@@ -30,6 +30,7 @@ no_zeros-put R k n (e ∷ es) p h = at (no_zeros-put R k n es p rest) (R k e.0)
   where
     rest : T (no_zeros es)
     rest = second (not (e.1 == 0)) (no_zeros es) h
+
     at : T (no_zeros (put R k n es)) → (o : Ordering) → T (no_zeros (by_order o ((k, n) ∷ e ∷ es) ((e.0, n) ∷ es) (e ∷ put R k n es)))
     at ih Less = both (not (n == 0)) _ p h
     at ih Equal = both (not (n == 0)) _ p rest
@@ -51,8 +52,10 @@ canonical-with {K} {R} o m k n = at (n == 0) refl
   where
     sorted : T (is_sorted R m.entries)
     sorted = first (is_sorted R m.entries) (no_zeros m.entries) m.canonical
+
     positive : T (no_zeros m.entries)
     positive = second (is_sorted R m.entries) (no_zeros m.entries) m.canonical
+
     at : (b : Bool) → (n == 0) ≡ b → T (is_canonical R (if b then where_key R (λ q. not (eq_by_cmp R k q)) m.entries else put R k n m.entries))
     at true e = both _ _ (is_sorted-where_key R _ m.entries sorted) (no_zeros-where_key R _ m.entries positive)
     at false e = both _ _ (is_sorted-put R o k n m.entries sorted) (no_zeros-put R k n m.entries (not_zero n e) positive)
@@ -78,6 +81,7 @@ find-with {K} {R} o es k n q = at (n == 0)
   where
     alike : (x : K) → R q x ≡ Equal → not (eq_by_cmp R k x) ≡ not (eq_by_cmp R k q)
     alike x t = ap (λ r. not (is_eq r)) (sym (alike_right o q x k t))
+
     at : (b : Bool) → find R q (if b then where_key R (λ x. not (eq_by_cmp R k x)) es else put R k n es) ≡ cond (eq_by_cmp R q k) (if b then None else Some n) (find R q es)
     at true = find-where_key R (λ x. not (eq_by_cmp R k x)) q alike es ∙ turned (eq_by_cmp R k q) (find R q es) None
         ∙ ap (λ b. cond b None (find R q es)) ((eq_by_cmp_equiv o).symm k q)
@@ -113,6 +117,7 @@ not_found_zero R q (x ∷ es) h e = at (eq_by_cmp R q x.0) (not_found_zero R q e
   where
     positive : x.1 ≡ 0 → ⊥
     positive z = subst (λ n. T (not (n == 0))) z (first (not (x.1 == 0)) (no_zeros es) h)
+
     at : (b : Bool) → (find R q es ≢ Some 0) → cond b (Some x.1) (find R q es) ≡ Some 0 → ⊥
     at true ih e = positive (ap (λ o. unwrap_or o 0) e)
     at false ih e = ih e

@@ -1,5 +1,5 @@
 -- The order of ballots: by counter, then by node.
-use Rattle.std.specs.Prelude.{◌≡◌, ℕ, ◌==◌, ◌||◌, ◌&&◌, Bool, nat_lt, not}
+use Rattle.std.specs.Prelude.{◌==◌, ◌||◌, ◌&&◌, Bool, nat_lt, not}
 use Rattle.aeg_base.specs.declared.names.Ballot.{Ballot}
 
 abbrev pub no_ballot : Ballot

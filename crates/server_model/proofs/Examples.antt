@@ -1,9 +1,8 @@
 -- The worked runs of the one server, computed: the text that each input is answered with, and the refusals.
-use Rattle.std.specs.Prelude.{◌≡◌, ℕ, List, [], ◌∷◌, ◌++◌, Option, None, Some, codes, refl, length}
+use Rattle.std.specs.Prelude.{◌≡◌, [], None, Some, codes, refl}
 use Rattle.std.specs.Fmt.{digits}
 use Rattle.aeg_base.specs.Numbers.{checked, number_at, with_number}
-use Rattle.server_model.specs.Single.{Judged, Reads, Fails, judgement, Outcome, run_of, steps_line}
-use Rattle.server_model.specs.declared.history.Numbered.{Numbered}
+use Rattle.server_model.specs.Single.{Judged, Reads, Fails, judgement, Outcome, run_of}
 
 -- what goes out for an input, and the line and rule of its first refused step
 abbrev answered : Judged → Outcome

@@ -1,7 +1,7 @@
 -- The two services that nested calls go to: inventory has the taken seats of each trip, payment the spent amount of each
 -- client. A call is answered by 0 where it is granted, else by the number of its denial, and a denied call changes
 -- nothing.
-use Rattle.std.specs.Prelude.{ℕ, ◌+◌, ◌-◌, ◌==◌, nat_lt, List, [], ◌∷◌, codes, if◌then◌else◌, Option, Some, None}
+use Rattle.std.specs.Prelude.{ℕ, ◌+◌, ◌-◌, nat_lt, List, [], ◌∷◌, codes, if◌then◌else◌, Option, Some}
 use Rattle.std.specs.Ordering.{nat_cmp}
 use Rattle.std.specs.Str.{bytes_eq}
 use Rattle.aeg_base.specs.Numbers.{Numbers, no_numbers, number_at, with_number}

@@ -111,7 +111,7 @@ open_row trip cap price link s =
     if not (value_at s (cell 0 trip) == 0) then answers s (cell 0 trip ∷ []) already_open
     else if link == trip then answers s (cell 0 trip ∷ []) bad_trip
     else does s (cell 0 trip ∷ []) ((cell 0 trip, cap) ∷ (cell 1 trip, price) ∷ (cell 2 trip, link) ∷ [])
-        (Reply (codes "opened" ++ shown trip))
+    (Reply (codes "opened" ++ shown trip))
 
 -- BOOK
 
@@ -139,7 +139,7 @@ book_row who trip qty s =
     else if not (link == 0) && nat_lt link_cap (capped (link_count + qty)) then answers s reads link_full
     else if nat_le 4 live then answers s reads too_many
     else does s reads (booked_writes who.client (booking_of who) trip qty link count link_count live)
-        (Call Inv 1 (reserve_text trip qty))
+    (Call Inv 1 (reserve_text trip qty))
 
 -- the same booking, given back
 abbrev pub returned_writes : ℕ → ℕ → ℕ → ℕ → ℕ → ℕ → ℕ → List (Key × ℕ)
@@ -162,8 +162,8 @@ abbrev pub book_returns : ReqId → ℕ → ℕ → List (Key × ℕ) → Ending
 book_returns who trip qty more ending s =
     let link = value_at s (cell 2 trip) in
     does s (return_reads who.client trip link)
-        (returned_writes who.client trip qty link (value_at s (cell 3 trip)) (value_at s (cell 3 (narrow link))) (value_at s (cell 4 who.client)) ++ more)
-        ending
+    (returned_writes who.client trip qty link (value_at s (cell 3 trip)) (value_at s (cell 3 (narrow link))) (value_at s (cell 4 who.client)) ++ more)
+    ending
 
 abbrev pub book_no_stock : ReqId → ℕ → ℕ → Store → Segment
 book_no_stock who trip qty s = book_returns who trip qty (cleared_writes (booking_of who)) (Reply no_stock) s
@@ -189,12 +189,12 @@ cancel_row who booking s =
     else if not (owner_of booking == who.client) then answers s reads not_yours
     else if not (status == 2) then answers s reads not_booked
     else does s (reads ++ cell 1 trip ∷ []) ((cell 5 booking, 3) ∷ [])
-        (Call Pay 1 (refund_text who.client (capped (value_at s (cell 1 trip) * qty))))
+    (Call Pay 1 (refund_text who.client (capped (value_at s (cell 1 trip) * qty))))
 
 abbrev pub cancel_releases : ℕ → Store → Segment
 cancel_releases booking s =
     does s (cell 6 booking ∷ cell 7 booking ∷ []) []
-        (Call Inv 2 (release_text (narrow (value_at s (cell 6 booking))) (narrow (value_at s (cell 7 booking)))))
+    (Call Inv 2 (release_text (narrow (value_at s (cell 6 booking))) (narrow (value_at s (cell 7 booking)))))
 
 abbrev pub cancel_cancelled : ReqId → ℕ → Store → Segment
 cancel_cancelled who booking s =
@@ -202,8 +202,8 @@ cancel_cancelled who booking s =
     let qty = value_at s (cell 7 booking) in
     let link = value_at s (cell 2 trip) in
     does s (cell 6 booking ∷ cell 7 booking ∷ cell 2 trip ∷ cell 3 trip ∷ cell 4 who.client ∷ where_linked link (cell 3 (narrow link) ∷ []))
-        (returned_writes who.client trip qty link (value_at s (cell 3 trip)) (value_at s (cell 3 (narrow link))) (value_at s (cell 4 who.client)) ++ cleared_writes booking)
-        (Reply (codes "cancelled" ++ shown booking))
+    (returned_writes who.client trip qty link (value_at s (cell 3 trip)) (value_at s (cell 3 (narrow link))) (value_at s (cell 4 who.client)) ++ cleared_writes booking)
+    (Reply (codes "cancelled" ++ shown booking))
 
 -- LOOK
 

@@ -47,8 +47,13 @@ server_code {B} backend = code_by (Parts B)
     (coded× (coded× (coded_list (item_code text_code)) (coded_list (item_code coded_ℕ))) (coded× (coded× backend backend) (coded_list (coded× request_code text_code)))))
     (λ s. ((s.store, (s.last, s.progress)), ((s.calls, s.served), ((s.inventory, s.payment), s.replies))))
     (λ p. record {
-      store = p.0.0; last = p.0.1.0; progress = p.0.1.1;
-      calls = p.1.0.0; served = p.1.0.1;
-      inventory = p.1.1.0.0; payment = p.1.1.0.1; replies = p.1.1.1;
+      store = p.0.0;
+      last = p.0.1.0;
+      progress = p.0.1.1;
+      calls = p.1.0.0;
+      served = p.1.0.1;
+      inventory = p.1.1.0.0;
+      payment = p.1.1.0.1;
+      replies = p.1.1.1;
     })
     (λ _. refl)

@@ -1,4 +1,5 @@
 pub mod Words
+pub mod Further
 pub mod Requests
 pub mod Booking
 pub mod Backends

@@ -13,20 +13,13 @@ use Rattle.server_model.specs.declared.history.Hist.{Hist}
 use Rattle.server_model.specs.declared.history.Hist.TheVariants.{Start, Serve, Resume}
 use Rattle.server_model.specs.declared.history.Told.{Told}
 use Rattle.server_model.specs.declared.history.Told.TheVariants.{Replied, Called, Answered}
+pub use Rattle.server_model.specs.declared.progress.Progress.{Progress}
 
 -- what the server runs: the service's table, and the backends, whose states are of the type B
 pub record Meaning (B : Type 0) : Type 0 where
   pub table : ReqId → List ℕ → ℕ → Option (Option ℕ → Store → Segment)
   pub opening : Tier → B
   pub serve : Tier → B → List ℕ → Served B
-
--- a request whose call was made, and the stage at which it goes on
-pub record Progress : Type 0 where
-  pub seq : ℕ
-  pub body : List ℕ
-  pub stage : ℕ
-  pub tier : Tier
-  pub number : ℕ
 
 -- last and progress are by client, who are numbered from 1. A call has its tier, number and text, a served one its code;
 -- calls, served ones and replies are in the order of the steps.

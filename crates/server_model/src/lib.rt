@@ -2,7 +2,11 @@
 #![tactic(auto)]
 
 mod history;
+mod progress;
 mod request;
+mod words;
 
 pub use history::{Hist, Numbered, Told};
+pub use progress::Progress;
 pub use request::Request;
+pub use words::{first_part, next_part, number};

@@ -12,5 +12,4 @@ pub fn frame_law()
     ensures keys { (p : Plan) (s t : Store) (locked : ℕ → Bool) → AreLocked locked (keys_of p s) → AgreeWhere locked s t → keys_of p t ≡ keys_of p s }
     ensures changes { (p : Plan) (s t : Store) (locked : ℕ → Bool) → AreLocked locked (keys_of p s) → AgreeWhere locked s t → AgreeWhere locked (store_after p s) (store_after p t) }
     ensures elsewhere { (p : Plan) (s : Store) (locked : ℕ → Bool) (k : Key) → AreLocked locked (keys_of p s) → locked (lock_number k) ≡ false → value_at (store_after p s) k ≡ value_at s k }
-{
-}
+{}

@@ -1,0 +1,11 @@
+//! The two services that nested calls go to: the seats of trips, and what clients spend.
+#![tactic(auto)]
+
+mod inventory;
+mod ledger;
+mod payment;
+#[cfg(test)]
+mod tests;
+
+pub use inventory::Inventory;
+pub use payment::Payment;

@@ -1,0 +1,6 @@
+//! The groups of a job: segments whose declared locks don't meet.
+#![tactic(auto)]
+
+mod groups;
+
+pub use groups::groups;

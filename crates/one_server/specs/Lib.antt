@@ -1,0 +1,4 @@
+pub mod Clients
+pub mod Places
+pub mod Steps
+pub mod Writes

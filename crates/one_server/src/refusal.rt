@@ -1,0 +1,33 @@
+// Why a step isn't made.
+use aeg_base::Memory;
+use std::alloc::AllocError;
+
+/// Why a step isn't made.
+#[derive(Clone, Copy, Debug, PartialEq, Eq)]
+pub enum StepErr {
+    /// The step is refused by this rule.
+    Illegal { row: u8 },
+    Memory,
+}
+
+impl From<Memory> for StepErr {
+    ghost use Rattle.std.specs.Prelude.{◌≡◌};
+    ghost use Rattle.one_server.specs.declared.refusal.StepErr.TheVariants as errs;
+
+    ghost from_gives = { λ _ e. e ≡ errs.Memory };
+
+    fn from(_: Memory) -> Self {
+        StepErr::Memory
+    }
+}
+
+impl From<AllocError> for StepErr {
+    ghost use Rattle.std.specs.Prelude.{◌≡◌};
+    ghost use Rattle.one_server.specs.declared.refusal.StepErr.TheVariants as errs;
+
+    ghost from_gives = { λ _ e. e ≡ errs.Memory };
+
+    fn from(_: AllocError) -> Self {
+        StepErr::Memory
+    }
+}

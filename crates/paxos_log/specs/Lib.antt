@@ -1,0 +1,2 @@
+pub mod TierLog
+pub mod Parts
