@@ -14,6 +14,8 @@ use Rattle.booking.specs.declared.course.OpenPlace.{OpenPlace}
 use Rattle.booking.specs.declared.course.OpenPlace.TheVariants as opening
 use Rattle.booking.specs.declared.course.BookPlace.{BookPlace}
 use Rattle.booking.specs.declared.course.BookPlace.TheVariants as booking
+use Rattle.booking.specs.declared.course.EntryPlace.{EntryPlace}
+use Rattle.booking.specs.declared.course.EntryPlace.TheVariants as entering
 use Rattle.booking.specs.declared.course.Asked.{Asked}
 use Rattle.booking.specs.declared.course.Asked.TheVariants.{Reserve, Charge}
 use Rattle.booking.specs.declared.course.ReturnPlace.{ReturnPlace}
@@ -25,7 +27,7 @@ use Rattle.booking.specs.declared.course.ViewPlace.TheVariants as viewing
 use Rattle.booking.specs.declared.course.RecallPlace.{RecallPlace}
 use Rattle.booking.specs.declared.course.RecallPlace.TheVariants as recalling
 use Rattle.booking.specs.declared.course.Course.{Course}
-use Rattle.booking.specs.declared.course.Course.TheVariants.{Opens, Books, Answers, Charges, Booked, Returns, Clears, Releases, Views, Recalls}
+use Rattle.booking.specs.declared.course.Course.TheVariants.{Opens, Books, Enters, Answers, Charges, Booked, Returns, Clears, Releases, Views, Recalls}
 use Rattle.booking.specs.declared.turn.Turn.{Turn}
 
 -- WHAT IS LEFT, GIVEN WHAT THE LAST READ OR THE CALL'S ANSWER TOLD
@@ -45,12 +47,14 @@ book_plan b (booking.HasLink cap count) told = has_link b cap count told
 book_plan b (booking.HasLive cap count link) told = has_live b cap count link told
 book_plan b (booking.HasLinkCap state) told = has_link_cap b state told
 book_plan b (booking.HasLinkCount state link_cap) told = books_with b state link_cap told
-book_plan b (booking.PutsLinkCount state link_count) told = puts_link_count b state link_count
-book_plan b (booking.PutsLive live) told = puts_live b live
-book_plan b booking.PutsStatus told = puts_status b
-book_plan b booking.PutsTrip told = puts_trip b
-book_plan b booking.PutsQty told = puts_qty b
-book_plan b booking.Reserves told = reserves b
+
+abbrev pub entry_plan : NewBooking → EntryPlace → Plan
+entry_plan b (entering.PutsLinkCount state link_count) = puts_link_count b state link_count
+entry_plan b (entering.PutsLive live) = puts_live b live
+entry_plan b entering.PutsStatus = puts_status b
+entry_plan b entering.PutsTrip = puts_trip b
+entry_plan b entering.PutsQty = puts_qty b
+entry_plan b entering.Reserves = reserves b
 
 abbrev pub answer_plan : NewBooking → Asked → ℕ → Plan
 answer_plan b Reserve told = is_reserved b told
@@ -88,6 +92,7 @@ recall_plan c (recalling.HasCount trip qty link) told = recall_has_count c trip 
 abbrev pub course_plan : Course → ℕ → Plan
 course_plan (Opens trip place) told = open_plan trip place told
 course_plan (Books booking place) told = book_plan booking place told
+course_plan (Enters booking place) told = entry_plan booking place
 course_plan (Answers booking asked) told = answer_plan booking asked told
 course_plan (Charges booking) told = charges_with booking told
 course_plan (Booked booking) told = reply_booked booking
@@ -114,12 +119,14 @@ book_budget (booking.HasLink cap count) = 9
 book_budget (booking.HasLive cap count link) = 8
 book_budget (booking.HasLinkCap state) = 7
 book_budget (booking.HasLinkCount state link_cap) = 6
-book_budget (booking.PutsLinkCount state link_count) = 5
-book_budget (booking.PutsLive live) = 4
-book_budget booking.PutsStatus = 3
-book_budget booking.PutsTrip = 2
-book_budget booking.PutsQty = 1
-book_budget booking.Reserves = 0
+
+abbrev pub entry_budget : EntryPlace → ℕ
+entry_budget (entering.PutsLinkCount state link_count) = 5
+entry_budget (entering.PutsLive live) = 4
+entry_budget entering.PutsStatus = 3
+entry_budget entering.PutsTrip = 2
+entry_budget entering.PutsQty = 1
+entry_budget entering.Reserves = 0
 
 abbrev pub return_budget : ReturnPlace → ℕ
 return_budget returning.HasCount = 9
@@ -153,6 +160,7 @@ recall_budget (recalling.HasCount trip qty link) = 8
 abbrev pub course_budget : Course → ℕ
 course_budget (Opens trip place) = open_budget place
 course_budget (Books booking place) = book_budget place
+course_budget (Enters booking place) = entry_budget place
 course_budget (Answers booking asked) = 10
 course_budget (Charges booking) = 0
 course_budget (Booked booking) = 0
@@ -164,16 +172,17 @@ course_budget (Recalls recall place) = recall_budget place
 
 -- THE STAGE AT WHICH THE REQUEST GOES ON
 
-abbrev pub book_stage : BookPlace → ℕ
-book_stage booking.Reserves = 1
-book_stage _ = 0
+abbrev pub entry_stage : EntryPlace → ℕ
+entry_stage entering.Reserves = 1
+entry_stage _ = 0
 
 abbrev pub view_stage : ViewPlace → ℕ
 view_stage (viewing.Refunds amount) = 1
 view_stage _ = 0
 
 abbrev pub course_stage : Course → ℕ
-course_stage (Books booking place) = book_stage place
+course_stage (Enters booking place) = entry_stage place
+course_stage (Books booking place) = 0
 course_stage (Charges booking) = 2
 course_stage (Releases trip qty stage) = stage
 course_stage (Views view place) = view_stage place

@@ -2,3 +2,8 @@ pub mod Reading
 pub mod Refusals
 pub mod Places
 pub mod Course
+pub mod Beginning
+pub mod Folds
+pub mod Ranges
+pub mod Proper
+pub mod Again

@@ -116,7 +116,7 @@ is_returned r Release = releases r.trip r.qty 3
 is_returned r (Clear booking closing) = clears booking closing
 
 abbrev pub returns_live : Return → ℕ → Plan
-returns_live r live = Writes (cell 4 r.client) (live - 1) (is_returned r r.then)
+returns_live r live = Writes (cell 4 r.client) (live - 1) (is_returned r r.after)
 
 abbrev pub returns_link_count : Return → ℕ → ℕ → ℕ → Plan
 returns_link_count r link live link_count = Writes (cell 3 (narrow link)) (link_count - r.qty) (returns_live r live)
@@ -146,7 +146,7 @@ abbrev pub reply_booked : ℕ → Plan
 reply_booked booking = Ends (Reply (codes "booked" ++ shown booking))
 
 abbrev pub return_of : NewBooking → AfterReturn → Return
-return_of b then = record { client = b.client; trip = b.trip; qty = b.qty; then = then }
+return_of b after = record { client = b.client; trip = b.trip; qty = b.qty; after = after }
 
 -- the seats were granted with the code 0, or not
 abbrev pub is_reserved : NewBooking → ℕ → Plan
@@ -182,7 +182,7 @@ views v = Reads (cell 5 v.booking) (view_has_status v)
 -- GOING ON WITH A CANCELLATION
 
 abbrev pub recall_return : Recall → ℕ → ℕ → Return
-recall_return c trip qty = record { client = c.client; trip = narrow trip; qty = qty; then = Clear c.booking Cancelled }
+recall_return c trip qty = record { client = c.client; trip = narrow trip; qty = qty; after = Clear c.booking Cancelled }
 
 abbrev pub recall_has_count : Recall → ℕ → ℕ → ℕ → ℕ → Plan
 recall_has_count c trip qty link count = return_has_link (recall_return c trip qty) count link

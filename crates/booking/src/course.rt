@@ -36,6 +36,11 @@ pub enum BookPlace {
     HasLive { cap: u64, count: u64, link: u64 },
     HasLinkCap(TripState),
     HasLinkCount { state: TripState, link_cap: u64 },
+}
+
+/// Where the writes of a booking stand.
+#[derive(Clone, Copy, Debug, PartialEq, Eq)]
+pub enum EntryPlace {
     PutsLinkCount { state: TripState, link_count: u64 },
     PutsLive { live: u64 },
     PutsStatus,
@@ -66,7 +71,7 @@ pub struct Return {
     pub client: u8,
     pub trip: u32,
     pub qty: u64,
-    pub then: AfterReturn,
+    pub after: AfterReturn,
 }
 
 /// What is done once the seats are given back.
@@ -79,11 +84,26 @@ pub enum AfterReturn {
 #[derive(Clone, Copy, Debug, PartialEq, Eq)]
 pub enum ReturnPlace {
     HasCount,
-    HasLink { count: u64 },
-    HasLive { count: u64, link: u64 },
-    HasLinkCount { count: u64, link: u64, live: u64 },
-    PutsLinkCount { link: u64, link_count: u64, live: u64 },
-    PutsLive { live: u64 },
+    HasLink {
+        count: u64,
+    },
+    HasLive {
+        count: u64,
+        link: u64,
+    },
+    HasLinkCount {
+        count: u64,
+        link: u64,
+        live: u64,
+    },
+    PutsLinkCount {
+        link: u64,
+        link_count: u64,
+        live: u64,
+    },
+    PutsLive {
+        live: u64,
+    },
 }
 
 /// The reply to a request whose booking is cleared.
@@ -142,12 +162,23 @@ pub enum RecallPlace {
 pub enum Course {
     Opens(NewTrip, OpenPlace),
     Books(NewBooking, BookPlace),
+    Enters(NewBooking, EntryPlace),
     Answers(NewBooking, Asked),
     Charges(NewBooking),
-    Booked { booking: u32 },
+    Booked {
+        booking: u32,
+    },
     Returns(Return, ReturnPlace),
-    Clears { booking: u32, closing: Closing, place: ClearPlace },
-    Releases { trip: u32, qty: u64, stage: u8 },
+    Clears {
+        booking: u32,
+        closing: Closing,
+        place: ClearPlace,
+    },
+    Releases {
+        trip: u32,
+        qty: u64,
+        stage: u8,
+    },
     Views(View, ViewPlace),
     Recalls(Recall, RecallPlace),
 }

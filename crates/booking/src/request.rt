@@ -14,10 +14,13 @@ pub struct BadRequest {
 }
 
 const FIRST_WORD: BadRequest = BadRequest { row: 1 };
+
 const WORDS: BadRequest = BadRequest { row: 2 };
+
 const RANGE: BadRequest = BadRequest { row: 3 };
 
 const LAST_TRIP: u32 = 9_999;
+
 const LAST_BOOKING: u32 = 1_048_576;
 
 /// The request that the text is.

@@ -1,6 +1,6 @@
 //! The groups of a job: segments whose declared locks don't meet.
 #![tactic(auto)]
 
-mod groups;
+mod mixer;
 
-pub use groups::groups;
+pub use mixer::groups;

@@ -28,3 +28,10 @@ pub newest_before : (s : Store) (ws : List Write) (i : ℕ) (w : Write) (q : Key
 newest_before s ws i w q h is other =
     after_more s ws i w q h ∙ ap (λ (x : Write). cond (same_key q x.key) x.value (value_at (after s (take i ws)) q)) (sym is)
     ∙ ap (λ b. cond b w.value (value_at (after s (take i ws)) q)) other
+
+-- one more of the writes is made
+pub one_more : (s : Store) (ws : List Write) (i : ℕ) (w : Write) → i < length ws → w ≡ get_or ws i w → written (after s (take i ws)) w.key w.value ≡ after s (take (i + 1) ws)
+one_more s ws i w h is =
+    ap (λ (x : Write). written (after s (take i ws)) x.key x.value) is
+    ∙ sym (after-append s (take i ws) (get_or ws i w))
+    ∙ ap (λ (xs : List Write). after s xs) (sym (take_more ws i w h))

@@ -45,7 +45,7 @@ fn first_group(groups: &[Vec<u8>], sets: &[LockSet], i: u8) -> usize
     ensures within { result ≤ length groups.now }
     ensures first { FirstFit (set_at sets.now) i (lists_of groups.now) result }
 {
-    for at in 0..groups.len() {
+    'groups: for at in 0..groups.len() {
         if fits_in(&groups[at], sets, i) {
             return at;
         }
@@ -59,7 +59,7 @@ fn fits_in(group: &[u8], sets: &[LockSet], i: u8) -> bool
     requires members { All (λ j. j < length sets.now) group.now }
     ensures { result ≡ fits (set_at sets.now) (set_at sets.now i) group.now }
 {
-    for j in group {
+    'members: for j in group {
         if sets[usize::from(i)].meets(&sets[usize::from(*j)]) {
             return false;
         }

@@ -1,0 +1,7 @@
+use Rattle.std.proofs.Common.{ℕ}
+use Rattle.key_mixer.specs.Lists.{lists_of, set_at, FirstFit}
+use Rattle.key_mixer.proofs.Fits.{NoneFits}
+use Rattle.key_mixer.proofs.mixer.first_group.Given as goal
+
+abbrev pub invariant-groups : goal.invariant-groups
+invariant-groups l = NoneFits (set_at l.sets) l.i (lists_of l.groups) l.at
