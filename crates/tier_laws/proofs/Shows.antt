@@ -12,6 +12,7 @@ use Rattle.svc_api.specs.declared.action.Ending.{Ending}
 use Rattle.svc_api.specs.declared.action.Ending.TheVariants.{Reply, Call}
 use Rattle.server_model.specs.Backends.{Served}
 use Rattle.server_model.specs.Server as real
+use Rattle.server_model.specs.declared.progress.Progress.{Progress as Waiting}
 use Rattle.server_model.specs.Server.{same_tier, found_in}
 use Rattle.server_model.specs.History.{History, server_from as real_from, server_or, IsMade, LegalFrom as RealFrom}
 use Rattle.server_model.specs.declared.history.Hist.{Hist}
@@ -26,7 +27,7 @@ use Rattle.tier_laws.proofs.Maps.Result.{Refused, Done}
 use Rattle.tier_laws.proofs.Lists.{put_here, put_there, tier_same, tier_eq, tier_cases}
 use Rattle.tier_laws.proofs.Rounds.{number_cases, number_here}
 
-abbrev as_progress : Option Progress → Option real.Progress
+abbrev as_progress : Option Progress → Option Waiting
 as_progress None = None
 as_progress (Some g) = Some (record { seq = g.seq; body = g.body; stage = g.stage; tier = g.tier; number = g.num })
 
