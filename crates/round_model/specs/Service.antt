@@ -1,6 +1,6 @@
 -- What a replicated tier runs: the service's table with the backends', the programs that its executor interleaves, and
 -- the spelling of a job's outcome. What its segments and jobs come to.
-use Rattle.std.specs.Prelude.{ℕ, zero, suc, ◌+◌, Bool, true, false, ◌&&◌, ◌==◌, nat_lt, List, [], ◌∷◌, length, slice_get, Option, Some, None, if◌then◌else◌}
+use Rattle.std.specs.Prelude.{ℕ, zero, suc, ◌+◌, Bool, true, ◌&&◌, ◌==◌, nat_lt, List, [], ◌∷◌, length, slice_get, Option, Some, None, if◌then◌else◌}
 use Rattle.aeg_base.specs.Store.{Store, written_all}
 use Rattle.aeg_base.specs.declared.names.ReqId.{ReqId}
 use Rattle.svc_api.specs.Segment.{Segment}

@@ -1,6 +1,6 @@
 -- The tables of the rounds: the clients, the requests that wait for their calls, the next numbers of calls. The job of a
 -- round, and what it makes of the tables.
-use Rattle.std.specs.Prelude.{ℕ, zero, suc, Bool, true, false, ◌&&◌, not, ◌==◌, nat_le, List, [], ◌∷◌, ◌++◌, map, replicate, take, Option, Some, None, if◌then◌else◌}
+use Rattle.std.specs.Prelude.{ℕ, zero, suc, Bool, false, ◌&&◌, not, ◌==◌, nat_le, List, [], ◌∷◌, ◌++◌, map, replicate, take, Option, Some, None, if◌then◌else◌}
 use Rattle.aeg_base.specs.Store.{Store, empty}
 use Rattle.aeg_base.specs.declared.names.ReqId.{ReqId}
 use Rattle.aeg_base.specs.declared.names.Tier.{Tier}

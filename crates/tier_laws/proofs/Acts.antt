@@ -1,11 +1,10 @@
 -- A round's segments with their ends and numbers, by index.
-use Rattle.std.proofs.Common.{◌≡◌, ℕ, ◌<◌, ◌≤◌, true, false, List, [], ◌∷◌, length, refl, sym, ap, ◌∙◌, subst, inl, inr, Option, Some, None, zero, suc, arith}
-use Rattle.std.specs.Prelude.{slice_get, ◌⊎◌, ◌==◌, slice_index_or}
-use Rattle.std.proofs.lemmas.Bool.{cond_both, eq-eqb, ne_eqb, cond-true, cond-false, cases_eq}
+use Rattle.std.proofs.Common.{◌≡◌, ℕ, ◌<◌, ◌≤◌, false, List, [], ◌∷◌, length, refl, sym, ap, ◌∙◌, subst, inl, inr, Option, Some, None, zero, suc, arith}
+use Rattle.std.specs.Prelude.{slice_get, ◌⊎◌, ◌==◌}
+use Rattle.std.proofs.lemmas.Bool.{eq-eqb, ne_eqb, cond-true, cond-false, cases_eq}
 use Rattle.aeg_base.specs.declared.names.Tier.{Tier}
-use Rattle.aeg_base.specs.declared.names.Tier.TheVariants.{Inv, Pay}
 use Rattle.round_model.specs.Lists.{at, put_at, OfTiers, of_tier}
-use Rattle.tier_laws.proofs.Lists.{at_here, at_there, tier_same, tier_eq, tier_cases, of_here, of_there}
+use Rattle.tier_laws.proofs.Lists.{at_here, at_there, tier_cases, of_here, of_there}
 use Rattle.round_model.specs.Tables.{Parked, Want, bump, kept_after, kept_by, kept_of, last_of, last_after, next_after, numbers, parked_of, parks}
 use Rattle.server_model.specs.Server.{same_tier}
 use Rattle.svc_api.specs.declared.action.Ending.{Ending}

@@ -1,10 +1,9 @@
 -- A round that a middle node can apply is the decided one.
-use Rattle.std.proofs.Common.{◌≡◌, ℕ, ◌+◌, ◌*◌, ◌<◌, ◌≤◌, Bool, true, false, cond, List, [], ◌∷◌, ◌++◌, length, refl, sym, ap, ◌∙◌, subst, inl, inr, Option, Some, None, zero, suc, arith}
-use Rattle.std.specs.Prelude.{slice_get, ◌⊎◌, ◌==◌, ◌&&◌, nat_le}
-use Rattle.std.proofs.lemmas.Bool.{cond-true, cond_both, and_parts, eqb-true, cases_lt}
+use Rattle.std.proofs.Common.{◌≡◌, ℕ, ◌+◌, ◌*◌, ◌<◌, Bool, true, false, cond, List, [], ◌∷◌, length, refl, sym, ap, ◌∙◌, subst, Option, Some, None, zero, suc, arith}
+use Rattle.std.specs.Prelude.{slice_get, ◌==◌, ◌&&◌, nat_le}
+use Rattle.std.proofs.lemmas.Bool.{cond-true, cond_both, and_parts, eqb-true}
 use Rattle.std.proofs.lemmas.Option.{cond_some}
 use Rattle.aeg_base.specs.declared.names.Tier.{Tier}
-use Rattle.exec_model.specs.declared.job.Seg.{Seg}
 use Rattle.log_model.proofs.Basics.{Every, every-append}
 use Rattle.log_model.specs.Log.{nobody}
 use Rattle.log_values.specs.declared.any_value.AnyValue.{AnyValue}
@@ -13,11 +12,11 @@ use Rattle.log_values.specs.declared.entry.Entry.{Entry}
 use Rattle.log_values.specs.declared.mid_value.MidValue.TheVariants.{Batch, Verdict as Decided}
 use Rattle.log_values.specs.declared.mid_value.Verdict.{Verdict}
 use Rattle.log_values.specs.declared.mid_value.Verdict.TheVariants.{Commit, Serial}
-use Rattle.round_model.specs.After.{Round, after, batch_at, done, order_in, round, round_at, verdict_at, verdict_in}
-use Rattle.round_model.specs.Answers.{Code, Noted, code_of}
-use Rattle.round_model.specs.Lists.{OfTiers, of_tier, and_then, below, each, half, is_some, odd}
+use Rattle.round_model.specs.After.{Round, after, batch_at, round_at, verdict_at, verdict_in}
+use Rattle.round_model.specs.Answers.{Code, code_of}
+use Rattle.round_model.specs.Lists.{OfTiers, of_tier, and_then, below, each, half, odd}
 use Rattle.round_model.specs.Service.{Finish, finish_by, Service, finish, is_order}
-use Rattle.round_model.specs.Tables.{last_of, pending_of, drop_done, Codes as Answers, Tables, Want, bump, job_of, not_done, settled, wants}
+use Rattle.round_model.specs.Tables.{last_of, pending_of, drop_done, Tables, Want, bump, job_of, not_done, settled, wants}
 use Rattle.round_model.specs.Verdicts.{Vote, without_round}
 use Rattle.run_model.specs.World.{Config}
 use Rattle.server_model.specs.Server.{same_tier}
@@ -25,18 +24,16 @@ use Rattle.svc_api.specs.declared.action.Ending.{Ending}
 use Rattle.svc_api.specs.declared.action.Ending.TheVariants.{Call, Reply}
 use Rattle.tier_laws.proofs.Acts.{Act, acts}
 use Rattle.tier_laws.proofs.Lists.{tier_eq}
-use Rattle.tier_laws.proofs.Ledger.{Decision, TablesOk, ToldAll, finish_in, half-is, ordered}
+use Rattle.tier_laws.proofs.Ledger.{Decision, TablesOk, finish_in, half-is, ordered}
 use Rattle.tier_laws.proofs.Legal.{within_get}
-use Rattle.tier_laws.proofs.Past.{DidRun, Known, MidOk, MidOther, SentOk, Past, Submitted, VerdictBy, VerdictOk}
+use Rattle.tier_laws.proofs.Past.{Known, MidOk, MidOther, SentOk, Past, VerdictBy, VerdictOk}
 use Rattle.tier_laws.proofs.Rounds.{ToldOne}
 use Rattle.tier_laws.proofs.Stable.{MoreAnswers, MoreLog, RoundParts, after-step, batch-more, job-more, round_parts, then_parts, verdict-more, verdict_in-some}
-use Rattle.tier_laws.proofs.Maps.{Server}
 use Rattle.tier_laws.proofs.Changes.{written-changes}
 use Rattle.tier_laws.proofs.Ranges.{RoundIn, round_in}
 use Rattle.svc_api.specs.declared.outcome.Outcome.{Outcome}
 use Rattle.exec_model.specs.Outcomes as changes
 use Rattle.tier_model.specs.Mid.{Mid, Ready, finish_of, call_to, apply, calls_to, fits, ready, tells}
-use Rattle.tier_model.specs.Moves.{Packet}
 
 pub every-each : {A : Type 0} (P : A → Type 0) (n : ℕ) (skip : ℕ → Bool) (f : ℕ → A) → ((y : ℕ) → P (f y)) → Every P (each n skip f)
 every-each P zero skip f k = tt

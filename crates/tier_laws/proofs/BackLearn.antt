@@ -1,52 +1,31 @@
 -- A backend node learns, offers, retries and restarts.
-use Rattle.std.proofs.Common.{◌≡◌, ℕ, ◌+◌, ◌*◌, ◌-◌, ◌<◌, ◌≤◌, Bool, true, false, cond, List, [], ◌∷◌, ◌++◌, length, map, refl, sym, ap, ◌∙◌, subst, inl, inr, Option, Some, None, zero, suc, arith, length-append}
-use Rattle.std.specs.Prelude.{slice_get, ◌⊎◌, ◌==◌, ◌&&◌, ◌||◌, not, nat_lt, nat_le, take}
-use Rattle.std.proofs.lemmas.Bool.{cond-true, cond-false, cond_both, and_parts, or_parts, eqb-true, eq-eqb, ne_eqb, ltb-true, ltb-false, lt-ltb, leb-true, leb-false, cases_lt, cases_eq}
+use Rattle.std.proofs.Common.{◌≡◌, ℕ, ◌+◌, ◌*◌, ◌<◌, ◌≤◌, Bool, true, false, cond, List, [], ◌∷◌, ◌++◌, length, refl, sym, ap, ◌∙◌, subst, inl, inr, Option, Some, None, zero, suc, arith}
+use Rattle.std.specs.Prelude.{slice_get, ◌⊎◌, ◌==◌, ◌&&◌, ◌||◌, nat_lt, take}
+use Rattle.std.proofs.lemmas.Bool.{cond-true, cond-false, and_parts, eqb-true, eq-eqb, ltb-true, ltb-false, cases_lt, cases_eq}
 use Rattle.std.proofs.lemmas.Option.{cond_some}
-use Rattle.aeg_base.specs.declared.names.Ballot.{Ballot}
 use Rattle.aeg_base.specs.declared.names.Tier.{Tier}
-use Rattle.log_model.proofs.Basics.{Every, every-append}
-use Rattle.log_model.proofs.History.{DidVote}
-use Rattle.log_model.proofs.Invariant.{History, PacketOk, Rest, StateOk, TurnOk}
-use Rattle.log_model.proofs.Origin.{Origins, Stood}
-use Rattle.log_model.proofs.Rows.{still}
-use Rattle.log_model.proofs.Step.{grown, put_same}
-use Rattle.log_model.specs.Chosen.{Meets}
-use Rattle.log_model.specs.Log.{Leader, LogState, Turn, count_below, idles, is, nobody, open_at, stays}
-use Rattle.log_model.specs.Recover.{learned_in, onto, recover}
-use Rattle.log_model.specs.Rows.{lead, offer, on_msg}
-use Rattle.log_model.specs.World.{Packet as LogPacket, put}
-use Rattle.log_model.specs.declared.fact.Fact.{Fact as LogFact}
-use Rattle.log_model.specs.declared.message.PaxMsg.{PaxMsg}
+use Rattle.log_model.proofs.Basics.{Every}
+use Rattle.log_model.specs.Log.{nobody}
 use Rattle.log_values.specs.declared.any_value.AnyValue.{AnyValue}
 use Rattle.log_values.specs.declared.any_value.AnyValue.TheVariants.{Back as OfBack, Mid as OfMid}
 use Rattle.log_values.specs.declared.back_value.BackValue.TheVariants.{Call as Called, Settle as Settled}
-use Rattle.round_model.specs.Answers.{Code, code_of, sorted}
-use Rattle.round_model.specs.Copies.{Copy, codes_from, copies_but, copies_from, due, due_among, greater, is_ready, least_ready, lesser, many_at_least}
+use Rattle.round_model.specs.Answers.{Code, code_of}
+use Rattle.round_model.specs.Copies.{Copy, codes_from, copies_but, copies_from}
 use Rattle.round_model.specs.Lists.{each, is_some}
 use Rattle.round_model.specs.Service.{Service}
 use Rattle.run_model.specs.Histories.{BackRun, back_from, back_run, back_serve, back_value, floor_from, floor_of, floor_value}
 use Rattle.run_model.specs.World.{Config}
 use Rattle.server_model.specs.Server.{same_tier}
-use Rattle.tier_laws.proofs.Lists.{put_here, put_there, tier_eq, tier_same}
-use Rattle.tier_laws.proofs.Apply.{code_at, every-each}
-use Rattle.tier_laws.proofs.BackRows.{BackHere, BackKnown, BackMoveOk, BackOther, Tied, back_knows}
+use Rattle.tier_laws.proofs.Lists.{put_here, put_there, tier_same}
+use Rattle.tier_laws.proofs.Apply.{every-each}
+use Rattle.tier_laws.proofs.BackRows.{BackKnown, BackOther, Tied}
 use Rattle.tier_laws.proofs.Backs.{back-push, run-keeps, value-keeps}
 use Rattle.tier_laws.proofs.Ledger.{get-end, get-left}
-use Rattle.tier_laws.proofs.Legal.{within_get}
-use Rattle.tier_laws.proofs.Logs.{Complete}
-use Rattle.tier_laws.proofs.Offers.{every_from, highest_every}
-use Rattle.tier_laws.proofs.Past.{BackOk, FloorOk, Grows, SentOk, Past, floor-more}
+use Rattle.tier_laws.proofs.Past.{SentOk, Past}
 use Rattle.tier_laws.proofs.Rows.{pushed}
 use Rattle.tier_laws.proofs.Stable.{MoreLog}
-use Rattle.tier_laws.proofs.Maps.{Server}
-use Rattle.aeg_base.specs.declared.names.Tier.TheVariants.{Mid as MidTier, Inv, Pay}
-use Rattle.frames.specs.declared.turn.Turn.{Turn as Answer}
-use Rattle.frames.specs.declared.turn.Idle.TheVariants as why
-use Rattle.tier_laws.proofs.Soups.{mid_soup, back_soup, nil, mid_soup-append, back_soup-append, NoLog, no_mid, no_back, none_nil, none_append, none_each, back_soup-own, mid_soup-back, back_soup-other, every-log}
-use Rattle.tier_model.specs.Back.{answer_to, Back, after_value, in_log, new_value, passes, serves, settles, value_sends, value_state, value_tells, with_log}
-use Rattle.tier_model.specs.BackRows.{after_values, answers_again, bare, own_by, own_value, recovered, retry, settle_value}
-use Rattle.tier_model.specs.Moves.{Move, Packet, asks}
+use Rattle.tier_model.specs.Back.{answer_to, Back, after_value, passes, serves, settles, value_sends}
+use Rattle.tier_model.specs.Moves.{Packet}
 
 -- PREFIXES
 

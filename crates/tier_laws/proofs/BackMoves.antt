@@ -1,43 +1,36 @@
 -- A backend node's turns of the log, its offers, its retry and its restart.
-use Rattle.std.proofs.Common.{◌≡◌, ℕ, ◌+◌, ◌*◌, ◌-◌, ◌<◌, ◌≤◌, Bool, true, false, cond, List, [], ◌∷◌, ◌++◌, length, map, refl, sym, ap, ◌∙◌, subst, inl, inr, Option, Some, None, zero, suc, arith, length-append}
-use Rattle.std.specs.Prelude.{replicate, slice_get, ◌⊎◌, ◌==◌, nat_lt, nat_le}
-use Rattle.std.proofs.lemmas.Bool.{cond-true, cond-false, cond_both, lt-ltb, ltb-true, cases_lt}
-use Rattle.aeg_base.specs.Store.{Store}
-use Rattle.aeg_base.specs.declared.names.Ballot.{Ballot}
+use Rattle.std.proofs.Common.{◌≡◌, ℕ, ◌+◌, ◌*◌, ◌≤◌, Bool, true, false, cond, List, [], ◌∷◌, ◌++◌, length, refl, sym, ap, ◌∙◌, subst, inl, inr, Option, Some, None, zero, suc, arith}
+use Rattle.std.specs.Prelude.{replicate, slice_get, ◌⊎◌, nat_lt, nat_le}
+use Rattle.std.proofs.lemmas.Bool.{cond-true, cond-false, cond_both, lt-ltb}
 use Rattle.aeg_base.specs.declared.names.Tier.{Tier}
 use Rattle.log_model.proofs.Basics.{Every, every-append}
-use Rattle.log_model.proofs.History.{DidVote}
-use Rattle.log_model.proofs.Invariant.{History, PacketOk, Rest, StateOk, TurnOk}
+use Rattle.log_model.proofs.Invariant.{Rest, TurnOk}
 use Rattle.log_model.proofs.Origin.{Origins, Stood}
 use Rattle.log_model.proofs.Rows.{still}
 use Rattle.log_model.proofs.Step.{grown, put_same}
-use Rattle.log_model.specs.Chosen.{Meets}
-use Rattle.log_model.specs.Log.{Leader, LogState, Turn, count_below, is, nobody, open_at}
+use Rattle.log_model.specs.Log.{Leader, LogState, Turn, is, nobody, open_at}
 use Rattle.log_model.specs.Recover.{learned_in, onto, recover}
 use Rattle.log_model.specs.Rows.{lead, offer, on_msg}
-use Rattle.log_model.specs.World.{Packet as LogPacket, put}
+use Rattle.log_model.specs.World.{put}
 use Rattle.log_model.specs.declared.fact.Fact.{Fact as LogFact}
 use Rattle.log_model.specs.declared.message.PaxMsg.{PaxMsg}
 use Rattle.log_values.specs.declared.any_value.AnyValue.{AnyValue}
 use Rattle.log_values.specs.declared.any_value.AnyValue.TheVariants.{Back as OfBack, Mid as OfMid}
 use Rattle.log_values.specs.declared.back_value.BackValue.TheVariants.{Call as Called, Settle as Settled}
-use Rattle.round_model.specs.Answers.{Code, code_of, sorted}
+use Rattle.round_model.specs.Answers.{Code}
 use Rattle.round_model.specs.Copies.{Copy, due, due_among, greater, is_ready, least_ready, lesser, many_at_least}
 use Rattle.round_model.specs.Lists.{each, is_some}
 use Rattle.round_model.specs.Service.{Service}
 use Rattle.run_model.specs.World.{Config}
 use Rattle.server_model.specs.Server.{same_tier}
-use Rattle.tier_laws.proofs.Lists.{tier_same}
 use Rattle.tier_laws.proofs.Apply.{every-each}
 use Rattle.tier_laws.proofs.BackLearn.{Learnt, learn_ok}
 use Rattle.tier_laws.proofs.BackRows.{BackHere, BackKnown, BackMoveOk, BackOther, Tied, back_knows}
 use Rattle.tier_laws.proofs.Ledger.{get-end, length-push}
-use Rattle.tier_laws.proofs.Logs.{Complete}
 use Rattle.tier_laws.proofs.Offers.{every_from, highest_every}
 use Rattle.tier_laws.proofs.Past.{BackOk, FloorOk, SentOk, Past}
 use Rattle.tier_laws.proofs.Stable.{MoreLog}
 use Rattle.aeg_base.specs.declared.names.Tier.TheVariants.{Mid as MidTier, Inv, Pay}
-use Rattle.frames.specs.declared.turn.Turn.{Turn as Answer}
 use Rattle.frames.specs.declared.turn.Idle.TheVariants as why
 use Rattle.tier_laws.proofs.Soups.{mid_soup, back_soup, nil, mid_soup-append, back_soup-append, NoLog, no_mid, no_back, none_nil, none_append, none_each, back_soup-own, mid_soup-back, back_soup-other, every-log}
 use Rattle.tier_model.specs.Back.{Back, after_value, in_log, new_value, passes, value_sends, value_state, value_tells, with_log}
@@ -58,8 +51,8 @@ use Rattle.tier_laws.proofs.BackRows.{back_stays}
 use Rattle.tier_laws.proofs.Lists.{at-replicate}
 use Rattle.tier_laws.proofs.Moves.{log_facts-map}
 use Rattle.tier_model.specs.Back.{answer_to}
-use Rattle.tier_model.specs.BackRows.{leads, offers, offers_as, after_values, answers_again, bare, own_by, own_value, recovered, retry, settle_value}
-use Rattle.tier_model.specs.Moves.{Move, Packet, asks, log_packets, log_facts, idles}
+use Rattle.tier_model.specs.BackRows.{leads, offers, offers_as, after_values, answers_again, bare, own_by, own_value, recovered, retry}
+use Rattle.tier_model.specs.Moves.{Packet, asks, log_packets, log_facts, idles}
 
 -- AT MOST ONE POSITION IS LEARNED
 

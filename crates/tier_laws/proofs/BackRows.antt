@@ -1,56 +1,40 @@
 -- What a backend node does in an event is right by itself.
-use Rattle.std.proofs.Common.{◌≡◌, ℕ, ◌+◌, ◌*◌, ◌-◌, ◌<◌, ◌≤◌, Bool, true, false, cond, List, [], ◌∷◌, ◌++◌, length, map, refl, sym, ap, ◌∙◌, subst, inl, inr, Option, Some, None, zero, suc, arith, length-append}
-use Rattle.std.specs.Prelude.{slice_get, ◌⊎◌, ◌==◌, ◌&&◌, ◌||◌, not, nat_lt, nat_le, take}
-use Rattle.std.proofs.lemmas.Bool.{cond-true, cond-false, cond_both, and_parts, or_parts, eqb-true, eq-eqb, ne_eqb, ltb-true, ltb-false, lt-ltb, leb-true, leb-false, cases_lt, cases_eq}
-use Rattle.std.proofs.lemmas.Option.{cond_some}
+use Rattle.std.proofs.Common.{◌≡◌, ℕ, ◌+◌, ◌*◌, ◌<◌, ◌≤◌, false, List, [], ◌∷◌, refl, sym, ap, ◌∙◌, subst, inl, inr, Option, Some, None}
+use Rattle.std.specs.Prelude.{slice_get, ◌⊎◌, nat_lt, nat_le, take}
+use Rattle.std.proofs.lemmas.Bool.{cond_both, cases_eq}
 use Rattle.aeg_base.specs.declared.names.Ballot.{Ballot}
 use Rattle.aeg_base.specs.declared.names.Tier.{Tier}
-use Rattle.log_model.proofs.Basics.{Every, every-append}
+use Rattle.log_model.proofs.Basics.{Every}
 use Rattle.log_model.proofs.History.{DidVote}
-use Rattle.log_model.proofs.Invariant.{History, PacketOk, Rest, StateOk, TurnOk}
-use Rattle.log_model.proofs.Origin.{Origins, Stood}
-use Rattle.log_model.proofs.Rows.{Known as Knows, idle_ok, still}
-use Rattle.log_model.proofs.Step.{grown, put_same}
-use Rattle.log_model.specs.Chosen.{Meets}
+use Rattle.log_model.proofs.Invariant.{History, StateOk, TurnOk}
+use Rattle.log_model.proofs.Rows.{Known as Knows, idle_ok}
 use Rattle.log_model.specs.Log.{LogState, Turn, idles as log_idles}
-use Rattle.log_model.specs.Recover.{learned_in, onto}
-use Rattle.log_model.specs.Rows.{lead, offer, on_msg}
-use Rattle.log_model.specs.World.{Packet as LogPacket, put}
+use Rattle.log_model.specs.Recover.{onto}
 use Rattle.log_model.specs.declared.fact.Fact.{Fact as LogFact}
-use Rattle.log_model.specs.declared.message.PaxMsg.{PaxMsg}
 use Rattle.log_values.specs.declared.any_value.AnyValue.{AnyValue}
-use Rattle.log_values.specs.declared.any_value.AnyValue.TheVariants.{Back as OfBack, Mid as OfMid}
+use Rattle.log_values.specs.declared.any_value.AnyValue.TheVariants.{Back as OfBack}
 use Rattle.log_values.specs.declared.back_value.BackValue.TheVariants.{Call as Called, Settle as Settled}
-use Rattle.round_model.specs.Answers.{Code, code_of, sorted}
-use Rattle.round_model.specs.Copies.{floor_at, Copy, codes_from, copies_but, copies_from, copy_of, due, due_among, greater, has_text, is_ready, least_ready, lesser, many_at_least}
-use Rattle.round_model.specs.Lists.{put_at, each, is_some}
+use Rattle.round_model.specs.Answers.{Code, code_of}
+use Rattle.round_model.specs.Copies.{floor_at, Copy, copy_of}
+use Rattle.round_model.specs.Lists.{put_at, is_some}
 use Rattle.round_model.specs.Service.{Service}
-use Rattle.run_model.specs.Histories.{BackRun, back_from, back_run, back_serve, back_value, floor_of}
+use Rattle.run_model.specs.Histories.{back_run, floor_of}
 use Rattle.run_model.specs.World.{Config}
 use Rattle.server_model.specs.Server.{same_tier}
-use Rattle.tier_laws.proofs.Lists.{put_here, put_there, tier_eq, tier_same}
-use Rattle.tier_laws.proofs.Apply.{every-each}
-use Rattle.tier_laws.proofs.Backs.{back-push, run-keeps, value-keeps}
-use Rattle.tier_laws.proofs.Ledger.{get-end}
-use Rattle.tier_laws.proofs.Legal.{within_get}
 use Rattle.tier_laws.proofs.Logs.{Complete}
-use Rattle.tier_laws.proofs.Offers.{every_from, highest_every}
 use Rattle.tier_laws.proofs.Past.{BackOk, FloorOk, Grows, SentOk, Past, floor-more}
-use Rattle.tier_laws.proofs.Rows.{push_at, pushed}
-use Rattle.tier_laws.proofs.Stable.{MoreLog}
-use Rattle.tier_laws.proofs.Verdicts.{count-some}
-use Rattle.tier_laws.proofs.Maps.{Server}
-use Rattle.aeg_base.specs.declared.names.Tier.TheVariants.{Mid as MidTier, Inv, Pay}
+use Rattle.tier_laws.proofs.Rows.{pushed}
+use Rattle.aeg_base.specs.declared.names.Tier.TheVariants.{Mid as MidTier}
 use Rattle.frames.specs.declared.turn.Turn.{Turn as Answer}
 use Rattle.frames.specs.declared.turn.Idle.TheVariants as why
-use Rattle.tier_laws.proofs.Soups.{mid_soup, back_soup, nil, mid_soup-append, back_soup-append, NoLog, no_mid, no_back, none_nil, none_append, none_each, back_soup-own, mid_soup-back, back_soup-other, every-log}
-use Rattle.tier_model.specs.Back.{Back, after_value, in_log, new_value, passes, serves, settles, value_sends, value_state, value_tells, with_log}
+use Rattle.tier_laws.proofs.Soups.{mid_soup, back_soup, NoLog, no_mid, no_back, none_nil}
+use Rattle.tier_model.specs.Back.{Back}
 use Rattle.log_model.specs.declared.turn.LogIdle.TheVariants.{Nothing}
 use Rattle.log_model.specs.World.{packets_of}
 use Rattle.tier_laws.proofs.Apply.{code_at}
 use Rattle.tier_laws.proofs.Lists.{at_here, at_there}
 use Rattle.tier_model.specs.Back.{answer_to}
-use Rattle.tier_model.specs.BackRows.{copied, notes_copy, call_as, told_floor, answers_again, on_call, on_settle, own_by, own_value, retry, settle_value}
+use Rattle.tier_model.specs.BackRows.{copied, notes_copy, call_as, told_floor, on_call, on_settle}
 use Rattle.tier_model.specs.Moves.{Move, Packet, log_facts, idles, becomes}
 
 -- THE STATE BESIDE THE LOG

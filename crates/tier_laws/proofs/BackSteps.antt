@@ -1,33 +1,31 @@
 -- Each event at a backend node keeps the invariant, but for the growth of the logs.
-use Rattle.std.proofs.Common.{◌≡◌, ℕ, ◌+◌, ◌*◌, ◌<◌, ◌≤◌, Bool, true, false, cond, List, [], ◌∷◌, ◌++◌, length, refl, sym, ap, ◌∙◌, subst, inl, inr, Option, Some, None, zero, suc, arith}
-use Rattle.std.specs.Prelude.{slice_get, ◌⊎◌, ◌==◌, IfSome, nat_lt}
-use Rattle.std.proofs.lemmas.Bool.{cond-true, cond-false, cond_both, ltb-true, or_parts}
+use Rattle.std.proofs.Common.{◌≡◌, ℕ, ◌+◌, ◌*◌, ◌<◌, Bool, true, false, cond, List, [], ◌++◌, refl, sym, ap, ◌∙◌, subst, inl, inr, Option, Some, None, zero, suc}
+use Rattle.std.specs.Prelude.{slice_get, ◌⊎◌, ◌==◌, nat_lt}
+use Rattle.std.proofs.lemmas.Bool.{cond_both, ltb-true, or_parts}
 use Rattle.aeg_base.specs.declared.names.Ballot.{Ballot}
 use Rattle.aeg_base.specs.declared.names.Tier.{Tier}
 use Rattle.log_model.proofs.Basics.{Every, every-append, nothing_seen}
-use Rattle.log_model.proofs.History.{DidVote, Grew, grew-refl}
-use Rattle.log_model.proofs.Invariant.{AllGrew, History, Rest, SoupGrew, StateOk, TurnOk, all_same, soup-append, soup-refl, state-grew}
+use Rattle.log_model.proofs.History.{DidVote}
+use Rattle.log_model.proofs.Invariant.{AllGrew, History, Rest, StateOk, TurnOk, all_same, soup-append, state-grew}
 use Rattle.log_model.proofs.Step.{grown, put_each, put_other, put_same}
 use Rattle.log_model.specs.Log.{LogState, Turn}
-use Rattle.log_model.specs.Recover.{learned_in, newest, newest_onto, onto, recover}
-use Rattle.log_model.specs.World.{Device, Mode, Node, Packet as LogPacket, failed, is_fine, put, recorded, stands, writes}
+use Rattle.log_model.specs.Recover.{learned_in, newest, onto, recover}
+use Rattle.log_model.specs.World.{Device, Mode, Node, Packet as LogPacket, failed, is_fine, put, recorded, stands}
 use Rattle.log_model.specs.World.Mode.{Down, Gone, Up}
 use Rattle.log_model.specs.declared.fact.Fact.{Fact as LogFact}
 use Rattle.log_values.specs.declared.any_value.AnyValue.{AnyValue}
 use Rattle.log_values.specs.declared.any_value.AnyValue.TheVariants.{Back as OfBack}
-use Rattle.log_values.specs.declared.back_value.BackValue.TheVariants.{Call as Called, Settle as Settled}
+use Rattle.log_values.specs.declared.back_value.BackValue.TheVariants.{Call as Called}
 use Rattle.round_model.specs.Answers.{Code}
-use Rattle.round_model.specs.Service.{Service}
 use Rattle.run_model.specs.World.{Config, World, at_back, back_node, back_up, crashed, is_well, moved, put_tier, restarted, sent, up_from, with_back}
 use Rattle.server_model.specs.Server.{same_tier}
 use Rattle.tier_laws.proofs.Lists.{tier_cases, tier_here, tier_there}
 use Rattle.tier_laws.proofs.BackMoves.{recovered_ok}
-use Rattle.tier_laws.proofs.BackRows.{BackHere, BackKnown, BackMoveOk, BackOther, Tied}
-use Rattle.tier_laws.proofs.Core.{BackDown, BackMode, BackPending, BackUp, Core, Done, Inv, Mid_event, NearlyDone, back_mode-more, mid_mode-more, nearly_done, newest-push, past, same_back, same_mid, soup_back, soup_mid, unchanged}
-use Rattle.tier_laws.proofs.Logs.{Complete, LogPart, Nearly, log_weaker, meets_good, nearly, turn_log, turn_nearly, write_log}
+use Rattle.tier_laws.proofs.BackRows.{BackHere, BackKnown, BackMoveOk, Tied}
+use Rattle.tier_laws.proofs.Core.{BackMode, BackPending, BackUp, Core, Done, Inv, Mid_event, NearlyDone, back_mode-more, mid_mode-more, newest-push, past, same_back, same_mid, soup_back, soup_mid, unchanged}
+use Rattle.tier_laws.proofs.Logs.{Complete, LogPart, Nearly, meets_good, nearly, turn_log, turn_nearly, write_log}
 use Rattle.tier_laws.proofs.Past.{BackOk, MidOk, SentOk, Past, grows-refl}
 use Rattle.tier_laws.proofs.Stable.{MoreLog}
-use Rattle.tier_laws.proofs.Maps.{Server, server}
 use Rattle.tier_model.specs.Back.{Back}
 use Rattle.aeg_base.specs.declared.names.Tier.TheVariants.{Mid as MidTier}
 use Rattle.log_model.specs.World.Device.{Fine, CutKeep, CutDrop, Fault}
@@ -40,9 +38,7 @@ use Rattle.tier_laws.proofs.Moves.{log_facts-onto}
 use Rattle.tier_laws.proofs.MidSteps.{at_first}
 use Rattle.tier_model.specs.Moves.{log_facts}
 use Rattle.tier_model.specs.BackRows.{recovered}
-use Rattle.aeg_base.specs.declared.names.ReqId.{ReqId}
-use Rattle.tier_laws.specs.Said.{Laws}
-use Rattle.tier_laws.proofs.Soups.{mid_soup, back_soup, back_nil, nil, mid_soup-append, back_soup-append}
+use Rattle.tier_laws.proofs.Soups.{mid_soup, back_soup, back_nil, back_soup-append}
 use Rattle.tier_model.specs.Moves.{Move, Packet}
 
 both_tiers : {A C : Type 0} (P : Tier → A → C → Type 0) (f : Tier → A) (g : Tier → C) (t : Tier) (a : A) (b : C) → P t a b → ((v : Tier) → same_tier v t ≡ false → P v (f v) (g v)) → (v : Tier) → P v (put_tier f t a v) (put_tier g t b v)

@@ -1,42 +1,34 @@
 -- The invariant of the world, and what a change of one node keeps of it.
-use Rattle.std.proofs.Common.{◌≡◌, ℕ, ◌+◌, ◌*◌, ◌<◌, ◌≤◌, Bool, true, false, cond, List, [], ◌∷◌, ◌++◌, length, refl, sym, ap, ◌∙◌, subst, inl, inr, Option, Some, None, zero, suc, arith}
-use Rattle.std.specs.Prelude.{slice_get, ◌⊎◌, ◌==◌, IfSome}
-use Rattle.std.proofs.lemmas.Bool.{cond-true, cond-false, cond_both, ltb-true, eqb-true}
+use Rattle.std.proofs.Common.{◌≡◌, ℕ, ◌+◌, ◌*◌, ◌<◌, false, List, [], ◌∷◌, ◌++◌, refl, sym, ap, ◌∙◌, subst, Some}
+use Rattle.std.specs.Prelude.{slice_get, ◌==◌}
 use Rattle.aeg_base.specs.declared.names.Ballot.{Ballot}
 use Rattle.aeg_base.specs.declared.names.Tier.{Tier}
 use Rattle.log_model.proofs.Basics.{Every, every-append}
-use Rattle.log_model.proofs.History.{DidVote, Grew, grew-refl}
-use Rattle.log_model.proofs.Invariant.{AllGrew, History, SoupGrew, StateOk, TurnOk, soup-append, soup-refl, state-grew, turn-grew}
+use Rattle.log_model.proofs.History.{DidVote, grew-refl}
+use Rattle.log_model.proofs.Invariant.{AllGrew, SoupGrew, StateOk, TurnOk, soup-append, state-grew, turn-grew}
 use Rattle.log_model.proofs.Step.{put_each}
-use Rattle.log_model.specs.Log.{LogState, Turn}
+use Rattle.log_model.specs.Log.{Turn}
 use Rattle.log_model.specs.Recover.{newest, newest_onto, onto}
-use Rattle.log_model.specs.World.{Mode, Node, Packet as LogPacket, put, recorded, stands}
+use Rattle.log_model.specs.World.{Mode, Node, Packet as LogPacket, recorded}
 use Rattle.log_model.specs.World.Mode.{Down, Gone, Up}
 use Rattle.log_model.specs.declared.fact.Fact.{Fact as LogFact}
 use Rattle.log_values.specs.declared.fact.Fact.{Fact}
 use Rattle.log_values.specs.declared.any_value.AnyValue.{AnyValue}
 use Rattle.log_values.specs.declared.entry.Entry.{Entry}
-use Rattle.round_model.specs.Answers.{Code, code_of}
-use Rattle.round_model.specs.Lists.{half}
-use Rattle.round_model.specs.Service.{Service}
+use Rattle.round_model.specs.Answers.{Code}
 use Rattle.round_model.specs.Verdicts.{Vote}
-use Rattle.run_model.specs.World.{Config, World, put_tier, with_back, with_mid}
-use Rattle.server_model.specs.Server.{same_tier}
+use Rattle.run_model.specs.World.{Config, World, with_mid}
 use Rattle.server_model.specs.declared.history.Hist.TheVariants.{Start}
-use Rattle.tier_laws.proofs.Lists.{tier_cases, tier_here, tier_there}
-use Rattle.tier_laws.proofs.BackRows.{BackKnown, BackOther, Tied, back_other-more}
-use Rattle.tier_laws.proofs.Ledger.{Decision, Ledger, get-left}
+use Rattle.tier_laws.proofs.BackRows.{BackOther, Tied, back_other-more}
+use Rattle.tier_laws.proofs.Ledger.{Ledger}
 use Rattle.tier_laws.proofs.Logs.{Complete, LogPart, Nearly, log_weaker, nearly}
-use Rattle.tier_laws.proofs.Moves.{helds}
-use Rattle.tier_laws.proofs.Past.{BackOk, Grows, Known, MidOk, MidOther, SentOk, Past, RunOk, Submitted, back_ok-more, mid_ok-more, other-more, parcels-more, run_ok-more, submitted-more}
-use Rattle.tier_laws.proofs.Rounds.{Kept}
-use Rattle.tier_laws.proofs.Stable.{MoreLog}
-use Rattle.tier_laws.proofs.Maps.{Server, server}
+use Rattle.tier_laws.proofs.Past.{BackOk, Grows, Known, MidOk, MidOther, SentOk, Past, RunOk, Submitted, back_ok-more, mid_ok-more, other-more, parcels-more, submitted-more}
+use Rattle.tier_laws.proofs.Maps.{server}
 use Rattle.tier_model.specs.Back.{Back}
 use Rattle.tier_model.specs.Mid.{Mid}
 use Rattle.aeg_base.specs.declared.names.ReqId.{ReqId}
 use Rattle.tier_laws.specs.Said.{Laws}
-use Rattle.tier_laws.proofs.Soups.{mid_soup, back_soup, back_nil, nil, mid_soup-append, back_soup-append}
+use Rattle.tier_laws.proofs.Soups.{mid_soup, back_soup, nil, mid_soup-append, back_soup-append}
 use Rattle.tier_model.specs.Moves.{Packet, held_in, log_facts}
 
 abbrev pub past : {B : Type 0} → Config B → World B → (ℕ → List Code) → Past B

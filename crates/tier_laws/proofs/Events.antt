@@ -1,5 +1,5 @@
 -- Each event keeps the invariant.
-use Rattle.std.proofs.Common.{◌≡◌, ℕ, ◌+◌, ◌*◌, ◌<◌, ◌≤◌, Bool, true, false, cond, List, [], ◌∷◌, ◌++◌, length, refl, sym, ap, ◌∙◌, subst, inl, inr, Option, Some, None, zero, suc, arith}
+use Rattle.std.proofs.Common.{◌≡◌, ℕ, ◌+◌, ◌*◌, ◌<◌, true, false, List, [], ◌∷◌, ◌++◌, length, refl, sym, ap, ◌∙◌, subst, inl, inr, Option, Some, None, zero, suc}
 use Rattle.std.specs.Prelude.{slice_get, ◌⊎◌, ◌==◌, ◌&&◌, not, nat_lt, nat_le}
 use Rattle.std.proofs.lemmas.Bool.{cond_both, and_parts, cases_eq}
 use Rattle.aeg_base.specs.declared.names.Tier.{Tier}
@@ -42,7 +42,7 @@ use Rattle.tier_laws.proofs.BackMoves.{back_move, back_retry_ok, back_leads_ok, 
 use Rattle.tier_laws.proofs.BackRows.{BackHere, BackMoveOk, back_knows, back_stays, call_ok, settle_ok}
 use Rattle.tier_laws.proofs.BackSteps.{at_back_ok, back_crash, back_restart, back_wipe}
 use Rattle.tier_laws.proofs.Backs.{ledger_start}
-use Rattle.tier_laws.proofs.Core.{Core, Done, Inv as WorldOk, Mid_event, NearlyDone, back_mode-more, mid_mode-more, past, same_back, same_mid, soup_back, soup_mid, unchanged}
+use Rattle.tier_laws.proofs.Core.{Inv as WorldOk, Mid_event, back_mode-more, mid_mode-more, past, same_back, same_mid, soup_back, soup_mid, unchanged}
 use Rattle.tier_laws.proofs.Grow.{grows_ok}
 use Rattle.tier_laws.proofs.Ledger.{get-end, get-left}
 use Rattle.tier_laws.proofs.Logs.{Complete, LogPart, log_weaker, nearly}

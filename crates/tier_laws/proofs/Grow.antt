@@ -1,8 +1,7 @@
 -- The logs grow, and with them the history.
 use Rattle.std.proofs.Common.{◌≡◌, ℕ, ◌+◌, ◌*◌, ◌<◌, ◌≤◌, Bool, true, false, cond, List, [], ◌∷◌, ◌++◌, length, map, refl, sym, ap, ◌∙◌, subst, inl, inr, Option, Some, None, zero, suc, arith}
-use Rattle.std.specs.Prelude.{slice_get, ◌⊎◌, ◌==◌, ◌&&◌, nat_lt, slice_index_or}
-use Rattle.std.proofs.lemmas.Bool.{cond-true, cond-false, cond_both, ltb-true, lt-ltb, eq-eqb, ne_eqb, cases_eq, cases_lt, and_from}
-use Rattle.aeg_base.specs.Store.{Store}
+use Rattle.std.specs.Prelude.{slice_get, ◌⊎◌, ◌==◌, nat_lt}
+use Rattle.std.proofs.lemmas.Bool.{cond-true, cond-false, lt-ltb, eq-eqb, ne_eqb, cases_eq, and_from}
 use Rattle.aeg_base.specs.declared.names.Tier.{Tier}
 use Rattle.aeg_base.specs.declared.names.Tier.TheVariants.{Inv, Pay}
 use Rattle.log_model.proofs.Invariant.{all_same, soup-refl}
@@ -15,12 +14,11 @@ use Rattle.log_values.specs.declared.entry.Entry.{Entry}
 use Rattle.log_values.specs.declared.mid_value.MidValue.TheVariants.{Batch, Verdict as Decided}
 use Rattle.log_values.specs.declared.mid_value.Verdict.{Verdict}
 use Rattle.log_values.specs.declared.mid_value.Verdict.TheVariants.{Commit, Serial}
-use Rattle.round_model.specs.After.{Round, after, batch_in, order_in, round, round_at}
+use Rattle.round_model.specs.After.{Round, after, batch_in, round_at}
 use Rattle.round_model.specs.Answers.{Code}
-use Rattle.round_model.specs.Lists.{at, below, half, head_of, odd, tabulate}
-use Rattle.round_model.specs.Service.{Service, all_below, each_once, finish, is_order, times}
+use Rattle.round_model.specs.Lists.{at, below, half, head_of, tabulate}
+use Rattle.round_model.specs.Service.{all_below, each_once, finish, is_order, times}
 use Rattle.round_model.specs.Tables.{Number, Tables, Want, fresh_of, numbers, resumed, started, wants}
-use Rattle.round_model.specs.Verdicts.{Vote}
 use Rattle.run_model.specs.Histories.{back_steps, is_called, step_of, steps_by, value_steps, verdict_steps}
 use Rattle.run_model.specs.Runs.{back_chosen, back_grows, grows, mid_chosen, mid_grows}
 use Rattle.run_model.specs.World.{Config, World, put_tier}
@@ -30,22 +28,20 @@ use Rattle.server_model.specs.declared.history.Hist.{Hist}
 use Rattle.server_model.specs.declared.history.Hist.TheVariants.{Resume, Serve, Start}
 use Rattle.tier_laws.proofs.Lists.{tier_cases, tier_here, tier_there}
 use Rattle.tier_laws.proofs.Backs.{ledger_called, ledger_settled}
-use Rattle.tier_laws.proofs.Core.{Core, Done, Inv as WorldOk, Mid_event, NearlyDone, back_mode-more, mid_mode-more, past}
+use Rattle.tier_laws.proofs.Core.{Core, Inv as WorldOk, Mid_event, NearlyDone, back_mode-more, mid_mode-more, past}
 use Rattle.tier_laws.proofs.Ledger.{Extended, Ledger, extend_batch, ledger_verdict, more-push, ordered}
-use Rattle.tier_laws.proofs.Logs.{Complete, LogPart, Nearly, chosen_now, grow_none, grow_some, log_weaker, meets_good, nearly, part_some}
-use Rattle.tier_laws.proofs.Past.{BackOk, BatchOk, Grows, MidOk, SentOk, Past, RunOk, Submitted, VerdictBy, back_ok-more, kept-refl, mid_ok-more, more-refl, parcels-more, run_ok-more, submitted-more}
+use Rattle.tier_laws.proofs.Logs.{Complete, LogPart, Nearly, chosen_now, grow_none, grow_some, log_weaker, meets_good, part_some}
+use Rattle.tier_laws.proofs.Past.{BackOk, BatchOk, Grows, MidOk, Past, Submitted, VerdictBy, back_ok-more, mid_ok-more, more-refl, parcels-more, run_ok-more, submitted-more}
 use Rattle.tier_laws.proofs.Rounds.{Kept}
 use Rattle.tier_laws.proofs.Stable.{MoreLog, RoundParts, batch_in-some, round_parts, then_parts}
 use Rattle.tier_laws.proofs.Wants.{fresh-at, get_cases, get_map}
-use Rattle.tier_laws.proofs.Maps.{Server, server}
-use Rattle.tier_model.specs.Mid.{Mid}
+use Rattle.tier_laws.proofs.Maps.{server}
 use Rattle.aeg_base.specs.declared.names.Tier.TheVariants.{Mid as MidTier}
 use Rattle.aeg_base.specs.declared.names.ReqId.{ReqId}
 use Rattle.run_model.specs.Runs.{served_of}
-use Rattle.run_model.specs.Histories.{HistoryStep, want_step}
+use Rattle.run_model.specs.Histories.{HistoryStep}
 use Rattle.tier_laws.proofs.Shows.{shown}
 use Rattle.tier_laws.proofs.Soups.{mid_soup, back_soup}
-use Rattle.tier_model.specs.Moves.{Packet}
 
 -- JOB ORDER IS AN ORDER
 

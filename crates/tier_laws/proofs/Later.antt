@@ -1,5 +1,5 @@
 -- The history grows at its end, so what is submitted later starts later.
-use Rattle.std.proofs.Common.{◌≡◌, ℕ, ◌+◌, ◌*◌, ◌<◌, ◌≤◌, Bool, true, false, List, [], ◌∷◌, ◌++◌, length, refl, sym, ap, ◌∙◌, subst, inl, inr, Option, Some, None, suc, arith}
+use Rattle.std.proofs.Common.{◌≡◌, ℕ, ◌+◌, ◌*◌, ◌<◌, ◌≤◌, List, [], ◌∷◌, ◌++◌, length, refl, sym, ap, ◌∙◌, subst, inl, inr, Option, Some, None, suc}
 use Rattle.std.specs.Prelude.{slice_get, ◌⊎◌, ◌==◌, ◌&&◌, not, nat_lt, nat_le}
 use Rattle.std.proofs.lemmas.Bool.{cond_both, cases_lt}
 use Rattle.aeg_base.specs.declared.names.ReqId.{ReqId}
@@ -13,7 +13,6 @@ use Rattle.log_model.specs.World.{Device, Mode, Node, stands}
 use Rattle.log_model.specs.World.Mode.{Down, Gone, Up}
 use Rattle.log_values.specs.declared.fact.Fact.{Fact}
 use Rattle.log_values.specs.declared.any_value.AnyValue.{AnyValue}
-use Rattle.log_values.specs.declared.entry.Entry.{Entry}
 use Rattle.frames.specs.declared.message.Msg.{Msg}
 use Rattle.frames.specs.declared.message.Msg.TheVariants as msgs
 use Rattle.round_model.specs.Lists.{is_some}

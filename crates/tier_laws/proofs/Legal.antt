@@ -1,6 +1,6 @@
 -- All steps of a round, in any order of its job.
 use Rattle.std.proofs.Common.{◌≡◌, ℕ, ◌+◌, ◌<◌, ◌≤◌, true, List, [], ◌∷◌, ◌++◌, length, refl, sym, ap, ◌∙◌, subst, inl, inr, Option, Some, None, zero, suc, arith}
-use Rattle.std.specs.Prelude.{slice_get, ◌⊎◌, ◌==◌, nat_lt, slice_index_or}
+use Rattle.std.specs.Prelude.{slice_get, ◌⊎◌, ◌==◌, nat_lt}
 use Rattle.std.proofs.lemmas.Bool.{eq-eqb, eqb-true, ne_eqb, cond-true, cond-false, cases_eq, and_parts, ltb-true}
 use Rattle.aeg_base.specs.Store.{Store}
 use Rattle.aeg_base.specs.declared.names.Tier.{Tier}

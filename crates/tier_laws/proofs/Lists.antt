@@ -1,5 +1,5 @@
 -- Items by index, and tiers.
-use Rattle.std.proofs.Common.{◌≡◌, ℕ, true, false, List, [], ◌∷◌, refl, sym, ap, ◌∙◌, inl, inr, zero, suc}
+use Rattle.std.proofs.Common.{◌≡◌, ℕ, true, false, List, [], ◌∷◌, refl, ap, inl, inr, zero, suc}
 use Rattle.std.specs.Prelude.{◌⊎◌, ◌==◌, replicate}
 use Rattle.std.proofs.lemmas.Bool.{cond-true, cond-false, eq-eqb, ne_eqb}
 use Rattle.aeg_base.specs.declared.names.Tier.{Tier}

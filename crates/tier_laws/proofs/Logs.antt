@@ -1,17 +1,17 @@
 -- One tier's log inside a larger world: a turn of the log, and the chosen log that grows at its end.
-use Rattle.std.proofs.Common.{◌≡◌, ℕ, ◌+◌, ◌*◌, ◌<◌, ◌≤◌, Bool, true, false, List, [], ◌∷◌, ◌++◌, length, refl, sym, ap, ◌∙◌, subst, inl, inr, Option, Some, None, zero, suc, arith, length-append}
-use Rattle.std.specs.Prelude.{slice_get, ◌⊎◌, ◌==◌}
-use Rattle.std.proofs.lemmas.Bool.{cases_lt, cases_eq}
+use Rattle.std.proofs.Common.{◌≡◌, ℕ, ◌+◌, ◌*◌, ◌<◌, ◌≤◌, true, List, [], ◌∷◌, ◌++◌, length, sym, ap, ◌∙◌, subst, inl, inr, Some, None, zero, suc, arith}
+use Rattle.std.specs.Prelude.{slice_get, ◌⊎◌}
+use Rattle.std.proofs.lemmas.Bool.{cases_lt}
 use Rattle.aeg_base.specs.declared.names.Ballot.{Ballot}
 use Rattle.log_model.proofs.Agree.{agree, meets_voted}
-use Rattle.log_model.proofs.Basics.{Every, every-append}
+use Rattle.log_model.proofs.Basics.{every-append}
 use Rattle.log_model.proofs.Chosen.{IsSomething, meets_now, now_meets}
-use Rattle.log_model.proofs.History.{DidVote, Grew, grew-onto, grew-refl, opening, votes_below}
-use Rattle.log_model.proofs.Invariant.{AllGrew, posted, sends-grew, History, PacketOk, Rest, SoupGrew, StateOk, TurnOk, all_same, packets-grew, soup-append, soup-refl, state-grew}
+use Rattle.log_model.proofs.History.{DidVote, opening, votes_below}
+use Rattle.log_model.proofs.Invariant.{AllGrew, posted, sends-grew, History, PacketOk, Rest, SoupGrew, TurnOk, all_same, packets-grew, soup-append, soup-refl}
 use Rattle.log_model.proofs.Soup.{meets-append}
-use Rattle.log_model.proofs.Step.{grown, histories, put_each, put_other, put_same}
+use Rattle.log_model.proofs.Step.{grown, histories, put_each, put_same}
 use Rattle.log_model.specs.Chosen.{Meets, chosen_among, is_reached}
-use Rattle.log_model.specs.Log.{LogState, Turn}
+use Rattle.log_model.specs.Log.{Turn}
 use Rattle.log_model.specs.Recover.{learned_in, onto}
 use Rattle.log_model.specs.declared.message.PaxMsg.TheVariants.{Accepted}
 use Rattle.log_model.specs.World.{packets_of, Packet as LogPacket, put}

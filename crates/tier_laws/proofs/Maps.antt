@@ -1,9 +1,8 @@
 -- The one server with look-up functions in place of its lists: what it has is easier to compare after other steps.
-use Rattle.std.specs.Prelude.{ℕ, suc, Bool, true, false, not, ◌==◌, nat_lt, List, [], ◌∷◌, Option, Some, None, if◌then◌else◌}
+use Rattle.std.specs.Prelude.{ℕ, suc, not, ◌==◌, nat_lt, List, [], ◌∷◌, Option, Some, None, if◌then◌else◌}
 use Rattle.aeg_base.specs.Store.{Store, empty}
-use Rattle.aeg_base.specs.declared.names.ReqId.{ReqId}
 use Rattle.aeg_base.specs.declared.names.Tier.{Tier}
-use Rattle.aeg_base.specs.declared.names.Tier.TheVariants.{Mid, Inv, Pay}
+use Rattle.aeg_base.specs.declared.names.Tier.TheVariants.{Mid}
 use Rattle.svc_api.specs.declared.action.Ending.{Ending}
 use Rattle.svc_api.specs.declared.action.Ending.TheVariants.{Reply, Call}
 use Rattle.server_model.specs.Backends.{Served}

@@ -1,36 +1,33 @@
 -- Each event at a middle node keeps the invariant, but for the growth of the logs.
-use Rattle.std.proofs.Common.{◌≡◌, ℕ, ◌+◌, ◌*◌, ◌<◌, ◌≤◌, Bool, true, false, cond, List, [], ◌∷◌, ◌++◌, length, replicate, refl, sym, ap, ◌∙◌, subst, inl, inr, Option, Some, None, zero, suc, arith}
-use Rattle.std.specs.Prelude.{slice_get, ◌⊎◌, ◌==◌, ◌&&◌, ◌||◌, IfSome, nat_lt}
-use Rattle.std.proofs.lemmas.Bool.{cond-true, cond-false, cond_both, ltb-true, eqb-true, or_parts}
-use Rattle.aeg_base.specs.Store.{Store}
+use Rattle.std.proofs.Common.{◌≡◌, ℕ, ◌+◌, ◌*◌, ◌<◌, Bool, true, false, cond, List, [], ◌∷◌, ◌++◌, length, refl, sym, ap, ◌∙◌, subst, inl, inr, Option, Some, None, zero, suc}
+use Rattle.std.specs.Prelude.{slice_get, ◌⊎◌, ◌==◌, ◌&&◌, nat_lt}
+use Rattle.std.proofs.lemmas.Bool.{cond_both, ltb-true, or_parts}
 use Rattle.aeg_base.specs.declared.names.Ballot.{Ballot}
 use Rattle.aeg_base.specs.declared.names.Tier.{Tier}
-use Rattle.log_model.proofs.Basics.{Every, every-append, nothing_seen}
-use Rattle.log_model.proofs.History.{DidVote, Grew, grew-refl}
+use Rattle.log_model.proofs.Basics.{nothing_seen}
+use Rattle.log_model.proofs.History.{DidVote}
 use Rattle.log_model.proofs.Invariant.{AllGrew, History, Rest, SoupGrew, StateOk, TurnOk, all_same, soup-append, soup-refl, state-grew}
 use Rattle.log_model.proofs.Step.{grown, put_each, put_other, put_same}
 use Rattle.log_model.specs.Log.{LogState, Turn}
-use Rattle.log_model.specs.Recover.{learned_in, newest, newest_onto, onto, recover}
-use Rattle.log_model.specs.World.{Device, Mode, Node, Packet as LogPacket, failed, is_fine, put, recorded, stands, writes}
+use Rattle.log_model.specs.Recover.{learned_in, newest, onto, recover}
+use Rattle.log_model.specs.World.{Device, Mode, Node, Packet as LogPacket, failed, is_fine, put, recorded, stands}
 use Rattle.log_model.specs.World.Mode.{Down, Gone, Up}
 use Rattle.log_model.specs.declared.fact.Fact.{Fact as LogFact}
 use Rattle.log_values.specs.declared.fact.Fact.{Fact}
 use Rattle.log_values.specs.declared.any_value.AnyValue.{AnyValue}
-use Rattle.log_values.specs.declared.entry.Entry.{Entry}
 use Rattle.round_model.specs.Answers.{Code, code_of}
-use Rattle.round_model.specs.Lists.{concat, half, is_some}
+use Rattle.round_model.specs.Lists.{is_some}
 use Rattle.round_model.specs.Service.{Service, run}
-use Rattle.round_model.specs.Tables.{Parked, Tables, tables0}
+use Rattle.round_model.specs.Tables.{tables0}
 use Rattle.round_model.specs.Verdicts.{Vote}
 use Rattle.run_model.specs.World.{Config, World, at_mid, crashed, is_well, mid_node, mid_up, moved, restarted, sent, the_run, up_from, with_mid}
 use Rattle.server_model.specs.Server.{same_tier}
 use Rattle.tier_laws.proofs.Apply.{apply_ok}
-use Rattle.tier_laws.proofs.Core.{Core, Done, Inv, MidChange, MidDown, MidMode, MidPending, MidUp, Mid_event, NearlyDone, known, mid_changed, mid_mode-more, nearly_done, newest-push, past, same_back, same_mid, unchanged}
+use Rattle.tier_laws.proofs.Core.{Core, Inv, MidMode, MidPending, MidUp, Mid_event, known, mid_changed, mid_mode-more, newest-push, past, same_back, same_mid, unchanged}
 use Rattle.tier_laws.proofs.Ledger.{TablesOk, get-left}
 use Rattle.tier_laws.proofs.Logs.{Complete, LogPart, Nearly, log_weaker, meets_good, nearly, turn_log, turn_nearly, write_log}
 use Rattle.tier_laws.proofs.Moves.{Here, Later, MoveOk, held_in-onto, helds, log_facts-onto}
-use Rattle.tier_laws.proofs.Past.{DidRun, Grows, Known, MidOk, MidOther, SentOk, Past, RunOk, holds, kept-refl, mid_ok-more, more-refl, run_ok-more}
-use Rattle.tier_laws.proofs.Rounds.{Kept}
+use Rattle.tier_laws.proofs.Past.{Grows, Known, MidOk, MidOther, Past, RunOk, kept-refl, mid_ok-more, more-refl, run_ok-more}
 use Rattle.tier_laws.proofs.Stable.{MoreLog}
 use Rattle.tier_laws.proofs.Wants.{get_cases}
 use Rattle.tier_laws.proofs.Maps.{Server, server}
@@ -43,9 +40,8 @@ use Rattle.run_model.specs.World.{up_as, found_at}
 use Rattle.tier_laws.proofs.Lists.{at-replicate}
 use Rattle.tier_laws.proofs.Mirrors.{no_parked}
 use Rattle.tier_model.specs.MidRows.{Running, bare, catch_up, recovered}
-use Rattle.aeg_base.specs.declared.names.ReqId.{ReqId}
 use Rattle.tier_laws.specs.Said.{Laws}
-use Rattle.tier_laws.proofs.Soups.{mid_soup, back_soup, back_nil, nil, mid_soup-append, back_soup-append}
+use Rattle.tier_laws.proofs.Soups.{mid_soup, back_soup, back_nil, mid_soup-append}
 use Rattle.tier_model.specs.Moves.{Move, Packet, held_in, log_facts}
 
 get-right : {A : Type 0} (xs ys : List A) (i : ℕ) (a : A) → slice_get ys i ≡ Some a → (j : ℕ) × (slice_get (xs ++ ys) j ≡ Some a)

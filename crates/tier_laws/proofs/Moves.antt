@@ -1,42 +1,35 @@
 -- What a middle node does in an event is right by itself.
-use Rattle.std.proofs.Common.{◌≡◌, ℕ, ◌+◌, ◌*◌, ◌<◌, ◌≤◌, Bool, true, false, cond, List, [], ◌∷◌, ◌++◌, length, map, refl, sym, ap, ◌∙◌, subst, inl, inr, Option, Some, None, zero, suc, arith}
-use Rattle.std.specs.Prelude.{slice_get, ◌⊎◌, ◌==◌, ◌&&◌, ◌||◌, not, nat_lt, nat_le}
-use Rattle.std.proofs.lemmas.Bool.{cond-true, cond-false, cond_both, and_parts, or_parts, eqb-true, ltb-true, ltb-false, cases_lt}
+use Rattle.std.proofs.Common.{◌≡◌, ℕ, ◌+◌, ◌*◌, ◌<◌, Bool, true, false, cond, List, [], ◌∷◌, ◌++◌, length, map, refl, sym, ap, ◌∙◌, subst, inl, inr, Option, Some, None}
+use Rattle.std.specs.Prelude.{slice_get, ◌⊎◌}
 use Rattle.aeg_base.specs.declared.names.Ballot.{Ballot}
 use Rattle.aeg_base.specs.declared.names.Tier.{Tier}
 use Rattle.log_model.proofs.Basics.{Every, every-append}
-use Rattle.log_model.proofs.History.{DidVote, Orderly}
-use Rattle.log_model.proofs.Invariant.{AllGrew, History, Rest, StateOk, TurnOk}
+use Rattle.log_model.proofs.History.{DidVote}
+use Rattle.log_model.proofs.Invariant.{History, Rest, StateOk, TurnOk}
 use Rattle.log_model.proofs.Origin.{Origins, Stood}
-use Rattle.log_model.proofs.Rows.{Known as Knows, idle_ok, still}
+use Rattle.log_model.proofs.Rows.{Known as Knows, idle_ok}
 use Rattle.log_model.proofs.Step.{grown, put_same}
-use Rattle.log_model.specs.Chosen.{Meets}
-use Rattle.log_model.specs.Log.{LogState, Turn, count_below, idles, is, nobody, open_at, stays}
-use Rattle.log_model.specs.Recover.{learned_in, onto}
-use Rattle.log_model.specs.Rows.{lead, offer, on_msg}
-use Rattle.log_model.specs.World.{packets_of, Packet as LogPacket, put}
+use Rattle.log_model.specs.Log.{LogState, Turn, idles, nobody}
+use Rattle.log_model.specs.Recover.{onto}
+use Rattle.log_model.specs.World.{packets_of, put}
 use Rattle.log_model.specs.declared.fact.Fact.{Fact as LogFact}
-use Rattle.log_model.specs.declared.message.PaxMsg.{PaxMsg}
 use Rattle.log_values.specs.declared.fact.Fact.{Fact}
 use Rattle.log_values.specs.declared.fact.Fact.TheVariants.{Held}
 use Rattle.log_values.specs.declared.any_value.AnyValue.{AnyValue}
-use Rattle.log_values.specs.declared.entry.Entry.{Entry}
-use Rattle.log_values.specs.declared.mid_value.Verdict.{Verdict}
-use Rattle.round_model.specs.Answers.{Code, Noted, code_of}
-use Rattle.round_model.specs.Lists.{OfTiers, of_tier, concat, each, is_some}
-use Rattle.round_model.specs.Service.{Finish, Service, run}
-use Rattle.round_model.specs.Tables.{Parked, Tables, Want, bump}
+use Rattle.round_model.specs.Answers.{Code}
+use Rattle.round_model.specs.Lists.{OfTiers, of_tier}
+use Rattle.round_model.specs.Service.{Service}
+use Rattle.round_model.specs.Tables.{Want, bump}
 use Rattle.round_model.specs.Verdicts.{Vote}
 use Rattle.run_model.specs.World.{Config}
-use Rattle.server_model.specs.Server.{same_tier}
 use Rattle.svc_api.specs.declared.action.Ending.{Ending}
 use Rattle.svc_api.specs.declared.action.Ending.TheVariants.{Call, Reply}
 use Rattle.tier_laws.proofs.Apply.{apply_ok}
 use Rattle.tier_laws.proofs.Logs.{Complete}
-use Rattle.tier_laws.proofs.Past.{DidRun, Grows, Known, MidOk, MidOther, SentOk, Past, RunOk, holds, other-more}
+use Rattle.tier_laws.proofs.Past.{DidRun, Grows, Known, MidOk, MidOther, SentOk, Past, RunOk, other-more}
 use Rattle.tier_laws.proofs.Stable.{MoreLog}
-use Rattle.tier_model.specs.Mid.{reply_to, call_to, Mid, Ready, apply, apply_sends, apply_state, calls_to, due_round, in_log, is_due, ready, tells, with_log}
-use Rattle.aeg_base.specs.declared.names.Tier.TheVariants.{Mid as MidTier, Inv, Pay}
+use Rattle.tier_model.specs.Mid.{reply_to, call_to, Mid, Ready, apply_sends, apply_state, calls_to, due_round, in_log, is_due, ready, tells, with_log}
+use Rattle.aeg_base.specs.declared.names.Tier.TheVariants.{Mid as MidTier}
 use Rattle.log_model.specs.declared.fact.Fact.TheVariants as logs
 use Rattle.log_model.specs.declared.turn.LogIdle.TheVariants.{Nothing}
 use Rattle.log_values.specs.declared.fact.Fact.TheVariants.{Promised, Accepted, Learned}

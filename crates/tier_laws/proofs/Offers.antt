@@ -1,46 +1,32 @@
 -- What a middle node offers of its own, and what a retry sends.
-use Rattle.std.proofs.Common.{◌≡◌, ℕ, ◌+◌, ◌*◌, ◌-◌, ◌<◌, ◌≤◌, Bool, true, false, cond, List, [], ◌∷◌, ◌++◌, length, map, refl, sym, ap, ◌∙◌, subst, inl, inr, Option, Some, None, zero, suc, arith}
-use Rattle.std.specs.Prelude.{slice_get, ◌⊎◌, ◌==◌, ◌&&◌, ◌||◌, not, nat_lt, nat_le, take, drop}
-use Rattle.std.proofs.lemmas.Bool.{cond-true, cond-false, cond_both, and_parts, or_parts, eqb-true, eq-eqb, ltb-true, ltb-false, cases_lt, cases_eq}
-use Rattle.std.proofs.lemmas.Option.{cond_some}
-use Rattle.aeg_base.specs.declared.names.Ballot.{Ballot}
+use Rattle.std.proofs.Common.{◌≡◌, ℕ, ◌+◌, ◌*◌, ◌-◌, ◌<◌, ◌≤◌, Bool, true, false, cond, List, [], ◌∷◌, ◌++◌, length, refl, sym, ap, ◌∙◌, subst, inl, inr, Option, Some, None, zero, suc, arith}
+use Rattle.std.specs.Prelude.{slice_get, ◌⊎◌, ◌==◌, ◌&&◌, not, nat_lt, nat_le, take, drop}
+use Rattle.std.proofs.lemmas.Bool.{cond-true, cond_both, eq-eqb, cases_eq}
 use Rattle.aeg_base.specs.declared.names.Tier.{Tier}
-use Rattle.log_model.proofs.Basics.{Every, every-append, every-weaker}
-use Rattle.log_model.proofs.History.{DidVote}
-use Rattle.log_model.proofs.Invariant.{History, PacketOk, StateOk, TurnOk}
+use Rattle.log_model.proofs.Basics.{Every, every-append}
 use Rattle.log_model.proofs.Rows.{still}
-use Rattle.log_model.specs.Chosen.{Meets}
-use Rattle.log_model.specs.Log.{Leader, LogState, Turn, count_below, is, nobody, open_at}
-use Rattle.log_model.specs.Recover.{learned_in, onto}
-use Rattle.log_model.specs.Rows.{lead, offer, on_msg}
-use Rattle.log_model.specs.World.{Packet as LogPacket, put}
+use Rattle.log_model.specs.Log.{Leader, LogState, is, nobody, open_at}
+use Rattle.log_model.specs.Rows.{lead, offer}
 use Rattle.log_model.specs.declared.fact.Fact.{Fact as LogFact}
-use Rattle.log_model.specs.declared.message.PaxMsg.{PaxMsg}
-use Rattle.log_values.specs.declared.fact.Fact.{Fact}
 use Rattle.log_values.specs.declared.any_value.AnyValue.{AnyValue}
 use Rattle.log_values.specs.declared.any_value.AnyValue.TheVariants.{Mid as OfMid}
 use Rattle.log_values.specs.declared.entry.Entry.{Entry}
 use Rattle.log_values.specs.declared.mid_value.MidValue.TheVariants.{Batch, Verdict as Decided}
-use Rattle.log_values.specs.declared.mid_value.Verdict.{Verdict}
-use Rattle.round_model.specs.Answers.{Code, Noted, code_of, floor, insert, least_open, sorted, usable}
+use Rattle.round_model.specs.Answers.{Code, code_of, insert, least_open, sorted}
 use Rattle.round_model.specs.Lists.{and_then, concat, each, half, is_nil, is_some, odd}
-use Rattle.round_model.specs.Service.{Finish, Service}
+use Rattle.round_model.specs.Service.{Service}
 use Rattle.round_model.specs.Tables.{pending_of, Parked, Tables, fresh_pending, if_fresh, is_fresh}
-use Rattle.round_model.specs.Verdicts.{Vote, verdict}
+use Rattle.round_model.specs.Verdicts.{verdict}
 use Rattle.run_model.specs.World.{Config}
 use Rattle.server_model.specs.Server.{same_tier}
-use Rattle.svc_api.specs.declared.action.Ending.{Ending}
-use Rattle.tier_laws.proofs.Lists.{tier_eq, tier_same}
+use Rattle.tier_laws.proofs.Lists.{tier_same}
 use Rattle.tier_laws.proofs.Apply.{every-each}
-use Rattle.tier_laws.proofs.Moves.{Here, Later, MoveOk, helds, knows}
-use Rattle.tier_laws.proofs.Past.{BatchOk, DidRun, FloorOk, Grows, Known, ManyHold, MidOk, MidOther, SentOk, Past, Submitted, holds, other-more}
+use Rattle.tier_laws.proofs.Moves.{Here, MoveOk, knows}
+use Rattle.tier_laws.proofs.Past.{BatchOk, FloorOk, Known, MidOk, MidOther, SentOk, Past, holds, other-more}
 use Rattle.tier_laws.proofs.Stable.{then_parts}
-use Rattle.tier_laws.proofs.Verdicts.{Tallied, usable_ok, verdict_ok}
+use Rattle.tier_laws.proofs.Verdicts.{usable_ok, verdict_ok}
 use Rattle.tier_laws.proofs.Wants.{get_cases}
 use Rattle.aeg_base.specs.declared.names.Tier.TheVariants.{Mid as MidTier, Inv, Pay}
-use Rattle.frames.specs.declared.turn.Turn.{Turn as Answer}
-use Rattle.frames.specs.declared.turn.Idle.TheVariants as why
-use Rattle.tier_laws.specs.Said.{Laws}
 use Rattle.tier_laws.proofs.Soups.{mid_soup, back_soup, nil, mid_soup-append, back_soup-append, NoLog, no_mid, no_back, none_nil, none_append, none_each, mid_soup-log, back_soup-mid, every-log}
 use Rattle.tier_model.specs.Mid.{Mid, calls_to}
 use Rattle.log_model.specs.declared.message.PaxMsg.TheVariants.{Ask}
@@ -57,7 +43,7 @@ use Rattle.tier_laws.proofs.Moves.{log_move, stays_ok}
 use Rattle.tier_model.specs.Mid.{in_log, call_to}
 use Rattle.tier_model.specs.Moves.{log_packets, idles}
 use Rattle.tier_model.specs.MidRows.{leads, offers, offers_as, own_cause, have_to, settle_at, usable_here, floor_here, open_calls, put_parked, by_number, again, calls_again, haves, haves_again, own_batch, own_value, retry, settle_to}
-use Rattle.tier_model.specs.Moves.{Move, Packet, asks}
+use Rattle.tier_model.specs.Moves.{Packet, asks}
 
 -- OWN VALUES
 

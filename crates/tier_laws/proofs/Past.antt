@@ -1,7 +1,6 @@
 -- What is said of packets, values, votes and states: facts of a past that only grows.
-use Rattle.std.proofs.Common.{◌≡◌, ℕ, ◌+◌, ◌*◌, ◌<◌, ◌≤◌, Bool, true, false, cond, List, [], ◌∷◌, ◌++◌, length, refl, sym, ap, ◌∙◌, subst, inl, inr, Option, Some, None, zero, suc, arith}
-use Rattle.std.specs.Prelude.{slice_get, ◌⊎◌, ◌==◌, ◌&&◌, ◌||◌}
-use Rattle.aeg_base.specs.Store.{Store}
+use Rattle.std.proofs.Common.{◌≡◌, ℕ, ◌+◌, ◌*◌, ◌<◌, Bool, true, false, List, [], ◌∷◌, length, sym, ◌∙◌, Some, arith}
+use Rattle.std.specs.Prelude.{slice_get, ◌==◌, ◌&&◌, ◌||◌}
 use Rattle.aeg_base.specs.declared.names.Tier.{Tier}
 use Rattle.log_model.proofs.Basics.{Every, count-more, every-weaker}
 use Rattle.log_model.specs.Log.{count_below}
@@ -20,13 +19,13 @@ use Rattle.aeg_base.specs.declared.names.End.{End}
 use Rattle.aeg_base.specs.declared.names.End.TheVariants.{Client}
 use Rattle.frames.specs.declared.message.Msg.{Msg}
 use Rattle.frames.specs.declared.message.Msg.TheVariants as msgs
-use Rattle.round_model.specs.Tables.{pending_of, Number, Tables, Want}
+use Rattle.round_model.specs.Tables.{pending_of, Number, Want}
 use Rattle.round_model.specs.Verdicts.{Vote, same_token}
 use Rattle.run_model.specs.World.{Config}
 use Rattle.tier_laws.specs.Said.{Laws}
-use Rattle.tier_laws.proofs.Ledger.{Decision, TablesOk, answers-kept, decision-more, tables-kept}
+use Rattle.tier_laws.proofs.Ledger.{Decision, TablesOk, answers-kept, tables-kept}
 use Rattle.tier_laws.proofs.Rounds.{Kept}
-use Rattle.tier_laws.proofs.Stable.{MoreAnswers, MoreLog, after-more, round-more}
+use Rattle.tier_laws.proofs.Stable.{MoreLog, after-more, round-more}
 use Rattle.tier_laws.proofs.Maps.{Server}
 use Rattle.tier_model.specs.Mid.{Mid}
 use Rattle.tier_model.specs.Moves.{Packet, tier_of, index_of}

@@ -1,10 +1,9 @@
 -- The stores and jobs of rounds are in range: at most 16 segments, each of a request.
 use Rattle.std.proofs.Common.{◌≡◌, ℕ, ◌+◌, ◌<◌, ◌≤◌, Bool, true, false, cond, List, [], ◌∷◌, ◌++◌, length, map, refl, sym, ap, ◌∙◌, subst, inl, inr, Option, Some, None, zero, suc, arith}
-use Rattle.std.specs.Prelude.{slice_get, ◌⊎◌, ◌==◌, ◌||◌, replicate}
-use Rattle.std.proofs.lemmas.Bool.{cond-true, cond-false, eq-eqb, eqb-true, ne_eqb, cases_eq}
+use Rattle.std.specs.Prelude.{slice_get, ◌⊎◌, ◌==◌, ◌||◌}
+use Rattle.std.proofs.lemmas.Bool.{cond-false, eq-eqb, ne_eqb, cases_eq}
 use Rattle.std.proofs.lemmas.Option.{cond_some}
-use Rattle.aeg_base.specs.Store.{Store, empty, value_at}
-use Rattle.aeg_base.specs.declared.names.ReqId.{ReqId}
+use Rattle.aeg_base.specs.Store.{Store}
 use Rattle.aeg_base.proofs.StoreLaws.{value_at-empty}
 use Rattle.svc_api.specs.Requests.{IsRequest}
 use Rattle.svc_api.specs.declared.action.Ending.{Ending}
@@ -15,11 +14,11 @@ use Rattle.log_values.specs.declared.mid_value.Verdict.{Verdict}
 use Rattle.log_values.specs.declared.entry.Entry.{Entry}
 use Rattle.round_model.specs.Lists.{and_then, concat, head_of, tail_of}
 use Rattle.round_model.specs.Service.{Service, finish, is_order}
-use Rattle.round_model.specs.Tables.{Parked, Tables, tables0, fresh_of, Number, Want, resumed, started, wants, Codes, as_seg, answered, job_of, parks, settled}
-use Rattle.round_model.specs.After.{verdict_at, order_in, Round, round_at, done, done_by, after, round}
+use Rattle.round_model.specs.Tables.{Parked, Tables, tables0, fresh_of, Number, Want, resumed, started, wants, Codes, as_seg, answered, parks, settled}
+use Rattle.round_model.specs.After.{verdict_at, order_in, Round, round_at, done, after, round}
 use Rattle.tier_laws.specs.Said.{IsStore, IsJob, Laws}
 use Rattle.tier_laws.proofs.Stable.{then_parts, round_parts, RoundParts}
-use Rattle.tier_laws.proofs.Acts.{Act, acts, acts_want, NoneOf, Distinct, none_not}
+use Rattle.tier_laws.proofs.Acts.{acts_want, NoneOf, Distinct}
 use Rattle.tier_laws.proofs.Legal.{job_at, job-length}
 use Rattle.tier_laws.proofs.Wants.{get_cases, get_map, concat-head, concat-push, parks_acts, fresh-at, is_fresh_parts, IsFresh, in_range_parts, InRange}
 use Rattle.tier_laws.proofs.Mirrors.{wants_distinct_of, settled_one, parked_is, no_parked}

@@ -1,50 +1,33 @@
 -- The rows of a middle node beside the log.
-use Rattle.std.proofs.Common.{◌≡◌, ℕ, ◌+◌, ◌*◌, ◌-◌, ◌<◌, ◌≤◌, Bool, true, false, cond, List, [], ◌∷◌, ◌++◌, length, map, refl, sym, ap, ◌∙◌, subst, inl, inr, Option, Some, None, zero, suc, arith}
-use Rattle.std.specs.Prelude.{slice_get, ◌⊎◌, ◌==◌, ◌&&◌, ◌||◌, not, nat_lt, nat_le, take, drop}
-use Rattle.std.proofs.lemmas.Bool.{cond-true, cond-false, cond_both, and_parts, or_parts, eqb-true, eq-eqb, ltb-true, ltb-false, cases_lt, cases_eq}
-use Rattle.aeg_base.specs.declared.names.Ballot.{Ballot}
+use Rattle.std.proofs.Common.{◌≡◌, ℕ, ◌+◌, ◌*◌, Bool, true, false, cond, List, [], ◌∷◌, ◌++◌, refl, sym, ap, ◌∙◌, subst, inl, inr, Option, Some, None, zero, suc}
+use Rattle.std.specs.Prelude.{slice_get, ◌⊎◌, ◌==◌, ◌&&◌, ◌||◌, not, nat_lt}
+use Rattle.std.proofs.lemmas.Bool.{cond-true, cond_both, and_parts, eqb-true, eq-eqb, cases_eq}
 use Rattle.aeg_base.specs.declared.names.Tier.{Tier}
-use Rattle.log_model.proofs.Basics.{Every, every-append}
-use Rattle.log_model.proofs.History.{DidVote}
-use Rattle.log_model.proofs.Invariant.{History, PacketOk, StateOk, TurnOk}
-use Rattle.log_model.proofs.Rows.{still}
-use Rattle.log_model.specs.Chosen.{Meets}
-use Rattle.log_model.specs.Log.{Leader, LogState, Turn, count_below, is, nobody, open_at}
-use Rattle.log_model.specs.Recover.{learned_in, onto}
-use Rattle.log_model.specs.Rows.{lead, offer, on_msg}
-use Rattle.log_model.specs.World.{Packet as LogPacket, put}
+use Rattle.log_model.proofs.Basics.{Every}
+use Rattle.log_model.specs.Log.{is, open_at}
 use Rattle.log_model.specs.declared.fact.Fact.{Fact as LogFact}
-use Rattle.log_model.specs.declared.message.PaxMsg.{PaxMsg}
-use Rattle.log_values.specs.declared.fact.Fact.{Fact}
-use Rattle.log_values.specs.declared.fact.Fact.TheVariants.{Held}
 use Rattle.log_values.specs.declared.any_value.AnyValue.{AnyValue}
 use Rattle.log_values.specs.declared.entry.Entry.{Entry}
-use Rattle.log_values.specs.declared.mid_value.MidValue.TheVariants.{Batch, Verdict as Decided}
-use Rattle.log_values.specs.declared.mid_value.Verdict.{Verdict}
 use Rattle.round_model.specs.After.{batch_at, verdict_at}
-use Rattle.round_model.specs.Answers.{Code, Noted, code_of, floor, insert, is_noted, least_open, many_hold, sorted, usable}
-use Rattle.round_model.specs.Lists.{put_at, and_then, concat, each, half, is_nil, is_some, odd}
-use Rattle.round_model.specs.Service.{Finish, Service}
-use Rattle.round_model.specs.Tables.{last_of, kept_of, pending_of, Parked, Tables, fresh_pending, if_fresh, is_fresh, job_of, wants}
-use Rattle.round_model.specs.Verdicts.{Vote, verdict, vote_of}
+use Rattle.round_model.specs.Answers.{Code, Noted, code_of, is_noted}
+use Rattle.round_model.specs.Lists.{put_at, and_then, is_some}
+use Rattle.round_model.specs.Service.{Service}
+use Rattle.round_model.specs.Tables.{last_of, kept_of, pending_of, job_of, wants}
+use Rattle.round_model.specs.Verdicts.{Vote, vote_of}
 use Rattle.run_model.specs.World.{Config, the_run}
 use Rattle.server_model.specs.Server.{same_tier}
-use Rattle.svc_api.specs.declared.action.Ending.{Ending}
 use Rattle.tier_laws.proofs.Lists.{at_here, at_there, tier_same}
-use Rattle.tier_laws.proofs.Apply.{code_at, every-each, held_right}
-use Rattle.tier_laws.proofs.Moves.{Here, Later, MoveOk, helds, knows, none_apply, none_tells, plain, prefix, quiet, ready_later, state_log, stays_ok}
-use Rattle.tier_laws.proofs.Past.{BatchOk, DidRun, FloorOk, Grows, Known, ManyHold, MidOk, MidOther, SentOk, Past, RunOk, Submitted, holds, other-more, run-more, submitted-more}
+use Rattle.tier_laws.proofs.Apply.{every-each}
+use Rattle.tier_laws.proofs.Moves.{Here, Later, MoveOk, none_apply, plain, prefix, quiet, ready_later, stays_ok}
+use Rattle.tier_laws.proofs.Past.{DidRun, Grows, Known, MidOther, SentOk, Past, RunOk, Submitted, holds, other-more, run-more, submitted-more}
 use Rattle.tier_laws.proofs.Stable.{then_parts}
-use Rattle.tier_laws.proofs.Verdicts.{Tallied, run_right, usable_ok, verdict_ok}
-use Rattle.aeg_base.specs.declared.names.Tier.TheVariants.{Mid as MidTier, Inv, Pay}
-use Rattle.frames.specs.declared.turn.Turn.{Turn as Answer}
+use Rattle.tier_laws.proofs.Verdicts.{run_right}
 use Rattle.frames.specs.declared.turn.Idle.TheVariants as why
-use Rattle.tier_laws.specs.Said.{Laws}
-use Rattle.tier_laws.proofs.Soups.{mid_soup, back_soup, nil, mid_soup-append, back_soup-append, NoLog, no_mid, no_back, none_nil, none_append, none_each, mid_soup-log, back_soup-mid, every-log}
-use Rattle.tier_model.specs.Mid.{Mid, Ready, applies, apply, apply_sends, apply_state, calls_to, ready, tells}
+use Rattle.tier_laws.proofs.Soups.{nil, NoLog, none_nil, none_each}
+use Rattle.tier_model.specs.Mid.{Mid, Ready, applies, ready}
 use Rattle.exec_model.specs.Jobs.{run_job}
-use Rattle.tier_model.specs.MidRows.{holds as with_answers, have_to, token_to, Running, running, usable_here, again, calls_again, has_seq, haves, haves_again, on_answer, on_have, on_request, on_token, own_batch, own_value, pends, retry, runs, runs_or_not, settle_to, takes_answer, tallied, tells_again, to_run, with_own, work, work_run}
-use Rattle.tier_model.specs.Moves.{Move, Packet, asks, idles, says, becomes}
+use Rattle.tier_model.specs.MidRows.{holds as with_answers, have_to, token_to, Running, running, usable_here, has_seq, haves, on_answer, on_have, on_request, on_token, pends, runs, runs_or_not, takes_answer, tallied, tells_again, to_run, with_own, work, work_run}
+use Rattle.tier_model.specs.Moves.{Packet, idles, says, becomes}
 
 -- REQUESTS
 

@@ -1,7 +1,7 @@
 -- The one server's lists show what its look-up functions have, and no step of a history that these take is refused.
-use Rattle.std.proofs.Common.{◌≡◌, ◌≢◌, ℕ, ◌+◌, ◌<◌, ◌≤◌, Bool, true, false, cond, List, [], ◌∷◌, ◌++◌, length, refl, sym, ap, ◌∙◌, subst, inl, inr, Option, Some, None, zero, suc, arith}
-use Rattle.std.specs.Prelude.{slice_get, ◌⊎◌, ◌==◌, ◌&&◌, not, nat_lt, slice_index, slice_index_or, slice_set, replicate, if◌then◌else◌, IsSome}
-use Rattle.std.proofs.lemmas.Bool.{cond-true, cond-false, eq-eqb, eqb-true, ne_eqb, and_parts, lt-ltb, ltb-true, cases_lt, cases_eq}
+use Rattle.std.proofs.Common.{◌≡◌, ℕ, ◌+◌, ◌<◌, ◌≤◌, Bool, true, false, cond, List, [], ◌∷◌, ◌++◌, length, refl, sym, ap, ◌∙◌, subst, inl, inr, Option, Some, None, zero, suc, arith}
+use Rattle.std.specs.Prelude.{slice_get, ◌⊎◌, ◌==◌, ◌&&◌, not, nat_lt, slice_index, slice_index_or, slice_set, IsSome}
+use Rattle.std.proofs.lemmas.Bool.{cond-true, cond-false, eq-eqb, eqb-true, ne_eqb, ltb-true, cases_lt, cases_eq}
 use Rattle.std.proofs.lemmas.List.{get_or-set_same, get_or-set_other, length-set, get_or-replicate}
 use Rattle.aeg_base.specs.Store.{Store}
 use Rattle.aeg_base.specs.declared.names.ReqId.{ReqId}
@@ -20,9 +20,9 @@ use Rattle.server_model.specs.declared.history.Hist.TheVariants.{Start, Serve, R
 use Rattle.server_model.specs.declared.history.Told.{Told}
 use Rattle.server_model.specs.declared.history.Told.TheVariants.{Replied, Called, Answered}
 use Rattle.round_model.specs.Lists.{is_some}
-use Rattle.round_model.specs.Service.{Service, is_request, row_of, run}
+use Rattle.round_model.specs.Service.{Service, row_of, run}
 use Rattle.run_model.specs.Histories.{put, HistoryStep}
-use Rattle.tier_laws.proofs.Maps.{Progress, Server, Result, put_number, replied, called, ran, first_seg, next_seg, coded, serves, resumes, resume, start_at, step_as, step, empty_server, result_or, IsDone, server_from, server, LegalFrom, Legal}
+use Rattle.tier_laws.proofs.Maps.{Progress, Server, Result, put_number, replied, called, ran, next_seg, coded, serves, resumes, resume, start_at, step_as, step, empty_server, result_or, IsDone, server_from, LegalFrom, Legal}
 use Rattle.tier_laws.proofs.Maps.Result.{Refused, Done}
 use Rattle.tier_laws.proofs.Lists.{put_here, put_there, tier_same, tier_eq, tier_cases}
 use Rattle.tier_laws.proofs.Rounds.{number_cases, number_here}

@@ -1,5 +1,5 @@
 -- The packets of the logs among all packets.
-use Rattle.std.proofs.Common.{◌≡◌, ℕ, ◌+◌, ◌*◌, Bool, true, false, cond, List, [], ◌∷◌, ◌++◌, refl, sym, ap, ◌∙◌, zero, suc}
+use Rattle.std.proofs.Common.{◌≡◌, ℕ, Bool, false, List, [], ◌∷◌, ◌++◌, refl, sym, ap, ◌∙◌, zero, suc}
 use Rattle.std.proofs.lemmas.Bool.{cond_both}
 use Rattle.aeg_base.specs.declared.names.Tier.{Tier}
 use Rattle.aeg_base.specs.declared.names.Tier.TheVariants.{Mid as MidTier, Inv, Pay}
@@ -9,7 +9,7 @@ use Rattle.log_model.specs.World.{Packet as LogPacket, packets_of}
 use Rattle.log_model.proofs.Basics.{Every}
 use Rattle.log_values.specs.declared.any_value.AnyValue.{AnyValue}
 use Rattle.round_model.specs.Lists.{each}
-use Rattle.tier_model.specs.Moves.{Packet, log_packet, log_packets}
+use Rattle.tier_model.specs.Moves.{Packet, log_packets}
 use Rattle.run_model.specs.Runs.{log_part, log_soup}
 use Rattle.run_model.specs.World.{Config}
 use Rattle.tier_laws.proofs.Past.{Past, SentOk}

@@ -1,6 +1,6 @@
 -- What the laws say, from the invariant.
-use Rattle.std.proofs.Common.{◌≡◌, ℕ, ◌+◌, ◌*◌, ◌<◌, ◌≤◌, Bool, true, false, cond, not, List, [], ◌∷◌, ◌++◌, length, refl, sym, ap, ◌∙◌, subst, inl, inr, Option, Some, None, zero, suc, arith}
-use Rattle.std.specs.Prelude.{slice_get, ◌⊎◌, ◌==◌}
+use Rattle.std.proofs.Common.{◌≡◌, ℕ, ◌+◌, ◌*◌, ◌<◌, Bool, true, false, cond, List, [], ◌∷◌, ◌++◌, refl, sym, ap, ◌∙◌, subst, inl, inr, Option, Some, None, arith}
+use Rattle.std.specs.Prelude.{slice_get}
 use Rattle.std.proofs.lemmas.Slice.Eq.{bytes_eq-Decides}
 use Rattle.aeg_base.specs.declared.names.ReqId.{ReqId}
 use Rattle.aeg_base.specs.declared.names.Tier.{Tier}
@@ -8,20 +8,18 @@ use Rattle.aeg_base.specs.declared.names.Tier.TheVariants.{Mid as MidTier, Inv, 
 use Rattle.aeg_base.specs.declared.names.End.{End}
 use Rattle.aeg_base.specs.declared.names.End.TheVariants.{Client}
 use Rattle.server_model.specs.History as history
-use Rattle.log_model.proofs.Basics.{Every, count-more, every-get}
+use Rattle.log_model.proofs.Basics.{every-get}
 use Rattle.log_model.proofs.Invariant.{PacketOk}
 use Rattle.log_model.specs.declared.message.PaxMsg.TheVariants.{Learn}
 use Rattle.log_model.specs.Chosen.{Meets}
-use Rattle.log_model.specs.Log.{count_below}
 use Rattle.log_model.specs.Recover.{newest, learned_in, onto}
 use Rattle.log_model.proofs.Step.{put_same, grown}
-use Rattle.log_model.specs.World.{Packet as LogPacket, Mode, Node, put}
+use Rattle.log_model.specs.World.{Packet as LogPacket, Mode, put}
 use Rattle.log_model.specs.World.Mode.{Down, Gone, Up}
 use Rattle.log_model.specs.declared.fact.Fact.{Fact as LogFact}
 use Rattle.log_values.specs.declared.fact.Fact.{Fact}
 use Rattle.log_values.specs.declared.any_value.AnyValue.{AnyValue}
 use Rattle.log_values.specs.declared.any_value.AnyValue.TheVariants.{Mid as OfMid}
-use Rattle.log_values.specs.declared.entry.Entry.{Entry}
 use Rattle.log_values.specs.declared.mid_value.MidValue.TheVariants.{Verdict as Decided}
 use Rattle.log_values.specs.declared.mid_value.Verdict.{Verdict}
 use Rattle.log_values.specs.declared.mid_value.Verdict.TheVariants.{Commit, Serial}
@@ -29,24 +27,21 @@ use Rattle.frames.specs.declared.message.Msg.{Msg}
 use Rattle.frames.specs.declared.message.Msg.TheVariants as msgs
 use Rattle.round_model.specs.After.{Round, round, after}
 use Rattle.round_model.specs.Answers.{Code, code_of}
-use Rattle.round_model.specs.Lists.{half, is_some}
-use Rattle.round_model.specs.Tables.{Number, Want, who_of}
-use Rattle.round_model.specs.Verdicts.{Vote}
+use Rattle.round_model.specs.Lists.{is_some}
+use Rattle.round_model.specs.Tables.{Number, Want}
 use Rattle.run_model.specs.World.{Config, World}
 use Rattle.run_model.specs.Runs.{is_in, log_soup, served_of}
-use Rattle.run_model.specs.declared.trace.TraceEvent.{TraceEvent}
 use Rattle.tier_model.specs.Back.{Back}
 use Rattle.tier_model.specs.Mid.{Mid}
 use Rattle.tier_model.specs.Moves.{tier_of, index_of, Packet, log_facts, held_in}
-use Rattle.tier_laws.specs.Said.{Laws, HasReply, HasCall, HasAnswer, chosen_log, MidLearned, BackLearned, HasLearned, StandsFor, DiskStandsFor, learned_from, MidApplied, BackServes, Caused, is_gone, FewGone, Durable}
+use Rattle.tier_laws.specs.Said.{HasReply, HasCall, HasAnswer, chosen_log, MidLearned, BackLearned, HasLearned, StandsFor, DiskStandsFor, learned_from, MidApplied, BackServes, Caused, is_gone, FewGone, Durable}
 use Rattle.tier_laws.proofs.Apply.{code_at, half-odd}
-use Rattle.tier_laws.proofs.Core.{BackMode, BackPending, Core, Inv as WorldOk, MidMode, MidPending, past}
-use Rattle.tier_laws.proofs.Events.{log_place, back_place, world_ok}
+use Rattle.tier_laws.proofs.Core.{BackMode, BackPending, Inv as WorldOk, MidMode, MidPending, past}
+use Rattle.tier_laws.proofs.Events.{log_place, back_place}
 use Rattle.tier_laws.proofs.Grow.{served_same}
-use Rattle.tier_laws.proofs.Logs.{Complete, meets_good}
 use Rattle.tier_laws.proofs.MidSteps.{values}
-use Rattle.tier_laws.proofs.Past.{BackOk, FloorOk, ManyHold, MidOk, SentBy, SentOk, Past, VerdictBy, VerdictOk, holds}
-use Rattle.tier_laws.proofs.Shows.{Shown, Shows, shown}
+use Rattle.tier_laws.proofs.Past.{ManyHold, MidOk, SentBy, SentOk, Past, VerdictBy, VerdictOk, holds}
+use Rattle.tier_laws.proofs.Shows.{Shown, shown}
 use Rattle.tier_laws.proofs.Soups.{mid_soup, back_soup}
 use Rattle.tier_laws.proofs.Verdicts.{count-gap}
 use Rattle.tier_laws.proofs.Maps.{server, empty_server}

@@ -1,36 +1,30 @@
 -- A verdict that a middle node offers is backed, and a run is a run of its round.
-use Rattle.std.proofs.Common.{◌≡◌, ℕ, ◌+◌, ◌*◌, ◌<◌, ◌≤◌, Bool, true, false, cond, List, [], ◌∷◌, ◌++◌, length, refl, sym, ap, ◌∙◌, subst, inl, inr, Option, Some, None, zero, suc, arith}
+use Rattle.std.proofs.Common.{◌≡◌, ℕ, ◌+◌, ◌*◌, ◌<◌, ◌≤◌, Bool, true, false, cond, List, [], ◌∷◌, refl, sym, ap, ◌∙◌, subst, inl, inr, Option, Some, None, zero, suc, arith}
 use Rattle.std.specs.Prelude.{slice_get, ◌⊎◌, ◌==◌, ◌&&◌, ◌||◌, nat_lt}
-use Rattle.std.proofs.lemmas.Bool.{cond-true, cond-false, cond_both, and_parts, or_parts, eqb-true, ltb-true, ltb-false, cases_lt}
+use Rattle.std.proofs.lemmas.Bool.{and_parts, eqb-true, ltb-true, ltb-false, cases_lt}
 use Rattle.std.proofs.lemmas.Option.{cond_some}
 use Rattle.aeg_base.specs.declared.names.Tier.{Tier}
 use Rattle.exec_model.specs.declared.job.Seg.{Seg}
 use Rattle.log_model.proofs.Basics.{count-more}
 use Rattle.log_model.specs.Log.{count_below}
-use Rattle.log_values.specs.declared.any_value.AnyValue.{AnyValue}
-use Rattle.log_values.specs.declared.entry.Entry.{Entry}
 use Rattle.log_values.specs.declared.mid_value.Verdict.{Verdict}
 use Rattle.log_values.specs.declared.mid_value.Verdict.TheVariants.{Commit, Serial}
-use Rattle.round_model.specs.After.{Round, after, batch_at, round, round_at, verdict_at}
-use Rattle.round_model.specs.Answers.{Code, Noted, code_of, is_noted, many_hold, usable}
-use Rattle.round_model.specs.Lists.{and_then, each, is_some, lowest}
-use Rattle.round_model.specs.Service.{Finish, Service, finish, is_order, run}
-use Rattle.round_model.specs.Tables.{Codes as Answers, Number, Tables, Want, answered, as_seg, job_of, wants}
-use Rattle.round_model.specs.Verdicts.{Vote, has_token, is_backed, same_token, serial_if, verdict, verdict_by, vote_of}
+use Rattle.round_model.specs.After.{after, batch_at, round, round_at}
+use Rattle.round_model.specs.Answers.{Noted, code_of, is_noted, many_hold}
+use Rattle.round_model.specs.Lists.{and_then, is_some, lowest}
+use Rattle.round_model.specs.Tables.{Codes as Answers, Number, Want, answered, as_seg, job_of, wants}
+use Rattle.round_model.specs.Verdicts.{Vote, has_token, is_backed, same_token, verdict, verdict_by, vote_of}
 use Rattle.run_model.specs.World.{Config}
 use Rattle.server_model.specs.Server.{same_tier}
-use Rattle.svc_api.specs.declared.action.Ending.{Ending}
 use Rattle.tier_laws.proofs.Lists.{tier_eq}
 use Rattle.tier_laws.proofs.Apply.{held_right}
-use Rattle.tier_laws.proofs.Past.{DidRun, JobHeld, Known, ManyHold, MidOther, Past, RunOk, VerdictOk, holds}
+use Rattle.tier_laws.proofs.Past.{DidRun, Known, ManyHold, MidOther, Past, RunOk, VerdictOk, holds}
 use Rattle.tier_laws.proofs.Stable.{MoreAnswers, MoreLog, batch-more, job-more, round_made, then_parts, then_some}
-use Rattle.tier_laws.proofs.Maps.{Server}
 use Rattle.tier_model.specs.Mid.{Mid}
 use Rattle.exec_model.specs.Jobs.{run_job}
 use Rattle.exec_model.specs.Outcomes as changes
 use Rattle.tier_laws.specs.Said.{Laws}
-use Rattle.tier_model.specs.MidRows.{Running, running, usable_here, to_run, work_run}
-use Rattle.tier_model.specs.Moves.{Packet}
+use Rattle.tier_model.specs.MidRows.{Running, running, usable_here, to_run}
 
 -- COUNTS
 

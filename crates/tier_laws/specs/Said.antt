@@ -1,5 +1,5 @@
 -- The words of the laws.
-use Rattle.std.specs.Prelude.{◌≡◌, ◌≢◌, ◌⊎◌, ◌<◌, ◌≤◌, ◌^◌, ◌+◌, ◌*◌, ℕ, suc, Bool, true, false, List, length, Option, Some, None, slice_get}
+use Rattle.std.specs.Prelude.{◌≡◌, ◌⊎◌, ◌<◌, ◌≤◌, ◌^◌, ◌+◌, ◌*◌, ℕ, Bool, true, false, List, length, Some, slice_get}
 use Rattle.aeg_base.specs.Store.{Store, value_at}
 use Rattle.aeg_base.specs.declared.names.Key.{Key}
 use Rattle.svc_api.specs.Plan.{IsKey}
@@ -13,18 +13,17 @@ use Rattle.aeg_base.specs.declared.names.Tier.{Tier}
 use Rattle.aeg_base.specs.declared.names.Tier.TheVariants.{Mid as InMid, Inv, Pay}
 use Rattle.server_model.specs.Server.{found_in}
 use Rattle.server_model.specs.History.{replies, calls, served}
-use Rattle.log_model.specs.Log.{LogState, count_below}
+use Rattle.log_model.specs.Log.{count_below}
 use Rattle.log_model.specs.Recover.{newest, recover}
 use Rattle.log_model.specs.World.{Mode, Node}
 use Rattle.log_model.specs.World.Mode.{Up, Down, Gone}
 use Rattle.log_values.specs.declared.any_value.AnyValue.{AnyValue}
-use Rattle.log_values.specs.declared.entry.Entry.{Entry}
 use Rattle.log_values.specs.declared.mid_value.Verdict.{Verdict}
 use Rattle.log_values.specs.declared.mid_value.Verdict.TheVariants.{Commit, Serial}
 use Rattle.log_values.specs.declared.fact.Fact.{Fact}
 use Rattle.round_model.specs.Lists.{tabulate}
 use Rattle.round_model.specs.Service.{Service, serial, serial_end, finish, is_order, token_of}
-use Rattle.round_model.specs.Tables.{Number, Want, Tables}
+use Rattle.round_model.specs.Tables.{Number, Want}
 use Rattle.round_model.specs.After.{Round, round, after}
 use Rattle.round_model.specs.Verdicts.{Vote}
 use Rattle.round_model.specs.Answers.{code_of}

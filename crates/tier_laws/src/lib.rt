@@ -3,4 +3,4 @@
 
 mod laws;
 
-pub use laws::{agreement, applied, durability, headline, real_order, causes};
+pub use laws::{agreement, applied, causes, durability, headline, real_order};

@@ -1,6 +1,5 @@
 -- A middle node: its state, and how a round is applied at it.
 use Rattle.std.specs.Prelude.{ℕ, suc, ◌+◌, ◌*◌, Bool, true, false, ◌&&◌, ◌==◌, nat_lt, List, [], ◌∷◌, ◌++◌, length, map, Option, Some, None, if◌then◌else◌}
-use Rattle.aeg_base.specs.declared.names.ReqId.{ReqId}
 use Rattle.aeg_base.specs.declared.names.Tier.{Tier}
 use Rattle.aeg_base.specs.declared.names.Tier.TheVariants as tiers
 use Rattle.aeg_base.specs.declared.names.End.TheVariants.{Client}
@@ -14,7 +13,7 @@ use Rattle.log_values.specs.declared.mid_value.Verdict.TheVariants.{Commit, Seri
 use Rattle.frames.specs.declared.message.Msg.TheVariants as msgs
 use Rattle.frames.specs.declared.turn.Idle.{Idle}
 use Rattle.frames.specs.declared.turn.Idle.TheVariants.{Nothing, NoAnswer}
-use Rattle.round_model.specs.Lists.{is_some, and_then, below, each, OfTiers, of_tier}
+use Rattle.round_model.specs.Lists.{and_then, below, each, OfTiers, of_tier}
 use Rattle.round_model.specs.Service.{Service, has_stage, Finish, finish, finish_by}
 use Rattle.round_model.specs.Tables.{Tables, Number, Want, wants, Codes, job_of, first_missing, bump, settled, drop_done}
 use Rattle.round_model.specs.After.{batch_at, verdict_at}

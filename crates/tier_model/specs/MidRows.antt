@@ -1,12 +1,9 @@
 -- The rows of a middle node, and what a restart restores. The cases of a row are tried in the order in which they stand.
-use Rattle.std.specs.Prelude.{ℕ, zero, suc, ◌+◌, ◌*◌, Bool, true, false, ◌&&◌, ◌||◌, not, ◌==◌, nat_lt, List, [], ◌∷◌, ◌++◌, length, replicate, Option, Some, None, if◌then◌else◌}
-use Rattle.aeg_base.specs.Store.{Store}
-use Rattle.aeg_base.specs.declared.names.ReqId.{ReqId}
+use Rattle.std.specs.Prelude.{ℕ, zero, suc, ◌+◌, ◌*◌, Bool, false, ◌&&◌, ◌||◌, not, ◌==◌, nat_lt, List, [], ◌∷◌, ◌++◌, length, replicate, Option, Some, None, if◌then◌else◌}
 use Rattle.aeg_base.specs.declared.names.Tier.{Tier}
 use Rattle.aeg_base.specs.declared.names.Tier.TheVariants as tiers
 use Rattle.aeg_base.specs.declared.names.End.{End}
 use Rattle.server_model.specs.Server.{same_tier}
-use Rattle.exec_model.specs.declared.job.Seg.{Seg}
 use Rattle.exec_model.specs.Jobs.{Run, run_job}
 use Rattle.exec_model.specs.Outcomes as changes
 use Rattle.log_model.specs.declared.turn.Offering.{Offering}
@@ -27,13 +24,13 @@ use Rattle.frames.specs.declared.turn.RunNote.{RunNote}
 use Rattle.frames.specs.declared.turn.Idle.{Idle}
 use Rattle.frames.specs.declared.turn.Idle.TheVariants as why
 use Rattle.round_model.specs.Lists.{is_some, and_then, is_nil, put_at, concat, each, odd, half}
-use Rattle.round_model.specs.Service.{Service, is_request, Finish}
+use Rattle.round_model.specs.Service.{Service, is_request}
 use Rattle.round_model.specs.Tables.{Parked, tables0, last_of, kept_of, fresh_pending, pending_of, batch_of, wants, job_of, first_missing}
 use Rattle.round_model.specs.After.{batch_at, verdict_at}
 use Rattle.round_model.specs.Verdicts.{Vote, vote_of, votes_in, verdict}
 use Rattle.round_model.specs.Answers.{Code, code_of, Noted, is_noted, usable, floor, highest}
-use Rattle.tier_model.specs.Moves.{node, tier_of, index_of, is_client, is_node_of, Packet, Move, idles, drops, says, becomes, log_packets, asks, log_facts, held_in, offer_cause}
-use Rattle.tier_model.specs.Mid.{Mid, in_log, Ready, ready, apply, applies, reply_to, calls_to, missing}
+use Rattle.tier_model.specs.Moves.{node, tier_of, index_of, is_client, is_node_of, Packet, Move, idles, drops, says, becomes, log_packets, asks, log_facts, held_in}
+use Rattle.tier_model.specs.Mid.{Mid, in_log, ready, apply, applies, reply_to, calls_to, missing}
 
 -- REQUESTS
 
