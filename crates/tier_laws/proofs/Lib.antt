@@ -31,3 +31,4 @@ pub mod Told
 pub mod Later
 pub mod Before
 pub mod Few
+pub mod Examples
