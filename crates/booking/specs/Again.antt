@@ -1,5 +1,5 @@
 -- The next stage that a call names is one of its request's.
-use Rattle.std.specs.Prelude.{◌≡◌, ℕ, ◌+◌, ◌*◌, ◌==◌, nat_lt, nat_le, not, ◌&&◌, Bool, true, false, List, ◌∷◌, [], ◌++◌, codes, if◌then◌else◌, Option, Some, None, unwrap_or, refl}
+use Rattle.std.specs.Prelude.{ℕ, ◌+◌, ◌*◌, ◌==◌, nat_lt, nat_le, not, ◌&&◌, Bool, true, false, List, ◌∷◌, [], ◌++◌, codes, if◌then◌else◌, Option, Some, None, unwrap_or, refl}
 use Rattle.std.specs.declared.result.Result.{Result}
 use Rattle.std.specs.declared.result.Result.TheVariants.{Ok, Err}
 use Rattle.aeg_base.specs.Store.{Store, value_at}

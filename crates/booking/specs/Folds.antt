@@ -1,5 +1,5 @@
 -- The actions of each segment come to its row of the table.
-use Rattle.std.specs.Prelude.{◌≡◌, ℕ, ◌+◌, ◌-◌, ◌*◌, ◌==◌, nat_lt, nat_le, not, ◌&&◌, Bool, true, false, List, [], ◌∷◌, ◌++◌, codes, if◌then◌else◌, Option, Some, None, unwrap_or, refl}
+use Rattle.std.specs.Prelude.{◌≡◌, ℕ, ◌+◌, ◌-◌, ◌*◌, ◌==◌, nat_lt, nat_le, not, ◌&&◌, Bool, true, false, List, [], ◌∷◌, ◌++◌, codes, if◌then◌else◌, Some, None, unwrap_or, refl}
 use mathlib.Core.Path.{ap}
 use Rattle.std.specs.declared.result.Result.{Result}
 use Rattle.std.specs.declared.result.Result.TheVariants.{Ok, Err}
@@ -19,15 +19,14 @@ use Rattle.server_model.specs.declared.request.Request.{Request}
 use Rattle.server_model.specs.declared.request.Request.TheVariants.{Open, Book, Cancel, Look}
 use Rattle.booking.specs.Places as place
 use Rattle.booking.specs.Places.{refused_or}
-use Rattle.booking.specs.Beginning.{booking_beginning, beginning_in, begins_at, first_course, with_booking, new_booking, cancel_course, view_course, recall_course}
-use Rattle.booking.specs.Course.{course_plan}
+use Rattle.booking.specs.Beginning.{booking_beginning, beginning_in, begins_at, new_booking, view_course, recall_course}
 use Rattle.booking.specs.declared.course.NewTrip.{NewTrip}
 use Rattle.booking.specs.declared.course.NewBooking.{NewBooking}
 use Rattle.booking.specs.declared.course.TripState.{TripState}
 use Rattle.booking.specs.declared.course.Return.{Return}
 use Rattle.booking.specs.declared.course.AfterReturn.{AfterReturn}
 use Rattle.booking.specs.declared.course.AfterReturn.TheVariants.{Release, Clear}
-use Rattle.booking.specs.declared.course.Closing.TheVariants.{NoStock, Declined, Cancelled}
+use Rattle.booking.specs.declared.course.Closing.TheVariants.{NoStock, Declined}
 use Rattle.booking.specs.declared.course.View.{View}
 use Rattle.booking.specs.declared.course.Asked.TheVariants.{Reserve, Charge}
 use Rattle.booking.specs.declared.course.OpenPlace.TheVariants as opening

@@ -1,7 +1,6 @@
 -- Each segment is within the limits, and names keys of a store.
-use Rattle.std.proofs.Common.{◌≡◌, ℕ, ◌+◌, ◌-◌, ◌*◌, ◌%◌, ◌^◌, ◌<◌, ◌≤◌, ◌==◌, Bool, true, false, List, [], ◌∷◌, ◌++◌, length, Option, None, Some, if◌then◌else◌, unwrap_or, arith, lit<, lit≤, length-append}
+use Rattle.std.proofs.Common.{ℕ, ◌+◌, ◌-◌, ◌*◌, ◌^◌, ◌<◌, ◌≤◌, ◌==◌, Bool, true, false, List, ◌++◌, length, Option, None, Some, if◌then◌else◌, unwrap_or, arith, lit<, lit≤, length-append}
 use Rattle.std.specs.Prelude.{codes}
-use Rattle.std.specs.Fmt.{decimal}
 use Rattle.std.proofs.lemmas.Fmt.{length-decimal-le}
 use Rattle.std.specs.declared.result.Result.{Result}
 use Rattle.std.specs.declared.result.Result.TheVariants.{Ok, Err}
@@ -17,7 +16,7 @@ use Rattle.server_model.specs.declared.request.Request.TheVariants.{Open, Book, 
 use Rattle.booking.specs.Refusals.{refusal_text}
 use Rattle.booking.specs.Places as place
 use Rattle.booking.specs.Places.{refused_or}
-use Rattle.booking.specs.Ranges.{IsOpen, IsBook, HasRequest, request_in_range}
+use Rattle.booking.specs.Ranges.{IsOpen, HasRequest, request_in_range}
 use Rattle.booking.specs.Beginning.{booking_beginning, beginning_in, begins_at, new_booking, view_course, recall_course}
 use Rattle.booking.specs.declared.course.NewTrip.{NewTrip}
 use Rattle.booking.specs.declared.course.NewBooking.{NewBooking}

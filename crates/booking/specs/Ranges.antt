@@ -1,12 +1,12 @@
 -- The numbers of a request are in their ranges.
-use Rattle.std.proofs.Common.{◌≡◌, ℕ, ◌≤◌, ◌&&◌, Bool, true, false, cond, List, [], ◌∷◌, Option, None, Some, if◌then◌else◌, arith, refl}
+use Rattle.std.proofs.Common.{◌≡◌, ℕ, ◌≤◌, ◌&&◌, Bool, true, false, List, [], ◌∷◌, Option, None, Some, if◌then◌else◌, arith, refl}
 use Rattle.std.specs.Prelude.{nat_le, codes}
 use Rattle.std.specs.Option.{option_and_then, option_map}
 use Rattle.std.specs.Str.{bytes_eq}
 use Rattle.std.specs.declared.result.Result.{Result}
 use Rattle.std.specs.declared.result.Result.TheVariants.{Ok, Err}
 use Rattle.server_model.specs.Words.{words_of, number_in, is_numeral, value_of}
-use Rattle.server_model.specs.Requests.{request_of, request_in, request_with, in_range, open_of, book_of, cancel_of, look_of}
+use Rattle.server_model.specs.Requests.{request_of, request_in, in_range, open_of, book_of, cancel_of, look_of}
 use Rattle.server_model.specs.declared.request.Request.{Request}
 use Rattle.server_model.specs.declared.request.Request.TheVariants.{Open, Book, Cancel, Look}
 

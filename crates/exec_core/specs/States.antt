@@ -1,5 +1,5 @@
 -- The machine's vectors as the machine's state.
-use Rattle.std.specs.Prelude.{◌≡◌, ℕ, ◌+◌, ◌==◌, ◌||◌, Bool, true, false, List, [], ◌∷◌, ◌++◌, Option, if◌then◌else◌, slice_index_or}
+use Rattle.std.specs.Prelude.{◌≡◌, ℕ, ◌+◌, ◌==◌, ◌||◌, Bool, true, false, List, [], ◌∷◌, Option, if◌then◌else◌, slice_index_or}
 use Rattle.std.specs.Prelude.{◌<◌}
 use Rattle.std.specs.List.{All}
 use Rattle.std.specs.declared.vec.Vec.{Vec}

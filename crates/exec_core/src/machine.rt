@@ -6,10 +6,13 @@ ghost use Rattle.svc_api.specs.Plan.{Plan, store_after, ending_of};
 ghost use Rattle.exec_model.specs.Serial.{serial, serial_end};
 ghost use Rattle.exec_model.specs.Machine.{State, update, mem, or_ended, is_running as runs, any_running as any_runs, turn as turn_of, turns as turns_of, finish as finish_of, complete as complete_of, concat, next};
 ghost use Rattle.exec_model.specs.Groups.{times, AreFull};
+ghost use Rattle.exec_model.specs.Jobs.{plan_at, locks_at};
+ghost use Rattle.exec_core.specs.Jobs.{BeginsWell};
 ghost use Rattle.exec_core.specs.States.{owner_of, slot_progress, progress_of, state_of, went_on, whole_of, going, begun, lists_of, AreMembers, slot_left, left_of, Goes};
 
 use aeg_base::{Cells, Key, Memory, lock_of};
-use svc_api::{Action, Ending, Program, run_segment};
+use exec_model::Seg;
+use svc_api::{Action, Ending, Program, Service, run_segment};
 
 /// Cells that can go back to where they were when they were last marked.
 pub trait Logged: Cells {
@@ -19,6 +22,7 @@ pub trait Logged: Cells {
     fn write(&mut self, key: Key, value: u64) -> Result<(), Memory>
         requires { key.class < 8 }
         ensures ok { OnOk result (Self.store self.new ≡ written (Self.store self.old) key value) }
+        ensures err { OnErr result (Self.store self.new ≡ Self.store self.old) }
         ensures base { base self.new ≡ base self.old }
         ensures start { Self.start self.new ≡ Self.start self.old };
 
@@ -31,21 +35,6 @@ pub trait Logged: Cells {
         ensures store { Self.store self.new ≡ base self.old }
         ensures base { base self.new ≡ base self.old }
         ensures start { Self.start self.new ≡ Self.start self.old };
-}
-
-/// The segments of a job, each with its program and what that is told first.
-pub trait Segments {
-    type Prog: Program;
-
-    /// What each segment does.
-    ghost plan_of: { Self → ℕ → Plan };
-
-    /// How many there are.
-    ghost count: { Self → ℕ };
-
-    fn begin(&self, i: u8) -> Result<(Self::Prog, Option<u64>), Memory>
-        requires { i < count self.now }
-        ensures begins { IfOk result (λ p. Self.Prog.plan p.0 p.1 ≡ plan_of self.now i) };
 }
 
 /// A segment's program with what it is to be told next, or its end.
@@ -145,20 +134,17 @@ fn go<P: Program, C: Logged>(
 }
 
 /// The segments of a group, each with its locks.
+#[derive(Drop)]
 pub struct Machine<P> {
-    slots: Vec<Slot<P>>,
-    owner: Vec<u8>,
-    done: Vec<u8>,
-    steps: Vec<u8>,
-    redo: u8,
+    pub slots: Vec<Slot<P>>,
+    pub owner: Vec<u8>,
+    pub done: Vec<u8>,
+    pub steps: Vec<u8>,
+    pub redo: u8,
 }
 
 /// Segment `i` makes one step, if it runs. Where a lock that it wants is another's, nothing but its program is changed.
-fn step<P: Program, C: Logged>(
-    m: &mut Machine<P>,
-    cells: &mut C,
-    i: u8,
-) -> Result<Went, Memory>
+fn step<P: Program, C: Logged>(m: &mut Machine<P>, cells: &mut C, i: u8) -> Result<Went, Memory>
     requires slots { i < length m.old.slots.items }
     requires locks { length m.old.owner.items ≡ 256 }
     requires small { i < 255 }
@@ -224,34 +210,65 @@ fn any_running<P: Program>(slots: &[Slot<P>], group: &[u8]) -> bool
     false
 }
 
+/// A segment's program, and the answer that it is told first.
+pub fn begin_one<S: Service>(svc: &S, segs: &[Seg], i: u8) -> Result<(S::Prog, Option<u64>), Memory>
+    requires begins { All (BeginsWell (S.beginning svc.now)) segs.now }
+    requires here { i < length segs.now }
+    ensures plan { IfOk result (λ p. S.Prog.plan p.0 p.1 ≡ plan_at (S.beginning svc.now) segs.now i) }
+    ensures locks { IfOk result (λ p. S.Prog.locks p.0 ≡ locks_at (S.beginning svc.now) segs.now i) }
+{
+    let seg = &segs[usize::from(i)];
+    let Some(prog) = svc.begin(seg.who, &seg.body, seg.stage)? else {
+        unreachable!()
+    };
+    Ok((prog, widened(seg.answer)))
+}
+
+fn widened(answer: Option<u8>) -> Option<u64>
+    ensures { result ≡ answer }
+{
+    match answer {
+        Some(code) => Some(u64::from(code)),
+        None => None,
+    }
+}
+
 /// Runs one segment of a job whole.
-fn run_one<S: Segments, C: Cells>(svc: &S, cells: &mut C, i: u8) -> Result<Ending, Memory>
-    requires { i < S.count svc.now }
-    ensures ending { IfOk result (λ end. end ≡ ending_of (S.plan_of svc.now i) (C.store cells.old)) }
-    ensures store { OnOk result (C.store cells.new ≡ store_after (S.plan_of svc.now i) (C.store cells.old)) }
+fn run_one<S: Service, C: Cells>(
+    svc: &S,
+    segs: &[Seg],
+    cells: &mut C,
+    i: u8,
+) -> Result<Ending, Memory>
+    requires begins { All (BeginsWell (S.beginning svc.now)) segs.now }
+    requires here { i < length segs.now }
+    ensures ending { IfOk result (λ end. end ≡ ending_of (plan_at (S.beginning svc.now) segs.now i) (C.store cells.old)) }
+    ensures store { OnOk result (C.store cells.new ≡ store_after (plan_at (S.beginning svc.now) segs.now i) (C.store cells.old)) }
     ensures start { C.start cells.new ≡ C.start cells.old }
 {
-    let (mut prog, answer) = svc.begin(i)?;
+    let (mut prog, answer) = begin_one(svc, segs, i)?;
     run_segment(&mut prog, answer, cells)
 }
 
 /// Runs the segments of a group whole, one after another.
-fn rerun<S: Segments, C: Cells>(
+fn rerun<S: Service, C: Cells>(
     svc: &S,
+    segs: &[Seg],
     slots: &mut [Slot<S::Prog>],
     cells: &mut C,
     group: &[u8],
 ) -> Result<(), Memory>
-    requires here { All (λ j. j < S.count svc.now) group.now }
+    requires begins { All (BeginsWell (S.beginning svc.now)) segs.now }
+    requires here { All (λ j. j < length segs.now) group.now }
     requires members { All (λ j. j < length slots.old) group.now }
     requires once { (j : ℕ) → times j group.now ≤ 1 }
-    ensures store { OnOk result (C.store cells.new ≡ serial (S.plan_of svc.now) (C.store cells.old) group.now) }
+    ensures store { OnOk result (C.store cells.new ≡ serial (plan_at (S.beginning svc.now) segs.now) (C.store cells.old) group.now) }
     ensures ends { OnOk result ((j : ℕ) → progress_of S.Prog.plan slots.new j ≡
-        or_ended (serial_end (S.plan_of svc.now) (C.store cells.old) group.now j) (progress_of S.Prog.plan slots.old j)) }
+        or_ended (serial_end (plan_at (S.beginning svc.now) segs.now) (C.store cells.old) group.now j) (progress_of S.Prog.plan slots.old j)) }
     ensures start { C.start cells.new ≡ C.start cells.old }
 {
     for i in group {
-        let ending = run_one(svc, cells, *i)?;
+        let ending = run_one(svc, segs, cells, *i)?;
         slots[usize::from(*i)] = Slot::Ended(ending);
     }
     Ok(())
@@ -268,21 +285,23 @@ fn clear(owner: &mut [u8])
 }
 
 /// Undoes a group, and runs it again one segment after another; `i` is the segment that found a lock held.
-fn again<S: Segments, C: Logged>(
+fn again<S: Service, C: Logged>(
     svc: &S,
+    segs: &[Seg],
     group: &[u8],
     m: &mut Machine<S::Prog>,
     cells: &mut C,
     i: u8,
 ) -> Result<(), Memory>
-    requires here { All (λ j. j < S.count svc.now) group.now }
+    requires begins { All (BeginsWell (S.beginning svc.now)) segs.now }
+    requires here { All (λ j. j < length segs.now) group.now }
     requires members { All (λ j. j < length m.old.slots.items) group.now }
     requires once { (j : ℕ) → times j group.now ≤ 1 }
     requires redo { m.old.redo < 255 }
-    ensures store { OnOk result (C.store cells.new ≡ serial (S.plan_of svc.now) (C.base cells.old) group.now) }
+    ensures store { OnOk result (C.store cells.new ≡ serial (plan_at (S.beginning svc.now) segs.now) (C.base cells.old) group.now) }
     ensures owner { OnOk result ((l : ℕ) → owner_of m.new.owner.items l ≡ 0) }
     ensures ends { OnOk result ((j : ℕ) → progress_of S.Prog.plan m.new.slots.items j ≡
-        or_ended (serial_end (S.plan_of svc.now) (C.base cells.old) group.now j) (progress_of S.Prog.plan m.old.slots.items j)) }
+        or_ended (serial_end (plan_at (S.beginning svc.now) segs.now) (C.base cells.old) group.now j) (progress_of S.Prog.plan m.old.slots.items j)) }
     ensures done { OnOk result (m.new.done.items ≡ group.now) }
     ensures steps { OnOk result (m.new.steps.items ≡ m.old.steps.items ++ i ∷ []) }
     ensures redo { OnOk result (m.new.redo ≡ m.old.redo + 1) }
@@ -291,7 +310,7 @@ fn again<S: Segments, C: Logged>(
     ensures start { C.start cells.new ≡ C.start cells.old }
 {
     cells.undo();
-    rerun(svc, &mut m.slots, cells, group)?;
+    rerun(svc, segs, &mut m.slots, cells, group)?;
     clear(&mut m.owner);
     m.done.clear();
     if m.done.extend_from_slice(group).is_err() {
@@ -305,14 +324,16 @@ fn again<S: Segments, C: Logged>(
 }
 
 /// One entry of the schedule, at a segment of the group. Answers whether the group is over with it.
-fn turn<S: Segments, C: Logged>(
+fn turn<S: Service, C: Logged>(
     svc: &S,
+    segs: &[Seg],
     group: &[u8],
     m: &mut Machine<S::Prog>,
     cells: &mut C,
     i: u8,
 ) -> Result<bool, Memory>
-    requires here { All (λ j. j < S.count svc.now) group.now }
+    requires begins { All (BeginsWell (S.beginning svc.now)) segs.now }
+    requires here { All (λ j. j < length segs.now) group.now }
     requires member { mem i group.now ≡ true }
     requires slots { i < length m.old.slots.items }
     requires members { All (λ j. j < length m.old.slots.items) group.now }
@@ -323,7 +344,7 @@ fn turn<S: Segments, C: Logged>(
     ensures turn { IfOk result (λ over. (t : State) → t.group ≡ group.now →
         (if over then next (whole_of S.Prog.plan m.new (C.store cells.new) (C.base cells.new) t)
         else whole_of S.Prog.plan m.new (C.store cells.new) (C.base cells.new) t)
-        ≡ turn_of (S.plan_of svc.now) (whole_of S.Prog.plan m.old (C.store cells.old) (C.base cells.old) t) i) }
+        ≡ turn_of (plan_at (S.beginning svc.now) segs.now) (whole_of S.Prog.plan m.old (C.store cells.old) (C.base cells.old) t) i) }
     ensures over { IfOk result (λ over. over ≡ false → any_runs (progress_of S.Prog.plan m.old.slots.items) group.now ≡ true →
         any_runs (progress_of S.Prog.plan m.new.slots.items) group.now ≡ true) }
     ensures ended { IfOk result (λ over. over ≡ true → any_runs (progress_of S.Prog.plan m.new.slots.items) group.now ≡ false) }
@@ -340,21 +361,59 @@ fn turn<S: Segments, C: Logged>(
         Went::Skipped => Ok(false),
         Went::Moved | Went::Left => Ok(!any_running(&m.slots, group)),
         Went::Busy => {
-            again(svc, group, m, cells, i)?;
+            again(svc, segs, group, m, cells, i)?;
             Ok(true)
         }
     }
 }
 
-/// Uses up a schedule, as long as the group is not over: how many entries were used, and whether it is over.
-fn use_schedule<S: Segments, C: Logged>(
+/// One entry of the schedule, which is passed over where its segment is not in the group. Answers whether the group is
+/// over with it.
+fn entry<S: Service, C: Logged>(
     svc: &S,
+    segs: &[Seg],
+    group: &[u8],
+    m: &mut Machine<S::Prog>,
+    cells: &mut C,
+    i: u8,
+) -> Result<bool, Memory>
+    requires begins { All (BeginsWell (S.beginning svc.now)) segs.now }
+    requires here { All (λ j. j < length segs.now) group.now }
+    requires members { All (λ j. j < length m.old.slots.items) group.now }
+    requires numbers { All (λ j. j < 255) group.now }
+    requires once { (j : ℕ) → times j group.now ≤ 1 }
+    requires locks { length m.old.owner.items ≡ 256 }
+    requires redo { m.old.redo < 255 }
+    ensures turn { IfOk result (λ over. (t : State) → t.group ≡ group.now →
+        going S.Prog.plan m.new (C.store cells.new) (C.base cells.new) over t
+        ≡ turn_of (plan_at (S.beginning svc.now) segs.now) (whole_of S.Prog.plan m.old (C.store cells.old) (C.base cells.old) t) i) }
+    ensures over { IfOk result (λ over. over ≡ false → any_runs (progress_of S.Prog.plan m.old.slots.items) group.now ≡ true →
+        any_runs (progress_of S.Prog.plan m.new.slots.items) group.now ≡ true) }
+    ensures slots { OnOk result (length m.new.slots.items ≡ length m.old.slots.items) }
+    ensures locks { OnOk result (length m.new.owner.items ≡ 256) }
+    ensures redo { IfOk result (λ over. over ≡ false → m.new.redo ≡ m.old.redo) }
+    ensures outside { OnOk result ((j : ℕ) → mem j group.now ≡ false → progress_of S.Prog.plan m.new.slots.items j ≡ progress_of S.Prog.plan m.old.slots.items j) }
+    ensures redo_most { OnOk result (m.new.redo ≤ m.old.redo + 1) }
+    ensures start { C.start cells.new ≡ C.start cells.old }
+{
+    if contains(group, i) {
+        turn(svc, segs, group, m, cells, i)
+    } else {
+        Ok(false)
+    }
+}
+
+/// Uses up a schedule, as long as the group is not over: how many entries were used, and whether it is over.
+fn use_schedule<S: Service, C: Logged>(
+    svc: &S,
+    segs: &[Seg],
     group: &[u8],
     schedule: &[u8],
     m: &mut Machine<S::Prog>,
     cells: &mut C,
 ) -> Result<(usize, bool), Memory>
-    requires here { All (λ j. j < S.count svc.now) group.now }
+    requires begins { All (BeginsWell (S.beginning svc.now)) segs.now }
+    requires here { All (λ j. j < length segs.now) group.now }
     requires members { All (λ j. j < length m.old.slots.items) group.now }
     requires numbers { All (λ j. j < 255) group.now }
     requires once { (j : ℕ) → times j group.now ≤ 1 }
@@ -362,8 +421,8 @@ fn use_schedule<S: Segments, C: Logged>(
     requires redo { m.old.redo < 255 }
     requires runs { any_runs (progress_of S.Prog.plan m.old.slots.items) group.now ≡ true }
     ensures turns { IfOk result (λ r. (t : State) → t.group ≡ group.now →
-        turns_of (S.plan_of svc.now) (going S.Prog.plan m.new (C.store cells.new) (C.base cells.new) r.1 t) (drop r.0 schedule.now)
-        ≡ turns_of (S.plan_of svc.now) (whole_of S.Prog.plan m.old (C.store cells.old) (C.base cells.old) t) schedule.now) }
+        turns_of (plan_at (S.beginning svc.now) segs.now) (going S.Prog.plan m.new (C.store cells.new) (C.base cells.new) r.1 t) (drop r.0 schedule.now)
+        ≡ turns_of (plan_at (S.beginning svc.now) segs.now) (whole_of S.Prog.plan m.old (C.store cells.old) (C.base cells.old) t) schedule.now) }
     ensures used { IfOk result (λ r. r.1 ≡ false → r.0 ≡ length schedule.now) }
     ensures within { IfOk result (λ r. r.0 ≤ length schedule.now) }
     ensures slots { OnOk result (length m.new.slots.items ≡ length m.old.slots.items) }
@@ -377,23 +436,22 @@ fn use_schedule<S: Segments, C: Logged>(
     let mut over = false;
     let mut used: usize = 0;
     'entries: while !over && used < schedule.len() {
-        let i = schedule[used];
-        if contains(group, i) {
-            over = turn(svc, group, m, cells, i)?;
-        }
+        over = entry(svc, segs, group, m, cells, schedule[used])?;
         used += 1;
     }
     Ok((used, over))
 }
 
 /// Finishes a group, the lowest unfinished segment first.
-fn finish_group<S: Segments, C: Logged>(
+fn finish_group<S: Service, C: Logged>(
     svc: &S,
+    segs: &[Seg],
     group: &[u8],
     m: &mut Machine<S::Prog>,
     cells: &mut C,
 ) -> Result<(), Memory>
-    requires here { All (λ j. j < S.count svc.now) group.now }
+    requires begins { All (BeginsWell (S.beginning svc.now)) segs.now }
+    requires here { All (λ j. j < length segs.now) group.now }
     requires members { All (λ j. j < length m.old.slots.items) group.now }
     requires numbers { All (λ j. j < 255) group.now }
     requires once { (j : ℕ) → times j group.now ≤ 1 }
@@ -401,8 +459,8 @@ fn finish_group<S: Segments, C: Logged>(
     requires redo { m.old.redo < 255 }
     requires runs { any_runs (progress_of S.Prog.plan m.old.slots.items) group.now ≡ true }
     ensures finished { OnOk result ((t : State) → t.group ≡ group.now →
-        finish_of (S.plan_of svc.now) (concat t.later) (next (whole_of S.Prog.plan m.new (C.store cells.new) (C.base cells.new) t))
-        ≡ finish_of (S.plan_of svc.now) (group.now ++ concat t.later) (whole_of S.Prog.plan m.old (C.store cells.old) (C.base cells.old) t)) }
+        finish_of (plan_at (S.beginning svc.now) segs.now) (concat t.later) (next (whole_of S.Prog.plan m.new (C.store cells.new) (C.base cells.new) t))
+        ≡ finish_of (plan_at (S.beginning svc.now) segs.now) (group.now ++ concat t.later) (whole_of S.Prog.plan m.old (C.store cells.old) (C.base cells.old) t)) }
     ensures slots { OnOk result (length m.new.slots.items ≡ length m.old.slots.items) }
     ensures locks { OnOk result (length m.new.owner.items ≡ 256) }
     ensures outside { OnOk result ((j : ℕ) → mem j group.now ≡ false → progress_of S.Prog.plan m.new.slots.items j ≡ progress_of S.Prog.plan m.old.slots.items j) }
@@ -412,21 +470,23 @@ fn finish_group<S: Segments, C: Logged>(
     let mut over = false;
     'members: for i in group {
         'one: while !over && is_running(&m.slots[usize::from(*i)]) {
-            over = turn(svc, group, m, cells, *i)?;
+            over = turn(svc, segs, group, m, cells, *i)?;
         }
     }
     Ok(())
 }
 
 /// Runs a group to its end: by the schedule, and then lowest first. Answers how many entries it used up.
-fn run_group<S: Segments, C: Logged>(
+fn run_group<S: Service, C: Logged>(
     svc: &S,
+    segs: &[Seg],
     group: &[u8],
     schedule: &[u8],
     m: &mut Machine<S::Prog>,
     cells: &mut C,
 ) -> Result<usize, Memory>
-    requires here { All (λ j. j < S.count svc.now) group.now }
+    requires begins { All (BeginsWell (S.beginning svc.now)) segs.now }
+    requires here { All (λ j. j < length segs.now) group.now }
     requires members { All (λ j. j < length m.old.slots.items) group.now }
     requires numbers { All (λ j. j < 255) group.now }
     requires once { (j : ℕ) → times j group.now ≤ 1 }
@@ -434,8 +494,8 @@ fn run_group<S: Segments, C: Logged>(
     requires redo { m.old.redo < 255 }
     requires runs { any_runs (progress_of S.Prog.plan m.old.slots.items) group.now ≡ true }
     ensures run { IfOk result (λ used. (t : State) → t.group ≡ group.now →
-        complete_of (S.plan_of svc.now) (turns_of (S.plan_of svc.now) (next (whole_of S.Prog.plan m.new (C.store cells.new) (C.base cells.new) t)) (drop used schedule.now))
-        ≡ complete_of (S.plan_of svc.now) (turns_of (S.plan_of svc.now) (whole_of S.Prog.plan m.old (C.store cells.old) (C.base cells.old) t) schedule.now)) }
+        complete_of (plan_at (S.beginning svc.now) segs.now) (turns_of (plan_at (S.beginning svc.now) segs.now) (next (whole_of S.Prog.plan m.new (C.store cells.new) (C.base cells.new) t)) (drop used schedule.now))
+        ≡ complete_of (plan_at (S.beginning svc.now) segs.now) (turns_of (plan_at (S.beginning svc.now) segs.now) (whole_of S.Prog.plan m.old (C.store cells.old) (C.base cells.old) t) schedule.now)) }
     ensures used { IfOk result (λ used. used ≤ length schedule.now) }
     ensures slots { OnOk result (length m.new.slots.items ≡ length m.old.slots.items) }
     ensures locks { OnOk result (length m.new.owner.items ≡ 256) }
@@ -443,23 +503,25 @@ fn run_group<S: Segments, C: Logged>(
     ensures redo_most { OnOk result (m.new.redo ≤ m.old.redo + 2) }
     ensures start { C.start cells.new ≡ C.start cells.old }
 {
-    let (used, over) = use_schedule(svc, group, schedule, m, cells)?;
+    let (used, over) = use_schedule(svc, segs, group, schedule, m, cells)?;
     if !over {
-        finish_group(svc, group, m, cells)?;
+        finish_group(svc, segs, group, m, cells)?;
     }
     Ok(used)
 }
 
 /// Runs a job by a schedule, from a machine that holds no lock.
-pub fn run_by<S: Segments, C: Logged>(
+pub fn run_groups<S: Service, C: Logged>(
     svc: &S,
+    segs: &[Seg],
     groups: &[Vec<u8>],
     schedule: &[u8],
     m: &mut Machine<S::Prog>,
     order: &mut Vec<u8>,
     cells: &mut C,
 ) -> Result<(), Memory>
-    requires here { length m.old.slots.items ≡ S.count svc.now }
+    requires begins { All (BeginsWell (S.beginning svc.now)) segs.now }
+    requires here { length m.old.slots.items ≡ length segs.now }
     requires groups { AreMembers (length m.old.slots.items) (lists_of groups.now) }
     requires full { AreFull (lists_of groups.now) }
     requires once { (j : ℕ) → times j (concat (lists_of groups.now)) ≤ 1 }
@@ -467,14 +529,14 @@ pub fn run_by<S: Segments, C: Logged>(
     requires redo { m.old.redo + 2 * length groups.now < 255 }
     requires runs { (j : ℕ) → mem j (concat (lists_of groups.now)) ≡ true → runs (progress_of S.Prog.plan m.old.slots.items j) ≡ true }
     ensures run { OnOk result ((t : State) → begun S.Prog.plan m.new (C.store cells.new) order.new.items [] t
-        ≡ complete_of (S.plan_of svc.now) (turns_of (S.plan_of svc.now) (begun S.Prog.plan m.old (C.store cells.old) order.old.items (lists_of groups.now) t) schedule.now)) }
+        ≡ complete_of (plan_at (S.beginning svc.now) segs.now) (turns_of (plan_at (S.beginning svc.now) segs.now) (begun S.Prog.plan m.old (C.store cells.old) order.old.items (lists_of groups.now) t) schedule.now)) }
     ensures start { C.start cells.new ≡ C.start cells.old }
 {
     let mut at: usize = 0;
     'groups: for group in groups {
         m.done.clear();
         cells.mark();
-        at += run_group(svc, group, &schedule[at..], m, cells)?;
+        at += run_group(svc, segs, group, &schedule[at..], m, cells)?;
         if order.extend_from_slice(&m.done).is_err() {
             return Err(Memory);
         }

@@ -9,3 +9,4 @@ pub mod Outcome
 pub mod Spell
 pub mod Bounds
 pub mod Executor
+pub mod Beyond

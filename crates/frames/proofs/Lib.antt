@@ -1,0 +1,5 @@
+pub mod KindCase
+pub mod LogGrammar
+pub mod BodyGrammar
+pub mod BodyLengths
+pub mod FrameGrammar

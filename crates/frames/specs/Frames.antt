@@ -80,3 +80,24 @@ abbrev pub Decodes : Result (Header × Msg) FrameErr → Result (Header × Msg) 
 Decodes (Ok found) read = read ≡ Ok found
 Decodes (Err (errors.Refused r)) read = read ≡ Err r
 Decodes (Err errors.Memory) read = Unit {0}
+
+-- an answer of this frame, unless memory ran out
+abbrev pub GivesOrMemory : Result (Header × Msg) FrameErr → Header × Msg → Type 0
+GivesOrMemory (Ok found) wanted = found ≡ wanted
+GivesOrMemory (Err (errors.Refused r)) wanted = ⊥
+GivesOrMemory (Err errors.Memory) wanted = Unit {0}
+
+-- an answer of this refusal
+abbrev pub IsRefusedBy : Result (Header × Msg) FrameErr → Refused → Type 0
+IsRefusedBy (Ok found) r = ⊥
+IsRefusedBy (Err (errors.Refused given)) r = given ≡ r
+IsRefusedBy (Err errors.Memory) r = ⊥
+
+-- What begins with two frames begins with one, and has one rest.
+abbrev pub BeginNoOther : Type 0
+BeginNoOther = (a b : End) (m n : Msg) (x y : List ℕ) → FitsFrame a m → FitsFrame b n → frame a m ++ x ≡ frame b n ++ y → (a ≡ b) × ((m ≡ n) × (x ≡ y))
+
+-- A strict prefix of a frame is too short to be one, and a frame with bytes after it is refused for them.
+pub record AreWhole : Type 0 where
+  pub prefix : (from : End) (msg : Msg) (front rest : List ℕ) → FitsFrame from msg → frame from msg ≡ front ++ rest → (rest ≡ [] → ⊥) → refusal front ≡ Some refused.Short
+  pub longer : (from : End) (msg : Msg) (more : List ℕ) → FitsFrame from msg → (more ≡ [] → ⊥) → refusal (frame from msg ++ more) ≡ Some (refused.Row 5)

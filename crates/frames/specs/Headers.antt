@@ -60,7 +60,7 @@ abbrev pub from_sender : Option End → Lead → Result Header Refused
 from_sender None lead = Err (refused.Row 3)
 from_sender (Some from) lead =
     if is_sent_by from lead.kind then
-      (if nat_lt BODY_BYTES lead.len then Err (refused.Row 4) else Ok (record { kind = lead.kind; from = from; len = lead.len }))
+    (if nat_lt BODY_BYTES lead.len then Err (refused.Row 4) else Ok (record { kind = lead.kind; from = from; len = lead.len }))
     else Err (refused.Row 3)
 
 -- the first row that refuses the fields

@@ -68,6 +68,7 @@ fn node(tier: Tier, index: u8) -> End
 }
 
 /// Who sends by these two bytes.
+#[tactic(auto, unfolding(crate::specs::Headers::sender_of))]
 fn sender(tier: u8, index: u8) -> Option<End>
     ensures { result ≡ sender_of tier index }
 {
@@ -96,9 +97,7 @@ fn sends(from: End, kind: u8) -> bool
         End::Client(_) => kind == 1,
         End::Node(node) => match node.tier {
             Tier::Mid => 2 <= kind && kind != 11,
-            Tier::Inv | Tier::Pay => {
-                3 <= kind && kind <= 8 || kind == 11 || kind == 14
-            }
+            Tier::Inv | Tier::Pay => { 3 <= kind && kind <= 8 || kind == 11 || kind == 14 }
         },
     }
 }
@@ -123,6 +122,7 @@ pub fn index_byte(from: End) -> u8
     }
 }
 
+#[tactic(auto, unfolding(crate::specs::Headers::judged))]
 fn judge(lead: Lead) -> Result<Header, Refused>
     ensures { result ≡ judged lead }
 {

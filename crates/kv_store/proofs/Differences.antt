@@ -1,13 +1,13 @@
 -- The keys that an undo list names whose values differ are all that differ from the list's start.
-use Rattle.std.proofs.Common.{◌≡◌, ◌≢◌, ℕ, zero, suc, ◌==◌, Bool, true, false, cond, not, ◌&&◌, T, List, [], ◌∷◌, Option, Some, None, is_some, unwrap_or, if◌then◌else◌, refl, sym, ap, subst, ◌∙◌, inl, inr, ◌⊎◌, arith}
-use Rattle.std.proofs.lemmas.Bool.Decides.{nat_tests, eqb_tells}
-use Rattle.std.specs.Ordering.{nat_cmp, eq_by_cmp, is_lt, is_eq}
+use Rattle.std.proofs.Common.{◌≡◌, ◌≢◌, ℕ, zero, suc, ◌==◌, Bool, true, false, cond, not, ◌&&◌, T, List, [], ◌∷◌, Option, Some, None, is_some, unwrap_or, if◌then◌else◌, refl, sym, ap, subst, ◌∙◌, arith}
+use Rattle.std.proofs.lemmas.Bool.Decides.{nat_tests}
+use Rattle.std.specs.Ordering.{nat_cmp, eq_by_cmp, is_lt}
 use Rattle.std.specs.Cmp.{unsigned_ties}
 use Rattle.std.specs.Cmp.Derive.{Tied, tie, then_tied, on_tied}
 use Rattle.std.specs.FinMap.Entries.{find, put, is_sorted, below_all, find-put, is_sorted-put, same_entries}
 use Rattle.aeg_base.specs.declared.names.Key.{Key}
 use Rattle.aeg_base.specs.Numbers.{no_zeros}
-use Rattle.aeg_base.specs.Store.{Store, key_cmp, same_key, value_at, written, empty, pairs_of}
+use Rattle.aeg_base.specs.Store.{Store, key_cmp, same_key, value_at, empty, pairs_of}
 use Rattle.aeg_base.proofs.NumberLaws.{number_at-entries}
 use Rattle.aeg_base.proofs.StoreLaws.{key_cmp_total, key_cmp-IsAntisymmetric, value_at-written, value_at-empty}
 use Rattle.kv_store.specs.Stores.{unwound, touched}
@@ -55,9 +55,9 @@ find-among s t q [] pairs = refl
 find-among s t q (e ∷ es) pairs =
     find-among s t q es (if equal then pairs else put key_cmp e.0 (value_at t e.0) pairs)
     ∙ settle ties equal (value_at s q == value_at t q) (find key_cmp q es) (find key_cmp q (if equal then pairs else put key_cmp e.0 (value_at t e.0) pairs)) (find key_cmp q pairs) (Some (value_at t q)) (Some (value_at t e.0)) e.1
-      (there equal)
-      (λ b. ap (λ k. value_at s k == value_at t k) (same_of_tie q e.0 b))
-      (λ b. ap (λ k. Some (value_at t k)) (same_of_tie q e.0 b))
+    (there equal)
+    (λ b. ap (λ k. value_at s k == value_at t k) (same_of_tie q e.0 b))
+    (λ b. ap (λ k. Some (value_at t k)) (same_of_tie q e.0 b))
   where
     equal : Bool
     equal = value_at s e.0 == value_at t e.0
@@ -147,8 +147,8 @@ find-picked s t q (e ∷ es) =
     there (value_at t e.0 == value_at s e.0)
     ∙ ap (λ (r : Option ℕ). cond (value_at t e.0 == value_at s e.0) r (cond (eq_by_cmp key_cmp q e.0) (Some (value_at t e.0)) r)) (find-picked s t q es)
     ∙ pick_one (eq_by_cmp key_cmp q e.0) (value_at t e.0 == value_at s e.0) (value_at t q == value_at s q) (find key_cmp q es) (Some (value_at t q)) (Some (value_at t e.0)) e.1
-      (λ b. ap (λ k. value_at t k == value_at s k) (same_of_tie q e.0 b))
-      (λ b. ap (λ k. Some (value_at t k)) (same_of_tie q e.0 b))
+    (λ b. ap (λ k. value_at t k == value_at s k) (same_of_tie q e.0 b))
+    (λ b. ap (λ k. Some (value_at t k)) (same_of_tie q e.0 b))
   where
     there : (c : Bool) → find key_cmp q (cond c (picked s t es) ((e.0, value_at t e.0) ∷ picked s t es)) ≡ cond c (find key_cmp q (picked s t es)) (cond (eq_by_cmp key_cmp q e.0) (Some (value_at t e.0)) (find key_cmp q (picked s t es)))
     there true = refl
@@ -182,6 +182,6 @@ picked_changes es t = same_entries key_cmp key_cmp_total key_cmp-IsAntisymmetric
     (sorted_picked (unwound es empty) t (pairs_of (touched es empty)) (sorted (touched es empty)))
     (sorted_among (unwound es t) t (pairs_of t) _ (sorted_among (unwound es t) t (pairs_of (unwound es t)) [] tt))
     (λ q. find-picked (unwound es empty) t q (pairs_of (touched es empty))
-      ∙ ap (λ b. cond b (cond (value_at t q == value_at (unwound es empty) q) None (Some (value_at t q))) None) (found_at (touched es empty) q)
-      ∙ same_answer (value_at (touched es empty) q == 0) (value_at (unwound es empty) q) (value_at (unwound es t) q) (value_at t q) (kept_or_back es t q)
-      ∙ sym (find-changes (unwound es t) t q))
+    ∙ ap (λ b. cond b (cond (value_at t q == value_at (unwound es empty) q) None (Some (value_at t q))) None) (found_at (touched es empty) q)
+    ∙ same_answer (value_at (touched es empty) q == 0) (value_at (unwound es empty) q) (value_at (unwound es t) q) (value_at t q) (kept_or_back es t q)
+    ∙ sym (find-changes (unwound es t) t q))

@@ -1,10 +1,10 @@
 -- How many pairs a store has after a write.
-use Rattle.std.proofs.Common.{◌≡◌, ◌≢◌, ℕ, ◌+◌, ◌<◌, ◌≤◌, ◌==◌, Bool, true, false, cond, not, T, ◌&&◌, List, length, Option, Some, None, is_some, unwrap_or, refl, sym, ap, subst, ◌∙◌, inl, inr, ◌⊎◌, arith, le_of_eq}
-use Rattle.std.proofs.lemmas.Bool.Decides.{nat_tests, eqb_tells}
+use Rattle.std.proofs.Common.{◌≡◌, ◌≢◌, ℕ, ◌+◌, ◌<◌, ◌≤◌, ◌==◌, Bool, true, false, cond, not, T, ◌&&◌, length, Option, None, is_some, ap, ◌∙◌, inl, inr, ◌⊎◌, arith}
+use Rattle.std.proofs.lemmas.Bool.Decides.{eqb_tells}
 use Rattle.std.specs.Ordering.{eq_by_cmp}
 use Rattle.std.specs.FinMap.Entries.{find, put, where_key, is_sorted, length-put, length_without}
 use Rattle.aeg_base.specs.declared.names.Key.{Key}
-use Rattle.aeg_base.specs.Numbers.{no_zeros, entries_with}
+use Rattle.aeg_base.specs.Numbers.{no_zeros}
 use Rattle.aeg_base.specs.Store.{Store, key_cmp, written}
 use Rattle.aeg_base.proofs.NumberLaws.{entries-with_number}
 use Rattle.aeg_base.proofs.StoreLaws.{key_cmp_total}

@@ -97,9 +97,9 @@ module _ (vectors : List (Vec (ℕ × ℕ) Global)) (count room : ℕ) (h : AreC
   pub room_for : (value : ℕ) → 0 < value → found (get_or vectors k.class v).items k.id ≡ None → size (written (map_of vectors) k value) ≤ room → count + 1 ≤ room
   room_for value pos none fits =
       let finds : find key_cmp k (map_of vectors).entries ≡ None =
-          ap (find key_cmp k) (entries-store_of (lists_of vectors) h.columns)
-          ∙ ap (λ n. find key_cmp (key n k.id) (all_pairs 0 (lists_of vectors))) (let e : k.class ≡ 0 + k.class = omega arith in e)
-          ∙ find-all k.class k.id 0 (lists_of vectors) ∙ ap (λ l. found l k.id) (get-lists vectors k.class v here) ∙ none in
+      ap (find key_cmp k) (entries-store_of (lists_of vectors) h.columns)
+      ∙ ap (λ n. find key_cmp (key n k.id) (all_pairs 0 (lists_of vectors))) (let e : k.class ≡ 0 + k.class = omega arith in e)
+      ∙ find-all k.class k.id 0 (lists_of vectors) ∙ ap (λ l. found l k.id) (get-lists vectors k.class v here) ∙ none in
       let one = size-new (map_of vectors) k value pos finds in
       let many = store_size in omega arith
 

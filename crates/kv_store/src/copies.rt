@@ -10,7 +10,11 @@ use aeg_base::{Cells, Key, Memory};
 use std::alloc::Global;
 
 /// Adds a column's pairs, with keys of its class.
-pub fn add_column(pairs: &mut Vec<(Key, u64)>, class: u8, column: &[(u32, u64)]) -> Result<(), Memory>
+pub fn add_column(
+    pairs: &mut Vec<(Key, u64)>,
+    class: u8,
+    column: &[(u32, u64)],
+) -> Result<(), Memory>
     ensures { OnOk result (pairs.new.items ≡ pairs.old.items ++ keyed class column.now) }
 {
     'pairs: for &(id, value) in column {

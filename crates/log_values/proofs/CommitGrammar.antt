@@ -9,7 +9,7 @@ use Rattle.aeg_wire.proofs.Grammar.{IsBytes, Takes, Takes-then, IsGrammar, some_
 use Rattle.aeg_wire.proofs.Numbers.{one_byte, bytes_take, bytes_again}
 use Rattle.log_values.specs.Outcomes.{outcome, outcome_at, token_at, is_order, order_text, order_at, commit, commit_at, FitsOutcome, IsCommit}
 use Rattle.log_values.proofs.OutcomeGrammar.{outcome_grammar}
-use Rattle.log_values.proofs.Tests.{and_true, and_is}
+use Rattle.log_values.proofs.BoolTests.{and_true, and_is}
 
 eq_is : (a b : ℕ) → a ≡ b → eqb a b ≡ true
 eq_is a b e = grind (arith)
@@ -17,14 +17,13 @@ eq_is a b e = grind (arith)
 numbers_grammar : IsGrammar (λ o. length o < 256) (λ o. order_text o) (λ bytes. byte_at bytes >>= λ n. bytes_at n.0 n.1)
 numbers_grammar = record {
   takes = λ bytes o rest are e.
-    let b = bind_some (byte_at bytes) (λ n. bytes_at n.0 n.1) (o, rest) e in
-    let first = one_byte.takes bytes b.0.0 b.0.1 are b.1 in
-    let second = bytes_take b.0.0 b.0.1 o rest first.0.rest_fits b.2 in
-    let all = Takes-then bytes (b.0.0 ∷ []) b.0.1 o rest first.0 second.0 in
-    (subst (λ (n : ℕ). Takes bytes (n ∷ o) rest) (sym second.1) all, subst (λ (n : ℕ). n < 256) (sym second.1) first.1);
+      let b = bind_some (byte_at bytes) (λ n. bytes_at n.0 n.1) (o, rest) e in
+      let first = one_byte.takes bytes b.0.0 b.0.1 are b.1 in
+      let second = bytes_take b.0.0 b.0.1 o rest first.0.rest_fits b.2 in
+      let all = Takes-then bytes (b.0.0 ∷ []) b.0.1 o rest first.0 second.0 in
+      (subst (λ (n : ℕ). Takes bytes (n ∷ o) rest) (sym second.1) all, subst (λ (n : ℕ). n < 256) (sym second.1) first.1);
   again = λ o rest small. bytes_again o rest;
 }
-
 
 order_grammar : (n : ℕ) → IsGrammar (λ o. (length o < 256) × (((length o == n) && is_order o) ≡ true)) (λ o. order_text o) (order_at n)
 unfolding order_at

@@ -15,7 +15,7 @@ use Rattle.aeg_wire.proofs.Numbers.{one_byte, two_bytes, four_bytes}
 use Rattle.log_values.specs.declared.format.TheConstants.{LAST_INDEX, LAST_STAGE}
 use Rattle.log_values.specs.Fields.{tier_number, backend_at, client_at, seq_at, call_number_at, floor_at, position_at, stage_at, ballot, ballot_at, FitsBallot, IsClient, IsSeq, IsCallNumber, IsFloor}
 use Rattle.log_values.proofs.Leads.{chosen, none_is_some}
-use Rattle.log_values.proofs.Tests.{le_true, le_is, lt_true, lt_is, within, is_within}
+use Rattle.log_values.proofs.BoolTests.{le_true, le_is, lt_true, lt_is, within, is_within}
 
 pub client_grammar : IsGrammar IsClient (λ n. n ∷ []) client_at
 unfolding client_at
@@ -59,13 +59,13 @@ ballot_grammar =
     let counter = kept_grammar (λ n. n < 2 ^ 32) (λ n. to_be_bytes w32 n) (number_at w32) (λ n. nat_le 1 n) four_bytes in
     let node = kept_grammar (λ n. n < 256) (λ n. n ∷ []) byte_at (λ n. nat_le n LAST_INDEX) one_byte in
     let parts = both_grammar (λ n. (n < 2 ^ 32) × (nat_le 1 n ≡ true)) (λ n. to_be_bytes w32 n) (λ b. kept (λ n. nat_le 1 n) (number_at w32 b))
-        (λ _ n. (n < 256) × (nat_le n LAST_INDEX ≡ true)) (λ _ n. n ∷ []) (λ _ b. kept (λ n. nat_le n LAST_INDEX) (byte_at b)) counter (λ _ _. node) in
+    (λ _ n. (n < 256) × (nat_le n LAST_INDEX ≡ true)) (λ _ n. n ∷ []) (λ _ b. kept (λ n. nat_le n LAST_INDEX) (byte_at b)) counter (λ _ _. node) in
     refit (λ b. ((b.counter < 2 ^ 32) × (nat_le 1 b.counter ≡ true)) × ((b.node < 256) × (nat_le b.node LAST_INDEX ≡ true))) FitsBallot ballot ballot_at
-      (made_grammar (λ p. ((p.0 < 2 ^ 32) × (nat_le 1 p.0 ≡ true)) × ((p.1 < 256) × (nat_le p.1 LAST_INDEX ≡ true))) (λ p. to_be_bytes w32 p.0 ++ (p.1 ∷ []))
-        (both (λ b. kept (λ n. nat_le 1 n) (number_at w32 b)) (λ _ b. kept (λ n. nat_le n LAST_INDEX) (byte_at b)))
-        (λ p. record { counter = p.0; node = p.1 }) (λ b. (b.counter, b.node)) (λ p. refl) (λ b. refl) parts)
-      (λ b h. record { low = le_true 1 b.counter h.0.1; high = h.0.0; node = le_true b.node LAST_INDEX h.1.1 })
-      (λ b h. ((h.high, le_is 1 b.counter h.low), (omega (arith, h.node), le_is b.node LAST_INDEX h.node)))
+    (made_grammar (λ p. ((p.0 < 2 ^ 32) × (nat_le 1 p.0 ≡ true)) × ((p.1 < 256) × (nat_le p.1 LAST_INDEX ≡ true))) (λ p. to_be_bytes w32 p.0 ++ (p.1 ∷ []))
+    (both (λ b. kept (λ n. nat_le 1 n) (number_at w32 b)) (λ _ b. kept (λ n. nat_le n LAST_INDEX) (byte_at b)))
+    (λ p. record { counter = p.0; node = p.1 }) (λ b. (b.counter, b.node)) (λ p. refl) (λ b. refl) parts)
+    (λ b h. record { low = le_true 1 b.counter h.0.1; high = h.0.0; node = le_true b.node LAST_INDEX h.1.1 })
+    (λ b h. ((h.high, le_is 1 b.counter h.low), (omega (arith, h.node), le_is b.node LAST_INDEX h.node)))
 
 backend_case : (n : ℕ) (bytes after : List ℕ) (t : Tier) (rest : List ℕ) → Takes bytes (n ∷ []) after
     → cond {A = Read Tier} (eqb n 1) (Some (Inv, after)) (cond (eqb n 2) (Some (Pay, after)) None) ≡ Some (t, rest) → Takes bytes (tier_number t ∷ []) rest × IsBackend t
@@ -73,9 +73,9 @@ backend_case n bytes after t rest taken e =
     elim (chosen {A = Read Tier} (eqb n 1) (Some (Inv, after)) (cond (eqb n 2) (Some (Pay, after)) None) (Some (t, rest)) e) [
       | inl h ↦ subst (λ (p : Tier × List ℕ). Takes bytes (tier_number p.0 ∷ []) p.1 × IsBackend p.0) (some_is (Inv, after) (t, rest) h.1) (subst (λ (k : ℕ). Takes bytes (k ∷ []) after) (eqb-true n 1 h.0) taken, tt)
       | inr h ↦ elim (chosen {A = Read Tier} (eqb n 2) (Some (Pay, after)) None (Some (t, rest)) h.1) [
-          | inl k ↦ subst (λ (p : Tier × List ℕ). Takes bytes (tier_number p.0 ∷ []) p.1 × IsBackend p.0) (some_is (Pay, after) (t, rest) k.1) (subst (λ (m : ℕ). Takes bytes (m ∷ []) after) (eqb-true n 2 k.0) taken, tt)
-          | inr k ↦ absurd (none_is_some (t, rest) k.1)
-        ]
+        | inl k ↦ subst (λ (p : Tier × List ℕ). Takes bytes (tier_number p.0 ∷ []) p.1 × IsBackend p.0) (some_is (Pay, after) (t, rest) k.1) (subst (λ (m : ℕ). Takes bytes (m ∷ []) after) (eqb-true n 2 k.0) taken, tt)
+        | inr k ↦ absurd (none_is_some (t, rest) k.1)
+      ]
     ]
 
 backend_takes : (bytes : List ℕ) (t : Tier) (rest : List ℕ) → IsBytes bytes → backend_at bytes ≡ Some (t, rest) → Takes bytes (tier_number t ∷ []) rest × IsBackend t

@@ -1,4 +1,4 @@
-pub mod Tests
+pub mod BoolTests
 pub mod FieldGrammar
 pub mod Misses
 pub mod OutcomeGrammar

@@ -21,7 +21,7 @@ use Rattle.log_values.specs.Outcomes.{pair, pairs_at, rises, ending, ending_at, 
 use Rattle.log_values.proofs.FieldGrammar.{backend_grammar, stage_grammar}
 use Rattle.log_values.proofs.Leads.{chosen, none_is_some, case_of}
 use Rattle.log_values.proofs.Pairs.{pairs_take, pairs_again}
-use Rattle.log_values.proofs.Tests.{le_true, le_is}
+use Rattle.log_values.proofs.BoolTests.{le_true, le_is}
 
 -- ---- ends
 
@@ -53,9 +53,9 @@ ending_case lead bytes after v rest first e =
     elim (chosen {A = Read Ending} (eqb lead REPLY_END) (made ends.Reply (text_at after)) (cond (eqb lead CALL_END) (made call_of (call_at after)) None) (Some (v, rest)) e) [
       | inl h ↦ case_of REPLY_END ends.Reply (λ t. length t ≤ TEXT_BYTES) text text_at text_grammar IsEnding ending (λ t le. le) (λ t. refl) bytes lead after v rest first h.0 h.1
       | inr h ↦ elim (chosen {A = Read Ending} (eqb lead CALL_END) (made call_of (call_at after)) None (Some (v, rest)) h.1) [
-          | inl k ↦ case_of CALL_END call_of call_fits call_text call_at call_grammar IsEnding ending (λ p fits. (fits.0, (fits.1.0.0, (fits.1.0.1, fits.1.1)))) (λ p. refl) bytes lead after v rest first k.0 k.1
-          | inr k ↦ absurd (none_is_some (v, rest) k.1)
-        ]
+        | inl k ↦ case_of CALL_END call_of call_fits call_text call_at call_grammar IsEnding ending (λ p fits. (fits.0, (fits.1.0.0, (fits.1.0.1, fits.1.1)))) (λ p. refl) bytes lead after v rest first k.0 k.1
+        | inr k ↦ absurd (none_is_some (v, rest) k.1)
+      ]
     ]
 
 ending_takes : (bytes : List ℕ) (v : Ending) (rest : List ℕ) → IsBytes bytes → ending_at bytes ≡ Some (v, rest) → Takes bytes (ending v) rest × IsEnding v
@@ -85,19 +85,19 @@ all_pairs_grammar : IsGrammar pairs_fit pairs_text all_pairs_at
 unfolding all_pairs_at
 all_pairs_grammar = record {
   takes = λ bytes ps rest are e.
-    let b = bind_some (kept (λ n. nat_le n TOKEN_PAIRS) (number_at w16 bytes)) (λ n. pairs_at None n.0 n.1) (ps, rest) e in
-    let k = kept_some (λ n. nat_le n TOKEN_PAIRS) (number_at w16 bytes) b.0 b.1 in
-    let first = two_bytes.takes bytes b.0.0 b.0.1 are k.0 in
-    let others = pairs_take b.0.0 None b.0.1 ps rest first.0.rest_fits b.2 in
-    let all = Takes-then bytes (to_be_bytes w16 b.0.0) b.0.1 (flat_map pair ps) rest first.0 others.0 in
-    let below : b.0.0 ≤ TOKEN_PAIRS = le_true b.0.0 TOKEN_PAIRS k.1 in
-    (subst (λ (n : ℕ). Takes bytes (to_be_bytes w16 n ++ flat_map pair ps) rest) (sym others.1.0) all, (subst (λ (n : ℕ). n ≤ TOKEN_PAIRS) (sym others.1.0) below, others.1.1));
+      let b = bind_some (kept (λ n. nat_le n TOKEN_PAIRS) (number_at w16 bytes)) (λ n. pairs_at None n.0 n.1) (ps, rest) e in
+      let k = kept_some (λ n. nat_le n TOKEN_PAIRS) (number_at w16 bytes) b.0 b.1 in
+      let first = two_bytes.takes bytes b.0.0 b.0.1 are k.0 in
+      let others = pairs_take b.0.0 None b.0.1 ps rest first.0.rest_fits b.2 in
+      let all = Takes-then bytes (to_be_bytes w16 b.0.0) b.0.1 (flat_map pair ps) rest first.0 others.0 in
+      let below : b.0.0 ≤ TOKEN_PAIRS = le_true b.0.0 TOKEN_PAIRS k.1 in
+      (subst (λ (n : ℕ). Takes bytes (to_be_bytes w16 n ++ flat_map pair ps) rest) (sym others.1.0) all, (subst (λ (n : ℕ). n ≤ TOKEN_PAIRS) (sym others.1.0) below, others.1.1));
   again = λ ps rest fit.
-    let small : length ps < 2 ^ 16 = omega (arith, fit.0) in
-    let regrouped : pairs_text ps ++ rest ≡ to_be_bytes w16 (length ps) ++ (flat_map pair ps ++ rest) = append_assoc (to_be_bytes w16 (length ps)) (flat_map pair ps) rest in
-    let count : kept (λ n. nat_le n TOKEN_PAIRS) (number_at w16 (to_be_bytes w16 (length ps) ++ (flat_map pair ps ++ rest))) ≡ Some (length ps, flat_map pair ps ++ rest)
-        = rw (two_bytes.again (length ps) (flat_map pair ps ++ rest) small, le_is (length ps) TOKEN_PAIRS fit.0) refl in
-    ap all_pairs_at regrouped ∙ ap (λ (r : Read ℕ). r >>= λ n. pairs_at None n.0 n.1) count ∙ pairs_again ps None rest fit.1.0 fit.1.1;
+      let small : length ps < 2 ^ 16 = omega (arith, fit.0) in
+      let regrouped : pairs_text ps ++ rest ≡ to_be_bytes w16 (length ps) ++ (flat_map pair ps ++ rest) = append_assoc (to_be_bytes w16 (length ps)) (flat_map pair ps) rest in
+      let count : kept (λ n. nat_le n TOKEN_PAIRS) (number_at w16 (to_be_bytes w16 (length ps) ++ (flat_map pair ps ++ rest))) ≡ Some (length ps, flat_map pair ps ++ rest)
+      = rw (two_bytes.again (length ps) (flat_map pair ps ++ rest) small, le_is (length ps) TOKEN_PAIRS fit.0) refl in
+      ap all_pairs_at regrouped ∙ ap (λ (r : Read ℕ). r >>= λ n. pairs_at None n.0 n.1) count ∙ pairs_again ps None rest fit.1.0 fit.1.1;
 }
 
 ends_grammar : IsGrammar (λ es. (length es ≤ TOKEN_ENDS) × AllByRecursion IsEnding es) (λ es. length es ∷ flat_map ending es) all_ends_at
@@ -109,17 +109,19 @@ unfolding outcome_at
 outcome_grammar =
     let parts = both_grammar pairs_fit pairs_text all_pairs_at (λ _ es. (length es ≤ TOKEN_ENDS) × AllByRecursion IsEnding es) (λ _ es. length es ∷ flat_map ending es) (λ _. all_ends_at) all_pairs_grammar (λ _ _. ends_grammar) in
     let told = made_grammar (λ p. pairs_fit p.0 × ((length p.1 ≤ TOKEN_ENDS) × AllByRecursion IsEnding p.1)) (λ p. pairs_text p.0 ++ (length p.1 ∷ flat_map ending p.1)) (both all_pairs_at (λ _. all_ends_at))
-        outcome_of parts_of (λ p. refl) (λ o. refl) parts in
+    outcome_of parts_of (λ p. refl) (λ o. refl) parts in
     let fitted = refit (λ o. pairs_fit o.pairs × ((length o.ends ≤ TOKEN_ENDS) × AllByRecursion IsEnding o.ends)) FitsOutcome (λ o. pairs_text o.pairs ++ (length o.ends ∷ flat_map ending o.ends)) outcome_at told
-        (λ o h. record { count = h.0.0; pairs = h.0.1.0; sorted = h.0.1.1; end_count = h.1.0; ends = h.1.1 })
-        (λ o h. ((h.count, (h.pairs, h.sorted)), (h.end_count, h.ends))) in
+    (λ o h. record { count = h.0.0; pairs = h.0.1.0; sorted = h.0.1.1; end_count = h.1.0; ends = h.1.1 })
+    (λ o h. ((h.count, (h.pairs, h.sorted)), (h.end_count, h.ends))) in
     respelled FitsOutcome (λ o. pairs_text o.pairs ++ (length o.ends ∷ flat_map ending o.ends)) outcome outcome_at fitted
-        (λ o. append_assoc (to_be_bytes w16 (length o.pairs)) (flat_map pair o.pairs) (length o.ends ∷ flat_map ending o.ends))
+    (λ o. append_assoc (to_be_bytes w16 (length o.pairs)) (flat_map pair o.pairs) (length o.ends ∷ flat_map ending o.ends))
   where
     outcome_of : List (Key × ℕ) × List Ending → Outcome
     outcome_of p = record { pairs = p.0; ends = p.1 }
+
     parts_of : Outcome → List (Key × ℕ) × List Ending
     parts_of o = (o.pairs, o.ends)
+
     respelled : {A : Type 0} (fits : A → Type 0) (old new : A → List ℕ) (read : List ℕ → Read A) → IsGrammar fits old read → ((x : A) → old x ≡ new x) → IsGrammar fits new read
     respelled fits old new read g same = record {
       takes = λ bytes x rest are e. let t = g.takes bytes x rest are e in (subst (λ (w : List ℕ). Takes bytes w rest) (same x) t.0, t.1);

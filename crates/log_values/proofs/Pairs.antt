@@ -14,7 +14,7 @@ use Rattle.aeg_wire.proofs.Numbers.{one_byte, four_bytes, eight_bytes}
 use Rattle.aeg_wire.proofs.Lists.{with_front}
 use Rattle.log_values.specs.Outcomes.{pair, pair_at, pairs_at, is_after, rises, FitsPair}
 use Rattle.log_values.specs.Reading.{left_after}
-use Rattle.log_values.proofs.Tests.{lt_true, lt_is, and_true, and_is}
+use Rattle.log_values.proofs.BoolTests.{lt_true, lt_is, and_true, and_is}
 
 pub pair_grammar : (last : Option Key) → IsGrammar (λ p. FitsPair p × (is_after last p.0 ≡ true)) pair (pair_at last)
 unfolding pair_at
@@ -22,18 +22,19 @@ pair_grammar last =
     let class = kept_grammar (λ n. n < 256) (λ n. n ∷ []) byte_at (λ n. nat_lt n KEY_CLASSES) one_byte in
     let numbers = both_grammar (λ n. n < 2 ^ 32) (λ n. to_be_bytes w32 n) (number_at w32) (λ _ n. n < 2 ^ 64) (λ _ n. to_be_bytes w64 n) (λ _. number_at w64) four_bytes (λ _ _. eight_bytes) in
     let all = both_grammar (λ n. (n < 256) × (nat_lt n KEY_CLASSES ≡ true)) (λ n. n ∷ []) (λ b. kept (λ n. nat_lt n KEY_CLASSES) (byte_at b))
-        (λ _ p. (p.0 < 2 ^ 32) × (p.1 < 2 ^ 64)) (λ _ p. to_be_bytes w32 p.0 ++ to_be_bytes w64 p.1) (λ _. both (number_at w32) (λ _. number_at w64)) class (λ _ _. numbers) in
+    (λ _ p. (p.0 < 2 ^ 32) × (p.1 < 2 ^ 64)) (λ _ p. to_be_bytes w32 p.0 ++ to_be_bytes w64 p.1) (λ _. both (number_at w32) (λ _. number_at w64)) class (λ _ _. numbers) in
     let told = made_grammar (λ p. ((p.0 < 256) × (nat_lt p.0 KEY_CLASSES ≡ true)) × ((p.1.0 < 2 ^ 32) × (p.1.1 < 2 ^ 64))) (λ p. (p.0 ∷ []) ++ (to_be_bytes w32 p.1.0 ++ to_be_bytes w64 p.1.1))
-        (both (λ b. kept (λ n. nat_lt n KEY_CLASSES) (byte_at b)) (λ _. both (number_at w32) (λ _. number_at w64)))
-        there back (λ p. refl) (λ q. refl) all in
+    (both (λ b. kept (λ n. nat_lt n KEY_CLASSES) (byte_at b)) (λ _. both (number_at w32) (λ _. number_at w64)))
+    there back (λ p. refl) (λ q. refl) all in
     refit (λ q. (((q.0.class < 256) × (nat_lt q.0.class KEY_CLASSES ≡ true)) × ((q.0.id < 2 ^ 32) × (q.1 < 2 ^ 64))) × (is_after last q.0 ≡ true)) (λ p. FitsPair p × (is_after last p.0 ≡ true)) pair (pair_at last)
-      (kept_grammar (λ q. ((q.0.class < 256) × (nat_lt q.0.class KEY_CLASSES ≡ true)) × ((q.0.id < 2 ^ 32) × (q.1 < 2 ^ 64))) pair
-        (λ bytes. made there (both (λ b. kept (λ n. nat_lt n KEY_CLASSES) (byte_at b)) (λ _. both (number_at w32) (λ _. number_at w64)) bytes)) (λ p. is_after last p.0) told)
-      (λ q h. (((lt_true q.0.class KEY_CLASSES h.0.0.1, h.0.1.0), h.0.1.1), h.1))
-      (λ q h. (((omega (arith, h.0.0.0), lt_is q.0.class KEY_CLASSES h.0.0.0), (h.0.0.1, h.0.1)), h.1))
+    (kept_grammar (λ q. ((q.0.class < 256) × (nat_lt q.0.class KEY_CLASSES ≡ true)) × ((q.0.id < 2 ^ 32) × (q.1 < 2 ^ 64))) pair
+    (λ bytes. made there (both (λ b. kept (λ n. nat_lt n KEY_CLASSES) (byte_at b)) (λ _. both (number_at w32) (λ _. number_at w64)) bytes)) (λ p. is_after last p.0) told)
+    (λ q h. (((lt_true q.0.class KEY_CLASSES h.0.0.1, h.0.1.0), h.0.1.1), h.1))
+    (λ q h. (((omega (arith, h.0.0.0), lt_is q.0.class KEY_CLASSES h.0.0.0), (h.0.0.1, h.0.1)), h.1))
   where
     there : ℕ × (ℕ × ℕ) → Key × ℕ
     there p = (record { class = p.0; id = p.1.0 }, p.1.1)
+
     back : Key × ℕ → ℕ × (ℕ × ℕ)
     back q = (q.0.class, (q.0.id, q.1))
 
@@ -42,7 +43,7 @@ pub pairs_take : (n : ℕ) (last : Option Key) (bytes : List ℕ) (ps : List (Ke
 unfolding pairs_at
 pairs_take zero last bytes ps rest are e =
     subst (λ (p : List (Key × ℕ) × List ℕ). Takes bytes (flat_map pair p.0) p.1 × ((length p.0 ≡ 0) × (AllByRecursion FitsPair p.0 × (rises last p.0 ≡ true)))) (some_is ([], bytes) (ps, rest) e)
-      (record { parts = refl; rest_fits = are }, (refl, (tt, refl)))
+    (record { parts = refl; rest_fits = are }, (refl, (tt, refl)))
 pairs_take (suc n) last bytes ps rest are e =
     let b = bind_some (pair_at last bytes) (λ p. made (λ others. p.0 ∷ others) (pairs_at (Some p.0.0) n p.1)) (ps, rest) e in
     let m = made_some (λ others. b.0.0 ∷ others) (pairs_at (Some b.0.0.0) n b.0.1) (ps, rest) b.2 in
@@ -50,7 +51,7 @@ pairs_take (suc n) last bytes ps rest are e =
     let others = pairs_take n (Some b.0.0.0) b.0.1 m.0.0 m.0.1 first.0.rest_fits m.1 in
     let all = Takes-then bytes (pair b.0.0) b.0.1 (flat_map pair m.0.0) m.0.1 first.0 others.0 in
     subst (λ (p : List (Key × ℕ) × List ℕ). Takes bytes (flat_map pair p.0) p.1 × ((length p.0 ≡ suc n) × (AllByRecursion FitsPair p.0 × (rises last p.0 ≡ true)))) m.2
-      (rw flat_map-cons all, (ap suc others.1.0, ((first.1.0, others.1.1.0), and_is (is_after last b.0.0.0) (rises (Some b.0.0.0) m.0.0) first.1.1 others.1.1.1)))
+    (rw flat_map-cons all, (ap suc others.1.0, ((first.1.0, others.1.1.0), and_is (is_after last b.0.0.0) (rises (Some b.0.0.0) m.0.0) first.1.1 others.1.1.1)))
 
 pub pairs_again : (ps : List (Key × ℕ)) (last : Option Key) (rest : List ℕ) → AllByRecursion FitsPair ps → rises last ps ≡ true
     → pairs_at last (length ps) (flat_map pair ps ++ rest) ≡ Some (ps, rest)

@@ -22,7 +22,7 @@ use Rattle.log_values.specs.Values.{any_value, any_value_at, FitsAny}
 use Rattle.log_values.specs.Records.{fact, fact_at, FitsFact, record_text, facts_at, record_at, FitsRecord}
 use Rattle.log_values.proofs.FieldGrammar.{backend_grammar, call_number_grammar, position_grammar, ballot_grammar}
 use Rattle.log_values.proofs.Leads.{chosen, none_is_some, case_of}
-use Rattle.log_values.proofs.Tests.{lt_true, lt_is}
+use Rattle.log_values.proofs.BoolTests.{lt_true, lt_is}
 use Rattle.log_values.proofs.ValueGrammar.{any_grammar}
 use Rattle.log_values.proofs.Wholes.{IsEndGrammar}
 use Rattle.aeg_wire.proofs.Lists.{with_front}
@@ -105,15 +105,15 @@ fact_case lead bytes after v rest first e =
     elim (chosen {A = Read Fact} (eqb lead PROMISED) (made facts.Promised (ballot_at after)) (accepted_or lead after) (Some (v, rest)) e) [
       | inl h ↦ case_of PROMISED facts.Promised FitsBallot ballot ballot_at ballot_grammar FitsFact fact (λ b fits. fits) (λ b. refl) bytes lead after v rest first h.0 h.1
       | inr h ↦ elim (chosen {A = Read Fact} (eqb lead ACCEPTED) (made accepted_of (accepted_at after)) (learned_or lead after) (Some (v, rest)) h.1) [
-          | inl k ↦ case_of ACCEPTED accepted_of accepted_fits accepted_text accepted_at accepted_grammar FitsFact fact (λ p fits. fits) (λ p. refl) bytes lead after v rest first k.0 k.1
-          | inr k ↦ elim (chosen {A = Read Fact} (eqb lead LEARNED) (made learned_of (learned_at after)) (held_or_none lead after) (Some (v, rest)) k.1) [
-              | inl l ↦ case_of LEARNED learned_of learned_fits learned_text learned_at learned_grammar FitsFact fact (λ p fits. fits) (λ p. refl) bytes lead after v rest first l.0 l.1
-              | inr l ↦ elim (chosen {A = Read Fact} (eqb lead HELD) (made held_of (held_at after)) None (Some (v, rest)) l.1) [
-                  | inl m ↦ case_of HELD held_of held_fits held_text held_at held_grammar FitsFact fact (λ p fits. fits) (λ p. refl) bytes lead after v rest first m.0 m.1
-                  | inr m ↦ absurd (none_is_some (v, rest) m.1)
-                ]
-            ]
+        | inl k ↦ case_of ACCEPTED accepted_of accepted_fits accepted_text accepted_at accepted_grammar FitsFact fact (λ p fits. fits) (λ p. refl) bytes lead after v rest first k.0 k.1
+        | inr k ↦ elim (chosen {A = Read Fact} (eqb lead LEARNED) (made learned_of (learned_at after)) (held_or_none lead after) (Some (v, rest)) k.1) [
+          | inl l ↦ case_of LEARNED learned_of learned_fits learned_text learned_at learned_grammar FitsFact fact (λ p fits. fits) (λ p. refl) bytes lead after v rest first l.0 l.1
+          | inr l ↦ elim (chosen {A = Read Fact} (eqb lead HELD) (made held_of (held_at after)) None (Some (v, rest)) l.1) [
+            | inl m ↦ case_of HELD held_of held_fits held_text held_at held_grammar FitsFact fact (λ p fits. fits) (λ p. refl) bytes lead after v rest first m.0 m.1
+            | inr m ↦ absurd (none_is_some (v, rest) m.1)
+          ]
         ]
+      ]
     ]
 
 fact_takes : (bytes : List ℕ) (v : Fact) (rest : List ℕ) → IsBytes bytes → fact_at bytes ≡ Some (v, rest) → Takes bytes (fact v) rest × FitsFact v
@@ -161,7 +161,7 @@ facts_step n v more fits =
     let l = has_lead v more in
     let led : facts_at (suc n) (l.0 ∷ l.1) ≡ (fact_at (l.0 ∷ l.1) >>= λ first. made (λ others. first.0 ∷ others) (facts_at n first.1)) = refl in
     ap (λ (w : List ℕ). facts_at (suc n) w) l.2 ∙ led ∙ ap (λ (w : List ℕ). fact_at w >>= λ first. made (λ others. first.0 ∷ others) (facts_at n first.1)) (sym l.2)
-      ∙ ap (λ (r : Read Fact). r >>= λ first. made (λ others. first.0 ∷ others) (facts_at n first.1)) (fact_grammar.again v more fits)
+    ∙ ap (λ (r : Read Fact). r >>= λ first. made (λ others. first.0 ∷ others) (facts_at n first.1)) (fact_grammar.again v more fits)
 
 facts_end : (n : ℕ) (fs : List Fact) → length fs ≤ n → AllByRecursion FitsFact fs → facts_at n (record_text fs) ≡ Some (fs, [])
 unfolding facts_at
@@ -185,9 +185,9 @@ pub record_grammar : IsEndGrammar FitsRecord record_text record_at
 unfolding record_at
 record_grammar = record {
   takes = λ bytes fs rest are e.
-    let k = kept_some (λ record_facts. nat_lt 0 (length record_facts)) (facts_at (length bytes) bytes) (fs, rest) e in
-    let t = facts_take (length bytes) bytes fs rest are k.0 in
-    (t.0, (lt_true 0 (length fs) k.1, t.1));
+      let k = kept_some (λ record_facts. nat_lt 0 (length record_facts)) (facts_at (length bytes) bytes) (fs, rest) e in
+      let t = facts_take (length bytes) bytes fs rest are k.0 in
+      (t.0, (lt_true 0 (length fs) k.1, t.1));
   ends = λ fs fits. rw (facts_end (length (record_text fs)) fs (no_more fs) fits.1, lt_is 0 (length fs) fits.0) refl;
 }
 

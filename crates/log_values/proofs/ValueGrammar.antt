@@ -30,14 +30,15 @@ pub entry_grammar : IsGrammar FitsEntry entry entry_at
 unfolding entry_at
 entry_grammar =
     let parts = both_grammar IsClient (λ n. n ∷ []) client_at (λ _ p. IsSeq p.0 × IsText p.1) (λ _ p. to_be_bytes w32 p.0 ++ text p.1) (λ _. both seq_at (λ _. text_at)) client_grammar
-        (λ _ _. both_grammar IsSeq (λ n. to_be_bytes w32 n) seq_at (λ _ t. IsText t) (λ _ t. text t) (λ _. text_at) seq_grammar (λ _ _. text_grammar)) in
+    (λ _ _. both_grammar IsSeq (λ n. to_be_bytes w32 n) seq_at (λ _ t. IsText t) (λ _ t. text t) (λ _. text_at) seq_grammar (λ _ _. text_grammar)) in
     refit (λ e. IsClient e.client × (IsSeq e.seq × IsText e.body)) FitsEntry entry entry_at
-      (made_grammar (λ p. IsClient p.0 × (IsSeq p.1.0 × IsText p.1.1)) (λ p. (p.0 ∷ []) ++ (to_be_bytes w32 p.1.0 ++ text p.1.1)) (both client_at (λ _. both seq_at (λ _. text_at)))
-        entry_of parts_of (λ p. refl) (λ e. refl) parts)
-      (λ e h. record { client = h.0; seq = h.1.0; body = h.1.1 }) (λ e h. (h.client, (h.seq, h.body)))
+    (made_grammar (λ p. IsClient p.0 × (IsSeq p.1.0 × IsText p.1.1)) (λ p. (p.0 ∷ []) ++ (to_be_bytes w32 p.1.0 ++ text p.1.1)) (both client_at (λ _. both seq_at (λ _. text_at)))
+    entry_of parts_of (λ p. refl) (λ e. refl) parts)
+    (λ e h. record { client = h.0; seq = h.1.0; body = h.1.1 }) (λ e h. (h.client, (h.seq, h.body)))
   where
     entry_of : ℕ × (ℕ × List ℕ) → Entry
     entry_of p = record { client = p.0; seq = p.1.0; body = p.1.1 }
+
     parts_of : Entry → ℕ × (ℕ × List ℕ)
     parts_of e = (e.client, (e.seq, e.body))
 
@@ -55,12 +56,12 @@ mid_case lead bytes after v rest first e =
     elim (chosen {A = Read MidValue} (eqb lead BATCH) (made mids.Batch (counted_at ENTRIES entry_at after)) (cond (eqb lead COMMIT) (made verdict_of (commit_at after)) (cond (eqb lead SERIAL) (Some (mids.Verdict verdicts.Serial, after)) None)) (Some (v, rest)) e) [
       | inl h ↦ case_of BATCH mids.Batch (λ es. (length es ≤ ENTRIES) × AllByRecursion FitsEntry es) (λ es. length es ∷ flat_map entry es) (counted_at ENTRIES entry_at) entries_grammar FitsMid mid_value (λ es fits. fits) (λ es. refl) bytes lead after v rest first h.0 h.1
       | inr h ↦ elim (chosen {A = Read MidValue} (eqb lead COMMIT) (made verdict_of (commit_at after)) (cond (eqb lead SERIAL) (Some (mids.Verdict verdicts.Serial, after)) None) (Some (v, rest)) h.1) [
-          | inl k ↦ case_of COMMIT verdict_of (λ c. IsCommit c.0 c.1) commit commit_at commit_grammar FitsMid mid_value (λ c fits. fits) (λ c. refl) bytes lead after v rest first k.0 k.1
-          | inr k ↦ elim (chosen {A = Read MidValue} (eqb lead SERIAL) (Some (mids.Verdict verdicts.Serial, after)) None (Some (v, rest)) k.1) [
-              | inl s ↦ subst (λ (p : MidValue × List ℕ). Takes bytes (mid_value p.0) p.1 × FitsMid p.0) (some_is (mids.Verdict verdicts.Serial, after) (v, rest) s.1) (subst (λ (n : ℕ). Takes bytes (n ∷ []) after) (eqb-true lead SERIAL s.0) first, tt)
-              | inr s ↦ absurd (none_is_some (v, rest) s.1)
-            ]
+        | inl k ↦ case_of COMMIT verdict_of (λ c. IsCommit c.0 c.1) commit commit_at commit_grammar FitsMid mid_value (λ c fits. fits) (λ c. refl) bytes lead after v rest first k.0 k.1
+        | inr k ↦ elim (chosen {A = Read MidValue} (eqb lead SERIAL) (Some (mids.Verdict verdicts.Serial, after)) None (Some (v, rest)) k.1) [
+          | inl s ↦ subst (λ (p : MidValue × List ℕ). Takes bytes (mid_value p.0) p.1 × FitsMid p.0) (some_is (mids.Verdict verdicts.Serial, after) (v, rest) s.1) (subst (λ (n : ℕ). Takes bytes (n ∷ []) after) (eqb-true lead SERIAL s.0) first, tt)
+          | inr s ↦ absurd (none_is_some (v, rest) s.1)
         ]
+      ]
     ]
 
 mid_takes : (bytes : List ℕ) (v : MidValue) (rest : List ℕ) → IsBytes bytes → mid_value_at bytes ≡ Some (v, rest) → Takes bytes (mid_value v) rest × FitsMid v
@@ -96,9 +97,9 @@ back_case lead bytes after v rest first e =
     elim (chosen {A = Read BackValue} (eqb lead CALL) (made call_of (call_at after)) (cond (eqb lead SETTLE) (made backs.Settle (floor_at after)) None) (Some (v, rest)) e) [
       | inl h ↦ case_of CALL call_of (λ p. IsCallNumber p.0 × IsText p.1) (λ p. to_be_bytes w32 p.0 ++ text p.1) call_at call_grammar FitsBack back_value (λ p fits. fits) (λ p. refl) bytes lead after v rest first h.0 h.1
       | inr h ↦ elim (chosen {A = Read BackValue} (eqb lead SETTLE) (made backs.Settle (floor_at after)) None (Some (v, rest)) h.1) [
-          | inl k ↦ case_of SETTLE backs.Settle IsFloor (λ n. to_be_bytes w32 n) floor_at floor_grammar FitsBack back_value (λ n fits. fits) (λ n. refl) bytes lead after v rest first k.0 k.1
-          | inr k ↦ absurd (none_is_some (v, rest) k.1)
-        ]
+        | inl k ↦ case_of SETTLE backs.Settle IsFloor (λ n. to_be_bytes w32 n) floor_at floor_grammar FitsBack back_value (λ n fits. fits) (λ n. refl) bytes lead after v rest first k.0 k.1
+        | inr k ↦ absurd (none_is_some (v, rest) k.1)
+      ]
     ]
 
 back_takes : (bytes : List ℕ) (v : BackValue) (rest : List ℕ) → IsBytes bytes → back_value_at bytes ≡ Some (v, rest) → Takes bytes (back_value v) rest × FitsBack v

@@ -5,7 +5,7 @@ ghost use Rattle.log_values.specs.Values.{any_value, any_value_at, FitsAny};
 ghost use Rattle.log_values.specs.Reading.{Gives, Spells, whole};
 
 use crate::back_value::take_back;
-use crate::ended::ended;
+use crate::finish::ended;
 use crate::format::CALL;
 use crate::mid_value::take_mid;
 use crate::{BackValue, MidValue, Misread};

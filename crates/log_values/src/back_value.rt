@@ -5,8 +5,8 @@ ghost use Rattle.log_values.specs.Values.{back_value, back_value_at, back_body_a
 ghost use Rattle.log_values.specs.Reading.{Gives, Spells, whole};
 
 use crate::Misread;
-use crate::ended::ended;
 use crate::fields::{take_floor, take_number, take_text};
+use crate::finish::ended;
 use crate::format::{CALL, SETTLE};
 use aeg_base::{Bytes, CallNo, Memory};
 use aeg_wire::{Cursor, put_text, put_u8, put_u32};

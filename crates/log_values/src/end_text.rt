@@ -74,11 +74,7 @@ pub fn put_end(out: &mut Bytes, end: &Ending) -> Result<(), Memory>
 }
 
 /// So many ends with texts of their own.
-pub fn take_ends(
-    alloc: Global,
-    count: u8,
-    from: &mut Cursor<'_>,
-) -> Result<Vec<Ending>, Misread>
+pub fn take_ends(alloc: Global, count: u8, from: &mut Cursor<'_>) -> Result<Vec<Ending>, Misread>
     ensures { Gives (λ v. v.items) result from.new (list_at ending_at count from.old) }
 {
     let mut ends = Vec::new(alloc);

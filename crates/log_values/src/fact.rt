@@ -4,8 +4,8 @@ ghost use Rattle.log_values.specs.declared.fact.Fact.{Fact};
 ghost use Rattle.log_values.specs.Records.{fact, fact_at, FitsFact};
 ghost use Rattle.log_values.specs.Reading.{Gives, Spells, whole};
 
-use crate::ended::ended;
 use crate::fields::{put_ballot, take_backend, take_ballot, take_number, take_position, tier_byte};
+use crate::finish::ended;
 use crate::format::{ACCEPTED, HELD, LEARNED, PROMISED};
 use crate::{AnyValue, Misread, take_value};
 use aeg_base::{Ballot, Bytes, CallNo, Memory, Pos, Tier};

@@ -25,17 +25,25 @@ pub const ENTRIES: u8 = 8;
 
 // The lead bytes of values.
 pub const BATCH: u8 = 1;
+
 pub const COMMIT: u8 = 2;
+
 pub const SERIAL: u8 = 3;
+
 pub const CALL: u8 = 4;
+
 pub const SETTLE: u8 = 5;
 
 // The lead bytes of a segment's ends.
 pub const REPLY_END: u8 = 0;
+
 pub const CALL_END: u8 = 1;
 
 // The lead bytes of facts.
 pub const PROMISED: u8 = 1;
+
 pub const ACCEPTED: u8 = 2;
+
 pub const LEARNED: u8 = 3;
+
 pub const HELD: u8 = 4;

@@ -4,10 +4,10 @@
 mod any_value;
 mod back_value;
 mod end_text;
-mod ended;
 mod entry;
 mod fact;
 mod fields;
+mod finish;
 pub mod format;
 mod laws;
 mod mid_value;
@@ -25,9 +25,13 @@ pub use fields::{
     put_ballot, take_backend, take_ballot, take_client, take_floor, take_number, take_position,
     take_seq, take_stage, take_text, tier_byte,
 };
+pub use finish::ended;
 pub use laws::{no_spelling_begins_another, tokens_tell_outcomes_apart};
 pub use mid_value::{MidValue, Verdict};
 pub use misread::Misread;
 pub use order::{is_permutation, put_commit, take_commit};
 pub use record::Record;
 pub use token::{Token, encode_outcome, read_outcome};
+
+#[cfg(test)]
+mod tests;

@@ -4,8 +4,8 @@ ghost use Rattle.log_values.specs.declared.mid_value.MidValue.{MidValue};
 ghost use Rattle.log_values.specs.Values.{mid_value, mid_value_at, mid_body_at, FitsMid};
 ghost use Rattle.log_values.specs.Reading.{Gives, Spells, whole};
 
-use crate::ended::ended;
 use crate::entry::{put_entries, take_entries};
+use crate::finish::ended;
 use crate::format::{BATCH, COMMIT, SERIAL};
 use crate::order::{put_commit, take_commit};
 use crate::{Entry, Misread, Token};

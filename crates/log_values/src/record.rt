@@ -4,8 +4,8 @@ ghost use Rattle.log_values.specs.declared.fact.Fact.{Fact};
 ghost use Rattle.log_values.specs.Records.{record_text, record_at, facts_at, FitsRecord};
 ghost use Rattle.log_values.specs.Reading.{Gives, Spells, whole};
 
-use crate::ended::ended;
 use crate::fact::take_fact;
+use crate::finish::ended;
 use crate::{Fact, Misread};
 use aeg_base::{Bytes, Memory, Seq};
 use aeg_wire::Cursor;

@@ -6,7 +6,7 @@ ghost use Rattle.log_values.specs.Reading.{Gives, Found, Passes, Counts, Spells,
 
 use crate::Misread;
 use crate::end_text::{pass_ends, put_ends, take_ends};
-use crate::ended::ended;
+use crate::finish::ended;
 use crate::format::{TOKEN_ENDS, TOKEN_PAIRS};
 use crate::pair_text::{pass_pairs, put_pairs, take_pairs};
 use aeg_base::{Bytes, Key, Memory, Seq};

@@ -1,7 +1,7 @@
 -- What the calls of an append do to the disk, and what they leave.
-use Rattle.std.specs.Prelude.{◌≡◌, ◌⊎◌, ℕ, ◌+◌, ◌≤◌, List, [], ◌∷◌, ◌++◌, length, Bool, true, false, cond, ◌&&◌, nat_lt, Result, Ok, Err}
+use Rattle.std.specs.Prelude.{◌≡◌, ◌⊎◌, ℕ, ◌+◌, ◌≤◌, List, [], ◌∷◌, ◌++◌, length, Bool, true, cond, ◌&&◌, nat_lt, Result, Ok, Err}
 use Rattle.aeg_disk.specs.declared.disk.DiskErr.{DiskErr}
-use Rattle.aeg_disk.specs.Disk.{DiskState, Moment, Image, IsImage, Writes, Syncs, Rose}
+use Rattle.aeg_disk.specs.Disk.{DiskState, Moment, Image, IsImage, Writes, Syncs}
 use Rattle.node_journal.specs.Journal.{Ends, records}
 
 -- the four calls, up to the first that failed
@@ -43,11 +43,7 @@ pub record StopMet (rs : List (List ℕ)) (at : ℕ) (body : List ℕ) (a z : Di
   pub faults : z.faults ≡ a.faults
   pub left : a.tells ≡ true → Holds (cond (is_kept a.armed a.keep) (rs ++ body ∷ []) rs) (cond (is_kept a.armed a.keep) (at + 5 + length body) at) z
 
--- a disk that was armed for one of the four calls has met the stop, unless a call before it failed
-abbrev pub Meets : DiskState → DiskState → Type 0
-Meets a z = a.stopped ≡ false → 1 ≤ a.armed → a.armed ≤ 4 → (z.stopped ≡ true) ⊎ Rose a.faults z.faults
-
--- The journal of this length may go on: every image has the records that a read gives, and the shut gate at this place.
+-- A journal that ends at this place may go on: every image has the records that a read gives, and the shut gate there.
 abbrev pub IsReady : DiskState → ℕ → Type 0
 IsReady s at = Holds (records s.bytes) at s
 

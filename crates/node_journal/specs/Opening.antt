@@ -12,6 +12,7 @@ abbrev pub Entry : List ℕ → Option (List ℕ) → Type 0
 Entry rest None = is_whole rest ≡ false
 Entry rest (Some body) = (is_whole rest ≡ true) × (body ≡ body_of rest)
 
+-- what a disk's error is to whoever opens a journal on it
 abbrev pub open_err : DiskErr → OpenErr
 open_err DiskErrs.Failed = Disk
 open_err DiskErrs.Memory = Memory

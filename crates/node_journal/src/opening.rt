@@ -1,7 +1,7 @@
 // Reads a journal from a disk, and shuts the gate of an empty one.
 ghost use Rattle.std.specs.Prelude.{◌≡◌, ◌≢◌, ◌⊎◌, ℕ, ◌+◌, ◌-◌, ◌<◌, ◌≤◌, List, [], ◌∷◌, ◌++◌, true, false, length, get_or, take, drop, IfOk, IfSome, OnOk, MatchOption};
 ghost use Rattle.aeg_disk.specs.Disk.{Looks, Rose, Later};
-ghost use Rattle.node_journal.specs.Journal.{told_length, body_of, is_whole, records, Ends, IsBadAt};
+ghost use Rattle.node_journal.specs.Journal.{told_length, body_of, is_whole, records, size_of, Ends, IsBadAt};
 ghost use Rattle.node_journal.specs.Opening.{Entry, LooksTo, Next, Torn_off, Read, Shuts, WasThere, opened_bytes};
 ghost use Rattle.node_journal.specs.Append.{LeavesOnly, HasList};
 
@@ -178,6 +178,8 @@ fn shut<D: Disk>(disk: &mut D) -> Result<(), DiskErr>
 pub fn open_on<D: Disk>(alloc: Global, disk: &mut D) -> Result<(Journal, Vec<Bytes>), OpenErr>
     ensures records { IfOk result (λ r. (D.state disk.old).tells ≡ true → r.1.items ≡ records (D.state disk.old).bytes) }
     ensures ready { IfOk result (λ r. (D.state disk.old).tells ≡ true → HasList (records (D.state disk.old).bytes) (D.state disk.new) r.0) }
+
+    ensures size { IfOk result (λ r. (D.state disk.old).tells ≡ true → r.0 + 1 ≡ size_of r.1.items) }
 
     ensures bytes { OnOk result ((D.state disk.old).tells ≡ true → (D.state disk.new).bytes ≡ opened_bytes (D.state disk.old).bytes) }
 

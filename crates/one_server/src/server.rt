@@ -10,9 +10,9 @@ ghost use Rattle.one_server.specs.Writes.{after};
 use crate::answering::answer;
 use crate::book::Book;
 use crate::clients::Clients;
+use crate::making::make;
 use crate::refusal::StepErr;
 use crate::stage::{Ran, run_stage};
-use crate::making::make;
 use crate::write::Write;
 use aeg_base::{Bytes, CallNo, ReqId, Tier};
 use backend_svc::{Inventory, Payment};
@@ -49,14 +49,14 @@ impl Model for OneServer {
     ghost coded = { server_code (numbers_code coded_ℕ) };
 
     ghost view = { λ s. record {
-        store = s.store.map;
-        last = s.clients.last;
-        progress = s.clients.progress;
-        calls = s.calls;
-        served = s.served;
-        inventory = s.inventory;
-        payment = s.payment;
-        replies = s.replies.items;
+      store = s.store.map;
+      last = s.clients.last;
+      progress = s.clients.progress;
+      calls = s.calls;
+      served = s.served;
+      inventory = s.inventory;
+      payment = s.payment;
+      replies = s.replies.items;
     } };
 }
 
@@ -134,7 +134,15 @@ impl OneServer {
         };
         let body = progress.body.copy()?;
         let answer = Some(u64::from(code));
-        match run_stage(self.alloc, &self.service, who, &body, progress.stage, answer, &self.store)? {
+        match run_stage(
+            self.alloc,
+            &self.service,
+            who,
+            &body,
+            progress.stage,
+            answer,
+            &self.store,
+        )? {
             None => Err(StepErr::Illegal { row: 5 }),
             Some(ran) => self.end(who, &body, number, ran),
         }
@@ -172,7 +180,13 @@ impl OneServer {
     }
 
     // The request has its reply.
-    fn reply(&mut self, who: ReqId, number: CallNo, text: Bytes, writes: &[Write]) -> Result<Told, StepErr>
+    fn reply(
+        &mut self,
+        who: ReqId,
+        number: CallNo,
+        text: Bytes,
+        writes: &[Write],
+    ) -> Result<Told, StepErr>
         requires { IsRequest who }
         ensures { Answers (ended self.old who [] number (after self.old.store writes.now) (ends.Reply text)) self.old self.new result }
     {
@@ -190,7 +204,13 @@ impl OneServer {
     }
 
     // The request waits for its call, whose number is new.
-    fn call(&mut self, who: ReqId, progress: Progress, text: Bytes, writes: &[Write]) -> Result<Told, StepErr>
+    fn call(
+        &mut self,
+        who: ReqId,
+        progress: Progress,
+        text: Bytes,
+        writes: &[Write],
+    ) -> Result<Told, StepErr>
         requires client { IsRequest who }
         requires seq { progress.seq ≡ who.seq }
         requires new { found_in self.old.calls progress.tier progress.number ≡ None }

@@ -1,10 +1,10 @@
 -- What contracts see of one node's log.
-use Rattle.std.specs.Prelude.{◌≡◌, ℕ, suc, ◌+◌, ◌*◌, ◌<◌, ◌≤◌, Bool, List, [], ◌∷◌, length, Option, Some, None, IfSome, IsSome, option_map, if◌then◌else◌}
+use Rattle.std.specs.Prelude.{◌≡◌, ℕ, ◌+◌, ◌*◌, ◌<◌, ◌≤◌, Bool, List, [], ◌∷◌, length, Option, Some, None, IfSome, IsSome, option_map, if◌then◌else◌}
 use Rattle.aeg_base.specs.Ballots.{same_ballot}
 use Rattle.aeg_base.specs.declared.names.Ballot.{Ballot}
 use Rattle.aeg_base.specs.declared.limits.TheConstants.{POSITIONS}
 use Rattle.log_model.specs.declared.fact.Fact.{Fact}
-use Rattle.log_model.specs.declared.fact.Fact.TheVariants.{Promised, Accepted as Voted, Learned}
+use Rattle.log_model.specs.declared.fact.Fact.TheVariants.{Learned}
 use Rattle.log_model.specs.declared.message.PaxMsg.{PaxMsg}
 use Rattle.log_model.specs.declared.message.PaxMsg.TheVariants.{Accept, Accepted, Learn}
 use Rattle.log_model.specs.declared.turn.Offering.{Offering}
@@ -36,6 +36,11 @@ as_leader l = record { ballot = l.ballot; led_at = l.led_at; promisers = l.promi
 abbrev pub kept : {V : Type 0} → Option (Leading V) → Ballot → Option (Leading V)
 kept None b = None
 kept (Some l) b = if same_ballot l.ballot b then Some l else None
+
+-- the leader has sent a value at p
+abbrev pub sent : {V : Type 0} → Option (Leading V) → ℕ → Option (Leading V)
+sent None p = None
+sent (Some l) p = Some (record { ballot = l.ballot; led_at = l.led_at; promisers = l.promisers; best = l.best; last = Some p })
 
 -- the state that acceptor, learner and leader make
 abbrev pub joined : {V : Type 0} → AcceptorState V → LearnerState V → Option (Leading V) → LogState V

@@ -1,10 +1,11 @@
 // What a leader keeps.
-ghost use Rattle.std.specs.Prelude.{◌≡◌, ◌<◌, length, Some, OnOk, OnErr, IfOk, IfSome, option_copied, option_map};
+ghost use Rattle.std.specs.Prelude.{◌≡◌, ◌+◌, ◌*◌, ◌<◌, ◌≤◌, true, false, length, replicate, slice_set, Some, None, OnOk, OnErr, IfOk, IfSome, option_copied, option_map};
 ghost use Rattle.log_model.specs.Log.{is_better};
 ghost use Rattle.log_model.specs.Rows.{join, to_offer};
-ghost use Rattle.paxos_log.specs.Parts.{takes_promise, after_promise};
-ghost use Rattle.paxos_log.specs.TierLog.{as_leader, kept};
+ghost use Rattle.paxos_log.specs.Parts.{takes_promise, after_promise, offered_by};
+ghost use Rattle.paxos_log.specs.TierLog.{as_leader, kept, sent};
 
+use aeg_base::limits::MAX_FAULTS;
 use aeg_base::{Ballot, Memory, Pos, Value};
 use paxos_parts::{Members, is_below, is_same};
 
@@ -17,6 +18,29 @@ pub struct Leading<V> {
     pub promisers: Members,
     pub best: Option<(Ballot, V)>,
     pub last: Option<Pos>,
+}
+
+/// A leader that begins, and has promised itself.
+pub fn begun<V: Value>(
+    u: u8,
+    me: u8,
+    ballot: Ballot,
+    at: Pos,
+    best: Option<(Ballot, V)>,
+) -> Leading<V>
+    requires few { u ≤ MAX_FAULTS }
+    requires node { me < 2 * u + 1 }
+    ensures { result ≡ record { ballot = ballot; led_at = at; promisers = slice_set (replicate (2 * u + 1) false) me true; best = best; last = None } }
+{
+    let mut promisers = Members::new(2 * u + 1);
+    promisers.add(me);
+    Leading {
+        ballot,
+        led_at: at,
+        promisers,
+        best,
+        last: None,
+    }
 }
 
 /// Whether the report has a higher ballot than the best one.
@@ -58,8 +82,43 @@ pub fn keep_of_ballot<V: Value>(leader: &mut Option<Leading<V>>, b: Ballot)
     }
 }
 
+/// The ballot and the value with which a leader offers at the open position.
+pub fn value_of<V: Value>(
+    leader: &Option<Leading<V>>,
+    at: Pos,
+    own: Option<&V>,
+) -> Result<Option<(Ballot, V)>, Memory>
+    ensures { IfOk result (λ offered. offered ≡ offered_by (option_map as_leader leader.now) at (option_copied own.entry)) }
+{
+    match leader {
+        None => Ok(None),
+        Some(leader) => match leader.to_offer(at, own)? {
+            Some(value) => Ok(Some((leader.ballot, value))),
+            None => Ok(None),
+        },
+    }
+}
+
+/// A leader has sent a value at the position.
+pub fn note_sent<V: Value>(leader: &mut Option<Leading<V>>, at: Pos)
+    ensures { leader.new ≡ sent leader.old at }
+{
+    match leader {
+        None => {}
+        Some(leader) => {
+            leader.last = Some(at);
+        }
+    }
+}
+
 /// Takes a promise, if there is a leader of its ballot that has sent nothing yet and doesn't have the sender.
-pub fn take_promise<V: Value>(leader: &mut Option<Leading<V>>, from: u8, b: Ballot, p: Pos, report: &Option<(Ballot, V)>) -> Result<bool, Memory>
+pub fn take_promise<V: Value>(
+    leader: &mut Option<Leading<V>>,
+    from: u8,
+    b: Ballot,
+    p: Pos,
+    report: &Option<(Ballot, V)>,
+) -> Result<bool, Memory>
     requires { IfSome leader.old (λ l. from < length l.promisers) }
     ensures taken { IfOk result (λ taken. taken ≡ takes_promise (option_map as_leader leader.old) from b) }
     ensures after { IfOk result (λ _. option_map as_leader leader.new ≡ after_promise (option_map as_leader leader.old) from b p report.now) }
@@ -73,7 +132,13 @@ pub fn take_promise<V: Value>(leader: &mut Option<Leading<V>>, from: u8, b: Ball
 
 impl<V: Value> Leading<V> {
     /// Takes a promise of its ballot, if it has sent nothing yet and doesn't have the sender.
-    fn take(&mut self, from: u8, b: Ballot, p: Pos, report: &Option<(Ballot, V)>) -> Result<bool, Memory>
+    fn take(
+        &mut self,
+        from: u8,
+        b: Ballot,
+        p: Pos,
+        report: &Option<(Ballot, V)>,
+    ) -> Result<bool, Memory>
         requires { from < length self.old.promisers }
         ensures taken { IfOk result (λ taken. taken ≡ takes_promise (Some (as_leader self.old)) from b) }
         ensures after { IfOk result (λ _. Some (as_leader self.new) ≡ after_promise (Some (as_leader self.old)) from b p report.now) }

@@ -35,7 +35,12 @@ pub fn copy_message<V: Value>(message: &PaxMsg<V>) -> Result<PaxMsg<V>, Memory>
 }
 
 /// Adds the message to each of so many nodes but the one that is skipped, by ascending index.
-pub fn send_each<V: Value>(sends: &mut Vec<(u8, PaxMsg<V>)>, nodes: u8, skip: Option<u8>, message: &PaxMsg<V>) -> Result<(), Memory>
+pub fn send_each<V: Value>(
+    sends: &mut Vec<(u8, PaxMsg<V>)>,
+    nodes: u8,
+    skip: Option<u8>,
+    message: &PaxMsg<V>,
+) -> Result<(), Memory>
     ensures { OnOk result (sends.new.items ≡ sends.old.items ++ to_each nodes (skips skip) message.now) }
 {
     for node in 0..nodes {

@@ -59,7 +59,11 @@ fn learn_from<V: Value>(learner: &mut Learner<V>, fact: &Fact<V>) -> Result<(), 
 }
 
 /// The learned values.
-pub fn restored_learner<V: Value>(alloc: Global, u: u8, facts: &[Fact<V>]) -> Result<Learner<V>, Memory>
+pub fn restored_learner<V: Value>(
+    alloc: Global,
+    u: u8,
+    facts: &[Fact<V>],
+) -> Result<Learner<V>, Memory>
     requires few { u ≤ MAX_FAULTS }
     requires order { AreInOrder 0 facts.now }
     ensures { IfOk result (λ learner. learner ≡ record { faults = u; learned = learned_in (newest_first facts.now); seen = replicate (2 * u + 1) None }) }
@@ -72,7 +76,11 @@ pub fn restored_learner<V: Value>(alloc: Global, u: u8, facts: &[Fact<V>]) -> Re
 }
 
 /// The last vote at the position, after one more fact.
-fn voted_by<V: Value>(vote: Option<Vote<V>>, fact: &Fact<V>, at: Pos) -> Result<Option<Vote<V>>, Memory>
+fn voted_by<V: Value>(
+    vote: Option<Vote<V>>,
+    fact: &Fact<V>,
+    at: Pos,
+) -> Result<Option<Vote<V>>, Memory>
     requires { IfSome vote (λ v. v.at ≤ at) }
     ensures last { (older : List (Fact V)) → voted_at vote at ≡ accepted_in at older → IfOk result (λ next. voted_at next at ≡ accepted_in at (fact.now ∷ older)) }
     ensures place { IfOk result (λ next. IfSome next (λ v. v.at ≤ at)) }

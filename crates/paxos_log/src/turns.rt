@@ -18,7 +18,11 @@ pub fn idle<V: Value>(alloc: Global, why: LogIdle) -> LogTurn<V>
 }
 
 /// These facts and messages, and the position that is learned.
-pub fn turn<V: Value>(facts: Vec<Fact<V>>, sends: Vec<(u8, PaxMsg<V>)>, learned: Option<Pos>) -> LogTurn<V>
+pub fn turn<V: Value>(
+    facts: Vec<Fact<V>>,
+    sends: Vec<(u8, PaxMsg<V>)>,
+    learned: Option<Pos>,
+) -> LogTurn<V>
     ensures { result ≡ record { facts = facts.items; sends = sends.items; learned = learned; idle = None } }
 {
     LogTurn {

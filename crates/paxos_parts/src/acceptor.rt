@@ -1,5 +1,6 @@
 // An acceptor of one log.
 ghost use Rattle.std.specs.Prelude.{◌≡◌, OnErr, IfOk, None};
+ghost use Rattle.log_model.specs.Log.{has_ballot};
 ghost use Rattle.paxos_parts.specs.Acceptor.{AcceptorState, no_promise, voted_at, prepared, raised, after_prepare, weighed, voted, after_accept};
 
 use crate::{Acceptance, Prepared, Vote, is_at_most, is_below, is_same};
@@ -38,10 +39,7 @@ impl<V: Value> Acceptor<V> {
     pub fn restored(promised: Ballot, vote: Option<Vote<V>>) -> Self
         ensures { result ≡ record { promised = promised; vote = vote } }
     {
-        Acceptor {
-            promised,
-            vote,
-        }
+        Acceptor { promised, vote }
     }
 
     pub fn promised(&self) -> Ballot
@@ -93,6 +91,16 @@ impl<V: Value> Acceptor<V> {
         Ok(answer)
     }
 
+    /// Whether it accepted at the position with this ballot.
+    pub fn has_voted(&self, b: Ballot, p: Pos) -> bool
+        ensures { result ≡ has_ballot b (voted_at self.now.vote p) }
+    {
+        match &self.vote {
+            Some(vote) if vote.at == p => is_same(vote.ballot, b),
+            _ => false,
+        }
+    }
+
     /// What it would answer to an Accept.
     pub fn weigh(&self, b: Ballot, p: Pos) -> Acceptance
         ensures { result ≡ weighed self.now b p }
@@ -100,10 +108,10 @@ impl<V: Value> Acceptor<V> {
         if is_below(b, self.promised) {
             return Acceptance::Stale(self.promised);
         }
-        match &self.vote {
-            Some(vote) if vote.at == p && is_same(vote.ballot, b) => Acceptance::Again,
-            _ => Acceptance::Accepted,
+        if self.has_voted(b, p) {
+            return Acceptance::Again;
         }
+        Acceptance::Accepted
     }
 
     /// Accepts the value, and promises its ballot.

@@ -10,10 +10,16 @@ use crate::messages::send_each;
 use crate::turns::{idle, one, turn};
 use aeg_base::{Ballot, Memory, Pos, Value};
 use log_model::{Fact, LogIdle, LogTurn, PaxMsg};
-use paxos_parts::Acceptance;
+use paxos_parts::is_below;
 
 impl<V: Value> TierLog<V> {
-    pub(crate) fn on_accept(&mut self, from: u8, b: Ballot, p: Pos, v: &V) -> Result<LogTurn<V>, Memory>
+    pub(crate) fn on_accept(
+        &mut self,
+        from: u8,
+        b: Ballot,
+        p: Pos,
+        v: &V,
+    ) -> Result<LogTurn<V>, Memory>
         ensures turn { IfOk result (λ turn. turn ≡ told (on_accept self.old.faults self.old.state from b p v.now)) }
         ensures after { IfOk result (λ _. self.new ≡ with_state self.old (on_accept self.old.faults self.old.state from b p v.now).state) }
         ensures memory { OnErr result (self.new ≡ self.old) }
@@ -26,22 +32,25 @@ impl<V: Value> TierLog<V> {
             let sends = one(self.alloc, (from, PaxMsg::Behind(open)))?;
             return Ok(turn(Vec::new(self.alloc), sends, None));
         }
-        match self.acceptor.weigh(b, p) {
-            Acceptance::Stale(promised) => Ok(idle(self.alloc, LogIdle::Stale { promised })),
-            Acceptance::Again => self.say_again(b, p),
-            Acceptance::Accepted => self.accept(b, p, v),
+        let promised = self.acceptor.promised();
+        if is_below(b, promised) {
+            return Ok(idle(self.alloc, LogIdle::Stale { promised }));
         }
+        if self.acceptor.has_voted(b, open) {
+            return self.say_again(b, p);
+        }
+        self.accept(b, p, v)
     }
 
     /// Tells all again what was accepted at the position.
     fn say_again(&self, b: Ballot, p: Pos) -> Result<LogTurn<V>, Memory>
-        requires { p ≡ length self.now.state.learned }
         ensures { IfOk result (λ turn. turn ≡ told (says self.now.state (says_again self.now.faults b p self.now.state.accepted))) }
     {
         let nodes = 2 * self.learner.faults() + 1;
         let mut sends = Vec::new(self.alloc);
-        if let Some((_, value)) = self.acceptor.report(p)? {
+        if let Some((_, value)) = self.acceptor.report(self.learner.first_open())? {
             send_each(&mut sends, nodes, None, &PaxMsg::Accepted(b, p, value))?;
+            return Ok(turn(Vec::new(self.alloc), sends, None));
         }
         Ok(turn(Vec::new(self.alloc), sends, None))
     }

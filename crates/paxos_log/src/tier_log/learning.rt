@@ -11,7 +11,13 @@ use aeg_base::{Ballot, Memory, Pos, Value};
 use log_model::{Fact, LogIdle, LogTurn, PaxMsg};
 
 impl<V: Value> TierLog<V> {
-    pub(crate) fn on_accepted(&mut self, from: u8, b: Ballot, p: Pos, v: &V) -> Result<LogTurn<V>, Memory>
+    pub(crate) fn on_accepted(
+        &mut self,
+        from: u8,
+        b: Ballot,
+        p: Pos,
+        v: &V,
+    ) -> Result<LogTurn<V>, Memory>
         requires sender { from < 2 * self.old.faults + 1 }
         requires place { p < POSITIONS }
         ensures turn { IfOk result (λ turn. turn ≡ told (on_accepted self.old.faults self.old.state from b p v.now)) }

@@ -1,15 +1,18 @@
 // Offers of a leader.
-ghost use Rattle.std.specs.Prelude.{◌≡◌, ◌+◌, ◌*◌, ◌<◌, OnErr, IfOk, option_copied};
+ghost use Rattle.std.specs.Prelude.{◌≡◌, ◌≤◌, OnErr, IfOk, option_copied};
 ghost use Rattle.log_model.specs.Log.{told};
 ghost use Rattle.log_model.specs.Rows.{wants, offer};
+ghost use Rattle.paxos_log.specs.Parts.{offer_out};
 ghost use Rattle.paxos_log.specs.TierLog.{with_state, CanOffer};
 
 use super::TierLog;
+use crate::leading::{note_sent, value_of};
 use crate::messages::send_each;
 use crate::turns::{one, turn};
-use aeg_base::limits::POSITIONS;
-use aeg_base::{Memory, Value};
+use aeg_base::limits::{MAX_FAULTS, POSITIONS};
+use aeg_base::{Ballot, Memory, Pos, Value};
 use log_model::{Fact, LogTurn, Offering, PaxMsg};
+use std::alloc::Global;
 
 impl<V: Value> TierLog<V> {
     /// What it would offer as a leader, or why it offers nothing.
@@ -44,23 +47,46 @@ impl<V: Value> TierLog<V> {
         ensures after { IfOk result (λ _. self.new ≡ with_state self.old (offer self.old.faults self.old.me self.old.state (option_copied own.entry)).state) }
         ensures memory { OnErr result (self.new ≡ self.old) }
     {
-        let open = self.learner.first_open();
-        let nodes = 2 * self.learner.faults() + 1;
-        let leader = match &mut self.leader {
-            Some(leader) => leader,
+        let at = self.learner.first_open();
+        let (ballot, value) = match value_of(&self.leader, at, own)? {
+            Some(offered) => offered,
             None => unreachable!(),
         };
-        let value = match leader.to_offer(open, own)? {
-            Some(value) => value,
-            None => unreachable!(),
-        };
-        let ballot = leader.ballot;
-        let facts = one(self.alloc, Fact::Accepted(open, ballot, value.copy()?))?;
-        let mut sends = Vec::new(self.alloc);
-        send_each(&mut sends, nodes, Some(self.me), &PaxMsg::Accept(ballot, open, value.copy()?))?;
-        send_each(&mut sends, nodes, None, &PaxMsg::Accepted(ballot, open, value.copy()?))?;
-        leader.last = Some(open);
-        self.acceptor.vote(ballot, open, value);
-        Ok(turn(facts, sends, None))
+        let out = offered(
+            self.alloc,
+            self.learner.faults(),
+            self.me,
+            ballot,
+            at,
+            &value,
+        )?;
+        note_sent(&mut self.leader, at);
+        self.acceptor.vote(ballot, at, value);
+        Ok(out)
     }
+}
+
+/// What an offer of the value writes down and sends.
+fn offered<V: Value>(
+    alloc: Global,
+    u: u8,
+    me: u8,
+    b: Ballot,
+    p: Pos,
+    v: &V,
+) -> Result<LogTurn<V>, Memory>
+    requires { u ≤ MAX_FAULTS }
+    ensures { IfOk result (λ out. out ≡ offer_out u me b p v.now) }
+{
+    let nodes = 2 * u + 1;
+    let facts = one(alloc, Fact::Accepted(p, b, v.copy()?))?;
+    let mut sends = Vec::new(alloc);
+    send_each(
+        &mut sends,
+        nodes,
+        Some(me),
+        &PaxMsg::Accept(b, p, v.copy()?),
+    )?;
+    send_each(&mut sends, nodes, None, &PaxMsg::Accepted(b, p, v.copy()?))?;
+    Ok(turn(facts, sends, None))
 }

@@ -1,16 +1,19 @@
 // Leading, and promises.
 ghost use Rattle.std.specs.Prelude.{◌≡◌, ◌+◌, ◌*◌, ◌<◌, ◌≤◌, length, OnErr, IfOk};
 ghost use Rattle.log_model.specs.Log.{told};
-ghost use Rattle.log_model.specs.Rows.{lead, promises, on_prepare, on_promise};
+ghost use Rattle.log_model.specs.Rows.{last_counter, lead, leads, promises, on_prepare, on_promise};
+ghost use Rattle.paxos_log.specs.Parts.{lead_out};
 ghost use Rattle.paxos_log.specs.TierLog.{with_state};
 
 use super::TierLog;
-use crate::leading::{Leading, take_promise};
+use crate::leading::{begun, take_promise};
 use crate::messages::send_each;
 use crate::turns::{idle, one, turn};
+use aeg_base::limits::MAX_FAULTS;
 use aeg_base::{Ballot, Memory, Pos, Value};
 use log_model::{Fact, LogIdle, LogTurn, PaxMsg};
-use paxos_parts::{Members, is_at_most};
+use paxos_parts::is_at_most;
+use std::alloc::Global;
 
 impl<V: Value> TierLog<V> {
     /// Begins to lead, with a ballot above the promised one.
@@ -23,27 +26,28 @@ impl<V: Value> TierLog<V> {
         if promised.counter == u32::MAX {
             return Ok(idle(self.alloc, LogIdle::BallotSpent));
         }
+        self.begin()
+    }
+
+    /// Leads with the next ballot.
+    fn begin(&mut self) -> Result<LogTurn<V>, Memory>
+        requires { self.old.state.promised.counter < last_counter }
+        ensures turn { IfOk result (λ turn. turn ≡ told (leads self.old.faults self.old.me self.old.state)) }
+        ensures after { IfOk result (λ _. self.new ≡ with_state self.old (leads self.old.faults self.old.me self.old.state).state) }
+        ensures memory { OnErr result (self.new ≡ self.old) }
+    {
+        let promised = self.acceptor.promised();
         let ballot = Ballot {
             counter: promised.counter + 1,
             node: self.me,
         };
-        let open = self.learner.first_open();
-        let nodes = 2 * self.learner.faults() + 1;
-        let best = self.acceptor.report(open)?;
-        let facts = one(self.alloc, Fact::Promised(ballot))?;
-        let mut sends = Vec::new(self.alloc);
-        send_each(&mut sends, nodes, Some(self.me), &PaxMsg::Prepare(ballot, open))?;
-        let mut promisers = Members::new(nodes);
-        promisers.add(self.me);
+        let at = self.learner.first_open();
+        let u = self.learner.faults();
+        let best = self.acceptor.report(at)?;
+        let out = asked(self.alloc, u, self.me, ballot, at)?;
         self.acceptor.raise(ballot);
-        self.leader = Some(Leading {
-            ballot,
-            led_at: open,
-            promisers,
-            best,
-            last: None,
-        });
-        Ok(turn(facts, sends, None))
+        self.leader = Some(begun(u, self.me, ballot, at, best));
+        Ok(out)
     }
 
     pub(crate) fn on_prepare(&mut self, from: u8, b: Ballot, p: Pos) -> Result<LogTurn<V>, Memory>
@@ -76,7 +80,13 @@ impl<V: Value> TierLog<V> {
         Ok(turn(facts, sends, None))
     }
 
-    pub(crate) fn on_promise(&mut self, from: u8, b: Ballot, p: Pos, report: &Option<(Ballot, V)>) -> Result<LogTurn<V>, Memory>
+    pub(crate) fn on_promise(
+        &mut self,
+        from: u8,
+        b: Ballot,
+        p: Pos,
+        report: &Option<(Ballot, V)>,
+    ) -> Result<LogTurn<V>, Memory>
         requires { from < 2 * self.old.faults + 1 }
         ensures turn { IfOk result (λ turn. turn ≡ told (on_promise self.old.state self.old.state.leader from b p report.now)) }
         ensures after { IfOk result (λ _. self.new ≡ with_state self.old (on_promise self.old.state self.old.state.leader from b p report.now).state) }
@@ -87,4 +97,15 @@ impl<V: Value> TierLog<V> {
         }
         Ok(idle(self.alloc, LogIdle::Nothing))
     }
+}
+
+/// What a leader that begins writes down and sends.
+fn asked<V: Value>(alloc: Global, u: u8, me: u8, b: Ballot, p: Pos) -> Result<LogTurn<V>, Memory>
+    requires { u ≤ MAX_FAULTS }
+    ensures { IfOk result (λ out. out ≡ lead_out u me b p) }
+{
+    let facts = one(alloc, Fact::Promised(b))?;
+    let mut sends = Vec::new(alloc);
+    send_each(&mut sends, 2 * u + 1, Some(me), &PaxMsg::Prepare(b, p))?;
+    Ok(turn(facts, sends, None))
 }

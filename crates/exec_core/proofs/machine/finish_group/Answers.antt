@@ -1,5 +1,6 @@
 use Rattle.std.proofs.Common.{rules, ◌≡◌, ℕ, ◌+◌, ◌<◌, ◌≤◌, ◌∙◌, ◌⊎◌, ap, sym, refl, inl, inr, length, get_or, drop, ◌++◌, true, false, arith}
 use Rattle.std.proofs.lemmas.Grind.{common_steps}
+use Rattle.exec_model.specs.Jobs.{plan_at}
 use Rattle.exec_model.specs.Machine.{is_running, concat, finish, turn}
 use Rattle.exec_core.specs.States.{progress_of, whole_of, going}
 use Rattle.exec_core.proofs.Finishing.{mem_at, one-more, skip-member, none_at, none_of, stays-ended, going-progress, true_or_false, drop_all, some_state}
@@ -12,7 +13,7 @@ turn-requires-clause-member g c = mem_at c.args.group.now c.members.i-index c.on
 pub one-preserved : goal.one-preserved
 one-preserved g c =
     let plan = g.S.Prog.Program.plan in
-    let plans = g.S.Segments.plan_of c.args.svc.now in
+    let plans = plan_at (g.S.Service.beginning c.args.svc.now) c.args.segs.now in
     let xs = c.args.group.now in
     let k = c.members.i-index in
     let s = g.C.Cells.store c.one.cells in
@@ -45,7 +46,7 @@ one-preserved g c =
 pub members-preserved : goal.members-preserved
 members-preserved g c =
     let plan = g.S.Prog.Program.plan in
-    let plans = g.S.Segments.plan_of c.args.svc.now in
+    let plans = plan_at (g.S.Service.beginning c.args.svc.now) c.args.segs.now in
     let xs = c.args.group.now in
     let k = c.members.i-index in
     let s = g.C.Cells.store c.one.cells in
@@ -76,7 +77,7 @@ members-preserved g c =
 pub returns-clause-finished : goal.returns-clause-finished
 returns-clause-finished g c t e =
     let plan = g.S.Prog.Program.plan in
-    let plans = g.S.Segments.plan_of c.args.svc.now in
+    let plans = plan_at (g.S.Service.beginning c.args.svc.now) c.args.segs.now in
     let xs = c.args.group.now in
     let m = c.members in
     let s = g.C.Cells.store c.members.cells in

@@ -1,4 +1,5 @@
 use Rattle.std.proofs.Common.{◌≡◌, ◌≤◌, ℕ, ◌+◌, ◌<◌, ◌++◌, length, get_or, drop, cond, true, false}
+use Rattle.exec_model.specs.Jobs.{plan_at}
 use Rattle.exec_model.specs.Machine.{State, mem, is_running, any_running, concat, finish}
 use Rattle.exec_core.specs.States.{progress_of, whole_of, going, left_of}
 use Rattle.exec_core.proofs.machine.finish_group.Given as goal
@@ -6,8 +7,8 @@ use Rattle.exec_core.proofs.machine.finish_group.Given as goal
 abbrev pub invariant-members : goal.invariant-members
 invariant-members g l = record {
   same : (t : State) → t.group ≡ l.group →
-      finish (g.S.Segments.plan_of l.svc) (drop l.i-index l.group ++ concat t.later) (going g.S.Prog.Program.plan l.m (g.C.Cells.store l.cells) (g.C.Logged.base l.cells) l.over t)
-      ≡ finish (g.S.Segments.plan_of l.svc) (l.group ++ concat t.later) (whole_of g.S.Prog.Program.plan l.fn.m (g.C.Cells.store l.fn.cells) (g.C.Logged.base l.fn.cells) t);
+      finish (plan_at (g.S.Service.beginning l.svc) l.segs) (drop l.i-index l.group ++ concat t.later) (going g.S.Prog.Program.plan l.m (g.C.Cells.store l.cells) (g.C.Logged.base l.cells) l.over t)
+      ≡ finish (plan_at (g.S.Service.beginning l.svc) l.segs) (l.group ++ concat t.later) (whole_of g.S.Prog.Program.plan l.fn.m (g.C.Cells.store l.fn.cells) (g.C.Logged.base l.fn.cells) t);
   runs : l.over ≡ false → any_running (progress_of g.S.Prog.Program.plan l.m.slots.items) l.group ≡ true;
   before : l.over ≡ false → (k : ℕ) → k < l.i-index → is_running (progress_of g.S.Prog.Program.plan l.m.slots.items (get_or l.group k 0)) ≡ false;
   ended : l.over ≡ true → any_running (progress_of g.S.Prog.Program.plan l.m.slots.items) l.group ≡ false;
@@ -24,8 +25,8 @@ invariant-one g l = record {
   is : l.i ≡ get_or l.group l.i-index 0;
   at : l.i-index < length l.group;
   same : (t : State) → t.group ≡ l.group →
-      finish (g.S.Segments.plan_of l.svc) (drop l.i-index l.group ++ concat t.later) (going g.S.Prog.Program.plan l.m (g.C.Cells.store l.cells) (g.C.Logged.base l.cells) l.over t)
-      ≡ finish (g.S.Segments.plan_of l.svc) (l.group ++ concat t.later) (whole_of g.S.Prog.Program.plan l.fn.m (g.C.Cells.store l.fn.cells) (g.C.Logged.base l.fn.cells) t);
+      finish (plan_at (g.S.Service.beginning l.svc) l.segs) (drop l.i-index l.group ++ concat t.later) (going g.S.Prog.Program.plan l.m (g.C.Cells.store l.cells) (g.C.Logged.base l.cells) l.over t)
+      ≡ finish (plan_at (g.S.Service.beginning l.svc) l.segs) (l.group ++ concat t.later) (whole_of g.S.Prog.Program.plan l.fn.m (g.C.Cells.store l.fn.cells) (g.C.Logged.base l.fn.cells) t);
   runs : l.over ≡ false → any_running (progress_of g.S.Prog.Program.plan l.m.slots.items) l.group ≡ true;
   before : l.over ≡ false → (k : ℕ) → k < l.i-index → is_running (progress_of g.S.Prog.Program.plan l.m.slots.items (get_or l.group k 0)) ≡ false;
   ended : l.over ≡ true → any_running (progress_of g.S.Prog.Program.plan l.m.slots.items) l.group ≡ false;

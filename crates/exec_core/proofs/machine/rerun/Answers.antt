@@ -1,6 +1,7 @@
 use Rattle.std.proofs.Common.{rules, ◌+◌, ◌<◌, ◌∙◌, ap, length, get_or, set, drop, arith}
 use Rattle.std.proofs.lemmas.Grind.{common_steps}
 use Rattle.exec_model.specs.Serial.{serial_end}
+use Rattle.exec_model.specs.Jobs.{plan_at}
 use Rattle.exec_model.specs.Machine.{or_ended}
 use Rattle.exec_core.specs.declared.machine.Slot.TheVariants as Slot
 use Rattle.exec_core.specs.States.{progress_of}
@@ -9,7 +10,7 @@ use Rattle.exec_core.proofs.machine.rerun.Goals as goal
 
 pub loop-i-preserved : goal.loop-i-preserved
 loop-i-preserved g c =
-    let plans = g.S.Segments.plan_of c.args.svc.now in
+    let plans = plan_at (g.S.Service.beginning c.args.svc.now) c.args.segs.now in
     let plan = g.S.Prog.Program.plan in
     let xs = c.args.group.now in
     let k = c.loop-i.i-index in

@@ -1,5 +1,6 @@
 use Rattle.std.proofs.Common.{◌≡◌, ◌+◌, ◌∙◌, ap, sym, subst, inl, not, [], ◌∷◌, ◌++◌}
 use Rattle.exec_model.specs.Serial.{serial, serial_end}
+use Rattle.exec_model.specs.Jobs.{plan_at}
 use Rattle.exec_model.specs.Machine.{mem, any_running, or_ended}
 use Rattle.exec_core.specs.States.{progress_of, owner_of, state_of, whole_of, went_on, Goes}
 use Rattle.exec_core.proofs.Turns.{turn-went, turn-busy, rerun-ended, rerun-outside, apart}
@@ -8,7 +9,7 @@ use Rattle.exec_core.proofs.machine.turn.Goals as goal
 pub returns-in-Moved-clause-turn : goal.returns-in-Moved-clause-turn
 returns-in-Moved-clause-turn g c t e =
     let plan = g.S.Prog.Program.plan in
-    let plans = g.S.Segments.plan_of c.args.svc.now in
+    let plans = plan_at (g.S.Service.beginning c.args.svc.now) c.args.segs.now in
     let old = whole_of plan c.args.m.now (g.C.Cells.store c.args.cells.now) (g.C.Logged.base c.args.cells.now) t in
     let group = c.args.group.now in
     let base : g.C.Logged.base c.step.new.cells ≡ g.C.Logged.base c.args.cells.now = c.in_ok-step.ensures.base in
@@ -24,7 +25,7 @@ returns-in-Moved-clause-turn g c t e =
 pub returns-in_ok-again-in-Busy-clause-turn : goal.returns-in_ok-again-in-Busy-clause-turn
 returns-in_ok-again-in-Busy-clause-turn g c t e =
     let plan = g.S.Prog.Program.plan in
-    let plans = g.S.Segments.plan_of c.args.svc.now in
+    let plans = plan_at (g.S.Service.beginning c.args.svc.now) c.args.segs.now in
     let old = whole_of plan c.args.m.now (g.C.Cells.store c.args.cells.now) (g.C.Logged.base c.args.cells.now) t in
     let group = c.args.group.now in
     let base : g.C.Logged.base c.step.new.cells ≡ g.C.Logged.base c.args.cells.now = c.in_ok-step.ensures.base in
@@ -44,11 +45,11 @@ returns-in_ok-again-in-Busy-clause-turn g c t e =
 pub returns-in_ok-again-in-Busy-clause-ended : goal.returns-in_ok-again-in-Busy-clause-ended
 returns-in_ok-again-in-Busy-clause-ended g c e =
     let plan = g.S.Prog.Program.plan in
-    rerun-ended (g.S.Segments.plan_of c.args.svc.now) (g.C.Logged.base c.step.new.cells) c.args.group.now (progress_of plan c.step.new.m.slots.items) (progress_of plan c.again.new.m.slots.items) c.in_ok-again-in-Busy.ensures.ends
+    rerun-ended (plan_at (g.S.Service.beginning c.args.svc.now) c.args.segs.now) (g.C.Logged.base c.step.new.cells) c.args.group.now (progress_of plan c.step.new.m.slots.items) (progress_of plan c.again.new.m.slots.items) c.in_ok-again-in-Busy.ensures.ends
 
 pub returns-in_ok-again-in-Busy-clause-outside : goal.returns-in_ok-again-in-Busy-clause-outside
 returns-in_ok-again-in-Busy-clause-outside g c j n =
     let plan = g.S.Prog.Program.plan in
     c.in_ok-again-in-Busy.ensures.ends j
-    ∙ rerun-outside (g.S.Segments.plan_of c.args.svc.now) (g.C.Logged.base c.step.new.cells) c.args.group.now (progress_of plan c.step.new.m.slots.items) j n
+    ∙ rerun-outside (plan_at (g.S.Service.beginning c.args.svc.now) c.args.segs.now) (g.C.Logged.base c.step.new.cells) c.args.group.now (progress_of plan c.step.new.m.slots.items) j n
     ∙ c.in_ok-step.ensures.others j (λ e. apart c.args.group.now c.args.i j c.requires.member n e)

@@ -1,4 +1,5 @@
 use Rattle.std.proofs.Common.{◌≡◌, ℕ, ◌+◌, ◌-◌, ◌≤◌, length, drop, true, false}
+use Rattle.exec_model.specs.Jobs.{plan_at}
 use Rattle.exec_model.specs.Machine.{State, turns, mem, any_running}
 use Rattle.exec_core.specs.States.{whole_of, going, progress_of}
 use Rattle.exec_core.proofs.machine.use_schedule.Given as goal
@@ -6,8 +7,8 @@ use Rattle.exec_core.proofs.machine.use_schedule.Given as goal
 abbrev pub invariant-entries : goal.invariant-entries
 invariant-entries g l = record {
   turns : (t : State) → t.group ≡ l.group →
-      turns (g.S.Segments.plan_of l.svc) (going g.S.Prog.Program.plan l.m (g.C.Cells.store l.cells) (g.C.Logged.base l.cells) l.over t) (drop l.used l.schedule)
-      ≡ turns (g.S.Segments.plan_of l.svc) (whole_of g.S.Prog.Program.plan l.fn.m (g.C.Cells.store l.fn.cells) (g.C.Logged.base l.fn.cells) t) l.schedule;
+      turns (plan_at (g.S.Service.beginning l.svc) l.segs) (going g.S.Prog.Program.plan l.m (g.C.Cells.store l.cells) (g.C.Logged.base l.cells) l.over t) (drop l.used l.schedule)
+      ≡ turns (plan_at (g.S.Service.beginning l.svc) l.segs) (whole_of g.S.Prog.Program.plan l.fn.m (g.C.Cells.store l.fn.cells) (g.C.Logged.base l.fn.cells) t) l.schedule;
   used : l.used ≤ length l.schedule;
   slots : length l.m.slots.items ≡ length l.fn.m.slots.items;
   locks : length l.m.owner.items ≡ 256;

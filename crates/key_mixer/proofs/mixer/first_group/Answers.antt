@@ -1,4 +1,4 @@
-use Rattle.std.proofs.Common.{rules, ◌≡◌, ℕ, ◌+◌, ◌<◌, ◌≤◌, ◌∙◌, sym, ap, subst, length, get_or, suc, true, false, [], arith}
+use Rattle.std.proofs.Common.{rules, ◌≡◌, ◌+◌, ◌<◌, ◌∙◌, sym, ap, subst, length, get_or, suc, true, false, [], arith}
 use Rattle.exec_model.specs.Groups.{fits}
 use Rattle.key_mixer.specs.Lists.{lists_of, set_at, FirstFit}
 use Rattle.key_mixer.proofs.Fits.{NoneFits, none_more, first_from, first_none, get-lists, length-lists}

@@ -1,5 +1,4 @@
-use Rattle.std.proofs.Common.{ℕ}
-use Rattle.key_mixer.specs.Lists.{lists_of, set_at, FirstFit}
+use Rattle.key_mixer.specs.Lists.{lists_of, set_at}
 use Rattle.key_mixer.proofs.Fits.{NoneFits}
 use Rattle.key_mixer.proofs.mixer.first_group.Given as goal
 

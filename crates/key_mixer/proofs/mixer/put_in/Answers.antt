@@ -1,5 +1,4 @@
-use Rattle.std.proofs.Common.{rules, ◌≡◌, ℕ, ◌+◌, ◌<◌, ◌≤◌, ◌∙◌, sym, ap, subst, length, get_or, set, [], ◌∷◌, ◌++◌, arith}
-use Rattle.exec_model.specs.Groups.{place}
+use Rattle.std.proofs.Common.{rules, ◌≡◌, ◌<◌, ◌≤◌, ◌∙◌, sym, ap, subst, length, get_or, set, [], ◌∷◌, ◌++◌, arith}
 use Rattle.key_mixer.specs.Lists.{lists_of, set_at, FirstFit}
 use Rattle.key_mixer.proofs.Fits.{place_first, place_last, get-lists, length-lists, lists-set, lists-append}
 use Rattle.key_mixer.proofs.mixer.put_in.Goals as goal
@@ -13,7 +12,7 @@ returns-then-at-len-clause-placed c =
     let lt : at < length groups = search rules in
     let first : FirstFit sets c.args.i (lists_of groups) at = subst (λ xs. FirstFit sets c.args.i (lists_of xs) at) c.deref.ensures.value c.first_group-at.ensures.first in
     let new : c.push.new.self.items ≡ get_or (lists_of groups) at [] ++ c.args.i ∷ [] =
-        c.in_ok-push.ensures.items ∙ ap (λ xs. xs ++ c.args.i ∷ []) (ap (λ v. v.items) c.index_mut.ensures.value ∙ sym (get-lists groups at c.index_mut.result.now lt)) in
+    c.in_ok-push.ensures.items ∙ ap (λ xs. xs ++ c.args.i ∷ []) (ap (λ v. v.items) c.index_mut.ensures.value ∙ sym (get-lists groups at c.index_mut.result.now lt)) in
     lists-set groups at c.push.new.self ∙ ap (set (lists_of groups) at) new ∙ sym (place_first sets c.args.i (lists_of groups) at first (omega arith))
 
 pub returns-clause-placed : goal.returns-clause-placed

@@ -1,4 +1,4 @@
-use Rattle.std.proofs.Common.{◌≡◌, ◌<◌, ◌≤◌, ◌∙◌, ◌++◌, ◌+◌, get_or, sym, ap, subst, length, drop, slice_index_or, [], arith}
+use Rattle.std.proofs.Common.{◌≡◌, ◌∙◌, ◌++◌, ◌+◌, get_or, sym, ap, drop, slice_index_or, [], arith}
 use Rattle.kv_store.specs.Columns.{lists_of, all_pairs}
 use Rattle.kv_store.proofs.Writes.{join_step, get-lists, length-lists}
 use Rattle.kv_store.proofs.copies.join.Goals as goal

@@ -1,6 +1,6 @@
 use Rattle.log_values.specs.declared.format.TheConstants.{TOKEN_ENDS}
 use Rattle.log_values.specs.Outcomes.{ending_at, all_ends_at}
-use Rattle.log_values.proofs.Tests.{le_is}
+use Rattle.log_values.proofs.BoolTests.{le_is}
 use Rattle.log_values.proofs.Tokens.{list_counted}
 use Rattle.log_values.proofs.token.pass_all_ends.Goals as goal
 

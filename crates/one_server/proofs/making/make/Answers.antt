@@ -1,4 +1,4 @@
-use Rattle.std.proofs.Common.{◌≡◌, ◌≤◌, ◌+◌, ap, ◌∙◌, length, length-append, ◌++◌, ◌∷◌, [], arith}
+use Rattle.std.proofs.Common.{◌≤◌, ◌+◌, ap, ◌∙◌, length, length-append, arith}
 use Rattle.aeg_base.specs.Store.{Store, written}
 use Rattle.kv_store.specs.Stores.{size}
 use Rattle.kv_store.proofs.Sizes.{size-written}
@@ -9,8 +9,8 @@ pub loop-write-preserved : goal.loop-write-preserved
 loop-write-preserved c =
     let write = c.write-item.result in
     let grown : size c.put_logged.new.self.map ≤ size c.loop-write.store.map + 1 =
-        let most = size-written c.loop-write.store.map write.key write.value in
-        let same = ap size c.put_logged.ensures.map in omega (arith, most, same) in
+    let most = size-written c.loop-write.store.map write.key write.value in
+    let same = ap size c.put_logged.ensures.map in omega (arith, most, same) in
     let noted = ap length c.put_logged.ensures.entries in
     record {
       made = c.put_logged.ensures.map ∙ ap (λ (s : Store). written s write.key write.value) c.loop-write.invariant.made

@@ -1,4 +1,4 @@
-use Rattle.std.proofs.Common.{◌≡◌, ◌∙◌, sym, ap, subst, length, arith, le_refl}
+use Rattle.std.proofs.Common.{◌∙◌, sym, ap, le_refl}
 use Rattle.kv_store.specs.Stores.{Holding}
 use Rattle.kv_store.proofs.Flat.{store_of}
 use Rattle.kv_store.proofs.Writes.{grown}

@@ -1,9 +1,6 @@
-use Rattle.std.proofs.Common.{◌≡◌, ◌≤◌, ℕ, List, ◌++◌, ◌∷◌, [], max, sym, ap, subst, ◌∙◌, arith}
-use Rattle.aeg_base.specs.declared.names.Key.{Key}
-use Rattle.aeg_base.specs.Store.{Store, value_at, written}
-use Rattle.kv_store.specs.Stores.{size, unwound, StaysWithin}
+use Rattle.std.proofs.Common.{arith}
 use Rattle.kv_store.proofs.Sizes.{size-written}
-use Rattle.kv_store.proofs.Unwinding.{start_kept, stays_after, logged_start, logged_stays, top_above, top_covers}
+use Rattle.kv_store.proofs.Unwinding.{logged_start, logged_stays, top_above, top_covers}
 use Rattle.kv_store.proofs.store.Store.put_logged.Goals as goal
 
 pub write-requires-clause-room : goal.write-requires-clause-room

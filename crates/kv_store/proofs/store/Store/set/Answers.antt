@@ -3,7 +3,7 @@ use Rattle.std.specs.Prelude.{vec_capacity, slice_set}
 use Rattle.aeg_base.specs.Store.{written}
 use Rattle.kv_store.specs.Columns.{IsRising, IsColumn, AreColumns, map_of, found}
 use Rattle.kv_store.specs.Stores.{Holding, size}
-use Rattle.kv_store.proofs.Writes.{column_at, column_fits, store_size, map_after, still_columns, positive_after, room_for, added_within}
+use Rattle.kv_store.proofs.Writes.{column_at, column_fits, map_after, still_columns, positive_after, room_for, added_within}
 use Rattle.kv_store.proofs.store.Store.set.Goals as goal
 
 pub set-added-requires-clause-rising : goal.set-added-requires-clause-rising

@@ -1,4 +1,4 @@
-use Rattle.std.proofs.Common.{◌≡◌, ◌≤◌, ℕ, List, length, take, drop, [], ◌∷◌, sym, ap, subst, ◌∙◌, le_trans}
+use Rattle.std.proofs.Common.{◌≡◌, ℕ, List, length, take, drop, [], ◌∷◌, sym, ap, subst, ◌∙◌, le_trans}
 use Rattle.aeg_base.specs.declared.names.Key.{Key}
 use Rattle.aeg_base.specs.Store.{Store, written}
 use Rattle.kv_store.specs.Stores.{unwound, StaysWithin}

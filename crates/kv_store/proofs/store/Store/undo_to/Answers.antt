@@ -1,4 +1,4 @@
-use Rattle.std.proofs.Common.{◌≡◌, ◌≤◌, ◌<◌, ◌+◌, ◌∙◌, sym, ap, subst, length, take, drop, rules, arith}
+use Rattle.std.proofs.Common.{◌≡◌, ◌∙◌, ap, length, take, drop, arith}
 use Rattle.kv_store.specs.Stores.{unwound}
 use Rattle.kv_store.proofs.Unwinding.{undone_more, front_more}
 use Rattle.kv_store.proofs.store.Store.undo_to.Goals as goal

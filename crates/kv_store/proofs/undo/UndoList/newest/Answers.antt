@@ -1,5 +1,5 @@
-use Rattle.std.proofs.Common.{◌≡◌, sym, ap, subst, ◌∙◌, [], ◌∷◌, ◌++◌}
-use Rattle.kv_store.specs.Stores.{Logged, AreKeys}
+use Rattle.std.proofs.Common.{subst}
+use Rattle.kv_store.specs.Stores.{AreKeys}
 use Rattle.kv_store.proofs.Unwinding.{keys_before, key_last}
 use Rattle.kv_store.proofs.undo.UndoList.newest.Goals as goal
 

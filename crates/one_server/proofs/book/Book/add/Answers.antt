@@ -1,4 +1,4 @@
-use Rattle.std.proofs.Common.{◌≡◌, ℕ, sym, ◌∙◌, ap, ◌∷◌, ◌++◌, [], length, None, List, rules}
+use Rattle.std.proofs.Common.{◌≡◌, ℕ, ◌∙◌, ap, ◌∷◌, ◌++◌, [], length, None, List, rules}
 use Rattle.aeg_base.specs.declared.names.Tier.{Tier}
 use Rattle.server_model.specs.Server.{found_in}
 use Rattle.one_server.proofs.Placed.{indexed_more}

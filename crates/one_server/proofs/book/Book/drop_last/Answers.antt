@@ -1,4 +1,4 @@
-use Rattle.std.proofs.Common.{◌≡◌, ℕ, List, ◌++◌, ◌∷◌, [], sym, ap, ◌∙◌, rules}
+use Rattle.std.proofs.Common.{◌≡◌, ℕ, List, sym, ap, ◌∙◌, rules}
 use Rattle.aeg_base.specs.declared.names.Tier.{Tier}
 use Rattle.one_server.specs.Places.{place_from}
 use Rattle.one_server.proofs.Placed.{indexed_less, without_last}

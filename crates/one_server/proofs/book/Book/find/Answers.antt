@@ -1,4 +1,4 @@
-use Rattle.std.proofs.Common.{◌≡◌, ℕ, sym, ◌∙◌, ap, Some, None, Option, List, arith}
+use Rattle.std.proofs.Common.{ℕ, sym, ◌∙◌, ap, Some, List, arith}
 use Rattle.aeg_base.specs.declared.names.Tier.{Tier}
 use Rattle.server_model.specs.Server.{found_in}
 use Rattle.one_server.proofs.Placed.{absent, within, placed_at}

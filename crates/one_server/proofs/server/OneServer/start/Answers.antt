@@ -1,4 +1,4 @@
-use Rattle.std.proofs.Common.{◌≡◌, ◌+◌, None, Some, rules, subst, Option}
+use Rattle.std.proofs.Common.{◌≡◌, ◌+◌, None, Some, rules}
 use Rattle.server_model.specs.Booking.{booking_table}
 use Rattle.server_model.specs.Server.{last_of, progress_of}
 use Rattle.server_model.specs.Single.{booking_meaning}

@@ -1,0 +1,89 @@
+#!/usr/bin/env python3
+"""histories.py NAME LINES: prints a history for `single` that is legal; the same for the same words.
+
+  looks LINES      16 clients open trips and look at bookings that aren't there
+  bookings LINES   16 clients open a trip each, then book and cancel, with their nested calls, taking turns
+"""
+
+import sys
+
+CLIENTS = 16
+
+
+def looks(lines):
+    """Every fourth request opens a trip, as long as there are trips; the others look."""
+    seqs = [0] * (CLIENTS + 1)
+    trip = 0
+    for k in range(lines):
+        client = k % CLIENTS + 1
+        seqs[client] += 1
+        who = "%d.%d" % (client, seqs[client])
+        if k % 4 == 0 and trip < 9_999:
+            trip += 1
+            yield "start %s 0 open %d 40 100 0" % (who, trip)
+        else:
+            yield "start %s 0 look %d" % (who, 1 + 7 * k % 1_000_000)
+
+
+class Numbers:
+    """The numbers of nested calls, by tier."""
+
+    def __init__(self):
+        self.last = {"inv": 0, "pay": 0}
+
+    def next(self, tier):
+        self.last[tier] += 1
+        return self.last[tier]
+
+
+def client_lines(client, numbers):
+    """A client opens its own trip, and then books it and cancels the booking over and over. At most two of its bookings
+    stand at a time, so no request is refused."""
+    trip = 100 * client
+    yield "start %d.1 0 open %d 40 100 0" % (client, trip)
+    seq = 1
+    kept = []
+    while True:
+        seq += 1
+        who = "%d.%d" % (client, seq)
+        if len(kept) < 2:
+            call = numbers.next("inv")
+            yield "start %s %d book %d 1" % (who, call, trip)
+            yield "serve inv %d" % call
+            call = numbers.next("pay")
+            yield "resume %s %d" % (who, call)
+            yield "serve pay %d" % call
+            kept.append(16 * (seq - 1) + client)
+        else:
+            booking = kept.pop(0)
+            call = numbers.next("pay")
+            yield "start %s %d cancel %d" % (who, call, booking)
+            yield "serve pay %d" % call
+            call = numbers.next("inv")
+            yield "resume %s %d" % (who, call)
+            yield "serve inv %d" % call
+        yield "resume %s 0" % who
+        seq += 1
+        yield "start %d.%d 0 look %d" % (client, seq, kept[-1])
+
+
+def bookings(lines):
+    """The clients take turns by a line each, so that all of them are in the middle of a request."""
+    numbers = Numbers()
+    clients = [client_lines(client, numbers) for client in range(1, CLIENTS + 1)]
+    for k in range(lines):
+        yield next(clients[k % CLIENTS])
+
+
+HISTORIES = {"looks": looks, "bookings": bookings}
+
+
+def main():
+    if len(sys.argv) != 3 or sys.argv[1] not in HISTORIES:
+        sys.exit(__doc__)
+    for line in HISTORIES[sys.argv[1]](int(sys.argv[2])):
+        print(line)
+
+
+if __name__ == "__main__":
+    main()

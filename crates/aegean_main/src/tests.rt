@@ -1,0 +1,159 @@
+// Worked runs, over a source and sinks in memory.
+use crate::{LimitKind, Status, aegean};
+use aeg_base::limits::INPUT_BYTES;
+use aeg_io::{MemSink, MemSource};
+use std::alloc::{AllocError, Global};
+use std::test::Fail;
+
+/// Runs `single` on an input whose read of this number fails.
+fn single(
+    alloc: Global,
+    input: Vec<u8>,
+    failing: u32,
+    out: &mut MemSink,
+    err: &mut MemSink,
+) -> Result<Status, AllocError> {
+    let words = vec![in alloc; String::from_str(alloc, "single")?]?;
+    let fails = vec![in alloc; failing]?;
+    let mut source = MemSource::new(input, fails, 4096);
+    Ok(aegean(alloc, &words, &mut source, out, err))
+}
+
+#[test]
+fn worked_runs(rt: HostRuntime) -> Result<(), Fail> {
+    let alloc = rt.alloc();
+    let table = [
+        // The unreplicated server opens a trip and refuses a look at a booking that isn't there.
+        (
+            "start 1.1 0 open 1 5 10 0\nstart 1.2 0 look 5\n",
+            0,
+            "reply 1.1 opened 1\nreply 1.2 refused 9 NoBooking\nsteps 2\n",
+            "",
+        ),
+        // A client's first request must have number 1.
+        ("start 1.2 0 look 5\n", 6, "", "illegal: line 1 row 1\n"),
+        // A segment that replies can't be given a call number.
+        (
+            "start 1.1 5 open 1 5 10 0\n",
+            6,
+            "",
+            "illegal: line 1 row 7\n",
+        ),
+        // Without lines there are no steps.
+        ("", 0, "steps 0\n", ""),
+        // A start line has a whole request.
+        ("start 1.1 0 open 1 5 10\n", 2, "", "script: line 1 row 5\n"),
+        // A served call's number is at least 1, and the whole input is read before the first step.
+        (
+            "start 1.1 0 open 1 5 10 0\nserve inv 0\n",
+            2,
+            "",
+            "script: line 2 row 3\n",
+        ),
+        // The unreplicated server opens a trip and books it with two nested calls.
+        (
+            "start 1.1 0 open 1 5 10 0\nstart 1.2 1 book 1 2\nserve inv 1\nresume 1.2 1\nserve pay 1\nresume 1.2 0\n",
+            0,
+            "reply 1.1 opened 1\ncall inv 1 reserve 1 2\nanswer inv 1 0\ncall pay 1 charge 1 20\nanswer pay 1 0\nreply 1.2 booked 17\nsteps 6\n",
+            "",
+        ),
+        // A request can't go on before its nested call was served.
+        (
+            "start 1.1 0 open 1 5 10 0\nstart 1.2 1 book 1 2\nresume 1.2 1\nserve pay 1\nresume 1.2 0\n",
+            6,
+            "reply 1.1 opened 1\ncall inv 1 reserve 1 2\n",
+            "illegal: line 3 row 6\n",
+        ),
+        // A payment above the client's amount is denied, and the seats are released.
+        (
+            "start 1.1 0 open 1 5 10000 0\nstart 1.2 1 book 1 2\nserve inv 1\nresume 1.2 1\nserve pay 1\nresume 1.2 2\n",
+            0,
+            "reply 1.1 opened 1\ncall inv 1 reserve 1 2\nanswer inv 1 0\ncall pay 1 charge 1 20000\nanswer pay 1 2\ncall inv 2 release 1 2\nsteps 6\n",
+            "",
+        ),
+        // A call that nobody made can't be served.
+        ("serve inv 1\n", 6, "", "illegal: line 1 row 4\n"),
+        // A client has one request in progress.
+        (
+            "start 1.1 0 open 1 5 10 0\nstart 1.2 1 book 1 2\nstart 1.3 0 look 1\n",
+            6,
+            "reply 1.1 opened 1\ncall inv 1 reserve 1 2\n",
+            "illegal: line 3 row 2\n",
+        ),
+        // A request that was replied to can't go on.
+        (
+            "start 1.1 0 open 1 5 10 0\nresume 1.1 0\n",
+            6,
+            "reply 1.1 opened 1\n",
+            "illegal: line 2 row 5\n",
+        ),
+        // A segment that calls needs a number.
+        (
+            "start 1.1 0 open 1 5 10 0\nstart 1.2 0 book 1 2\n",
+            6,
+            "reply 1.1 opened 1\n",
+            "illegal: line 2 row 7\n",
+        ),
+        // A tier's numbers are given once.
+        (
+            "start 1.1 0 open 1 5 10 0\nstart 1.2 1 book 1 2\nstart 2.1 1 book 1 1\n",
+            6,
+            "reply 1.1 opened 1\ncall inv 1 reserve 1 2\n",
+            "illegal: line 3 row 8\n",
+        ),
+        // A call is served once.
+        (
+            "start 1.1 0 open 1 5 10 0\nstart 1.2 1 book 1 2\nserve inv 1\nserve inv 1\n",
+            6,
+            "reply 1.1 opened 1\ncall inv 1 reserve 1 2\nanswer inv 1 0\n",
+            "illegal: line 4 row 4\n",
+        ),
+    ];
+    for (input, code, text, note) in table {
+        let mut out = MemSink::new(alloc, Vec::new(alloc), 10);
+        let mut err = MemSink::new(alloc, Vec::new(alloc), 10);
+        let bytes = Vec::from_slice(alloc, input.as_bytes())?;
+        let status = single(alloc, bytes, 99, &mut out, &mut err)?;
+        assert_eq!(rt; status.code(), code, "{input}");
+        assert_eq!(rt; out.taken(), text.as_bytes(), "{input}");
+        assert_eq!(rt; err.taken(), note.as_bytes(), "{input}");
+    }
+    Ok(())
+}
+
+#[test]
+fn faults_limits_and_usage(rt: HostRuntime) -> Result<(), Fail> {
+    let alloc = rt.alloc();
+    let input = b"start 1.1 0 open 1 5 10 0\nstart 1.2 0 look 5\n";
+    let mut out = MemSink::new(alloc, Vec::new(alloc), 10);
+    let mut err = MemSink::new(alloc, Vec::new(alloc), 10);
+    let status = single(alloc, Vec::from_slice(alloc, input)?, 1, &mut out, &mut err)?;
+    assert_eq!(rt; status, Status::ReadFault);
+    assert_eq!(rt; out.taken(), b"".as_slice());
+    assert_eq!(rt; err.taken(), b"read fault\n".as_slice());
+
+    let mut full = MemSink::new(alloc, vec![in alloc; 1]?, 10);
+    let status = single(
+        alloc,
+        Vec::from_slice(alloc, input)?,
+        99,
+        &mut full,
+        &mut err,
+    )?;
+    assert_eq!(rt; status, Status::WriteFault);
+    assert_eq!(rt; full.taken(), b"reply 1.1 ".as_slice());
+
+    let long = vec![in alloc; b'#'; INPUT_BYTES + 1]?;
+    let status = single(alloc, long, 9_999, &mut out, &mut err)?;
+    assert_eq!(rt; status, Status::Limit(LimitKind::Bytes));
+
+    let lines = vec![in alloc; b'\n'; 200_001]?;
+    let status = single(alloc, lines, 9_999, &mut out, &mut err)?;
+    assert_eq!(rt; status, Status::Limit(LimitKind::Lines));
+    assert_eq!(rt; out.taken(), b"".as_slice());
+
+    let mut source = MemSource::new(Vec::new(alloc), Vec::new(alloc), 1);
+    let status = aegean(alloc, &[], &mut source, &mut out, &mut err);
+    assert_eq!(rt; status, Status::Usage);
+    Ok(())
+}

@@ -1,0 +1,118 @@
+// The top call.
+ghost use Rattle.std.specs.Prelude.{◌≡◌, ◌≤◌, ◌↔◌, ◌⊎◌, map, string_bytes, length, IfSome, IsTrue};
+ghost use Rattle.aeg_base.specs.declared.limits.TheConstants.{INPUT_BYTES};
+ghost use Rattle.aeg_io.specs.Causes.{Rose};
+ghost use Rattle.aegean_main.specs.Answer.{answer_of};
+ghost use Rattle.aegean_main.specs.Report.{Tells};
+ghost use Rattle.aegean_main.specs.Status.{line_for};
+ghost use Rattle.aegean_main.specs.Top.{IsSingle, Follows, LeavesOut, TellsHistory};
+
+use crate::count::count_steps;
+use crate::lines::has_lines_within;
+use crate::report::report;
+use crate::run::{RunErr, run_lines};
+use crate::status::{LimitKind, Status};
+use aeg_base::limits::{INPUT_BYTES, INPUT_LINES};
+use aeg_io::{ReadErr, Sink, Source, read_all};
+use std::alloc::Global;
+
+/// Answers an input and writes what it tells.
+fn answer<K: Sink>(alloc: Global, input: &[u8], out: &mut K) -> Status
+    requires { length input.now ≤ INPUT_BYTES }
+    ensures follows { Follows (answer_of input.now) (K.taken out.old) (K.taken out.new) result }
+    ensures nothing { LeavesOut result (K.taken out.old) (K.taken out.new) }
+    ensures write { result ≡ Status.WriteFault → Rose (K.faults out.old) (K.faults out.new) }
+    ensures read { ¬ (result ≡ Status.ReadFault) }
+    ensures command { ¬ (result ≡ Status.Usage) }
+{
+    if !has_lines_within(input, INPUT_LINES) {
+        return Status::Limit(LimitKind::Lines);
+    }
+    let count = match count_steps(input) {
+        Ok(count) => count,
+        Err(bad) => {
+            return Status::Script {
+                line: bad.line,
+                row: bad.row,
+            };
+        }
+    };
+    match run_lines(alloc, input, count, out) {
+        Ok(()) => Status::Done,
+        Err(RunErr::Illegal { line, row }) => Status::Illegal { line, row },
+        Err(RunErr::Write) => Status::WriteFault,
+        Err(RunErr::Memory) => Status::Memory,
+    }
+}
+
+/// Reads the input, answers it and writes what it tells.
+fn single_status<S: Source, K: Sink>(alloc: Global, source: &mut S, out: &mut K) -> Status
+    ensures follows { IfSome (S.left source.old) (λ input. Follows (answer_of input) (K.taken out.old) (K.taken out.new) result) }
+    ensures nothing { LeavesOut result (K.taken out.old) (K.taken out.new) }
+    ensures read { result ≡ Status.ReadFault → Rose (S.faults source.old) (S.faults source.new) }
+    ensures write { result ≡ Status.WriteFault → Rose (K.faults out.old) (K.faults out.new) }
+    ensures command { ¬ (result ≡ Status.Usage) }
+{
+    match read_all(alloc, source, INPUT_BYTES) {
+        Ok(input) => answer(alloc, input.items(), out),
+        Err(ReadErr::Fault) => Status::ReadFault,
+        Err(ReadErr::TooLong) => Status::Limit(LimitKind::Bytes),
+        Err(ReadErr::Memory) => Status::Memory,
+    }
+}
+
+/// The command `single`: the steps of the input's lines are made on one server, and what each tells is written.
+pub fn single_call<S: Source, K: Sink, E: Sink>(
+    alloc: Global,
+    source: &mut S,
+    out: &mut K,
+    err: &mut E,
+) -> Status
+    ensures follows { IfSome (S.left source.old) (λ input. Follows (answer_of input) (K.taken out.old) (K.taken out.new) result) }
+    ensures nothing { LeavesOut result (K.taken out.old) (K.taken out.new) }
+    ensures read { result ≡ Status.ReadFault → Rose (S.faults source.old) (S.faults source.new) }
+    ensures write { result ≡ Status.WriteFault → Rose (K.faults out.old) (K.faults out.new) }
+    ensures command { ¬ (result ≡ Status.Usage) }
+    ensures tells { Tells (line_for result) (E.taken err.old) (E.taken err.new) (E.faults err.old) (E.faults err.new) }
+{
+    let status = single_status(alloc, source, out);
+    report(err, status);
+    status
+}
+
+/// Whether the command line is the word `single` alone.
+fn is_single(words: &[String]) -> bool
+    ensures { IsTrue result ↔ IsSingle (map string_bytes words.now) }
+{
+    match words {
+        [word] => word.as_str() == "single",
+        _ => false,
+    }
+}
+
+/// All that the program does, for the words of its command line.
+pub fn aegean<S: Source, K: Sink, E: Sink>(
+    alloc: Global,
+    words: &[String],
+    source: &mut S,
+    out: &mut K,
+    err: &mut E,
+) -> Status
+    ensures usage { (result ≡ Status.Usage) ↔ ¬ IsSingle (map string_bytes words.now) }
+    ensures follows { IsSingle (map string_bytes words.now) → IfSome (S.left source.old) (λ input. Follows (answer_of input) (K.taken out.old) (K.taken out.new) result) }
+    ensures nothing { LeavesOut result (K.taken out.old) (K.taken out.new) }
+    ensures read { result ≡ Status.ReadFault → Rose (S.faults source.old) (S.faults source.new) }
+    ensures write { result ≡ Status.WriteFault → Rose (K.faults out.old) (K.faults out.new) }
+    ensures tells { Tells (line_for result) (E.taken err.old) (E.taken err.new) (E.faults err.old) (E.faults err.new) }
+    // At the end of all input the history is legal, and what it tells was written.
+    ensures history { result ≡ Status.Done → IfSome (S.left source.old) (λ input. TellsHistory input (K.taken out.old) (K.taken out.new)) }
+    // Without a fault and with memory the status is the one that the input has.
+    ensures complete { IsSingle (map string_bytes words.now) → ¬ Rose (S.faults source.old) (S.faults source.new) → ¬ Rose (K.faults out.old) (K.faults out.new)
+        → IfSome (S.left source.old) (λ input. (result ≡ (answer_of input).status) ⊎ (result ≡ Status.Memory)) }
+{
+    if is_single(words) {
+        return single_call(alloc, source, out, err);
+    }
+    report(err, Status::Usage);
+    Status::Usage
+}
