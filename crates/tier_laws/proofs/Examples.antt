@@ -1,7 +1,7 @@
--- Two worked runs with the booking service: their histories, the replies that clients took, the lengths of the chosen
--- logs, and how many packets were sent.
+-- The first round of the worked run `open_and_look_on_one_replica`, with the booking service and its tokens: the history,
+-- the replies that the client took, the lengths of the chosen logs, and how many packets were sent.
 use Rattle.std.proofs.Common.{◌≡◌, ℕ, zero, suc, true, false, List, [], ◌∷◌, ◌++◌, length, refl, Option, Some, None}
-use Rattle.std.specs.Prelude.{◌+◌, ◌==◌, nat_lt, codes, option_map, if◌then◌else◌}
+use Rattle.std.specs.Prelude.{nat_lt, codes}
 use Rattle.std.specs.Fmt.{digits}
 use Rattle.aeg_base.specs.Numbers.{checked, number_at, with_number}
 use Rattle.aeg_base.specs.Locks.{no_locks}
@@ -9,15 +9,11 @@ use Rattle.aeg_base.specs.declared.names.NodeId.{NodeId}
 use Rattle.aeg_base.specs.declared.names.ReqId.{ReqId}
 use Rattle.aeg_base.specs.declared.names.Tier.{Tier}
 use Rattle.aeg_base.specs.declared.names.Tier.TheVariants.{Mid, Inv, Pay}
-use Rattle.svc_api.specs.Plan.{Plan}
-use Rattle.svc_api.specs.Plan.Plan.{Ends}
-use Rattle.svc_api.specs.declared.action.Ending.{Ending}
-use Rattle.svc_api.specs.declared.action.Ending.TheVariants.{Reply, Call}
 use Rattle.svc_api.specs.declared.outcome.Outcome.{Outcome}
 use Rattle.server_model.specs.Backends.{Amounts}
 use Rattle.server_model.specs.History.{History}
 use Rattle.server_model.specs.Single.{booking_meaning}
-use Rattle.server_model.specs.declared.history.Hist.TheVariants.{Start, Serve, Resume}
+use Rattle.server_model.specs.declared.history.Hist.TheVariants.{Start}
 use Rattle.booking.specs.Beginning.{booking_beginning}
 use Rattle.exec_model.specs.Jobs.{run_job}
 use Rattle.log_values.specs.declared.entry.Entry.{Entry}
@@ -41,28 +37,6 @@ whole (Some (o, b ∷ bs)) = None
 
 abbrev booking_service : Service Amounts
 booking_service = record { meaning = booking_meaning; begins = booking_beginning; spell = outcome; read = λ bytes. whole (outcome_at bytes) }
-
--- A service without a store: a first request is answered at once, and any other calls inventory, then payment.
-abbrev two_calls : ℕ → Option Ending
-two_calls zero = Some (Call Inv 1 (codes "a"))
-two_calls (suc zero) = Some (Call Pay 2 (codes "b"))
-two_calls (suc (suc zero)) = Some (Reply (codes "done"))
-two_calls (suc (suc (suc n))) = None
-
-abbrev toy_ending : ReqId → ℕ → Option Ending
-toy_ending who stage = if nat_lt 1 who.seq then two_calls stage else if stage == 0 then Some (Reply (codes "ok")) else None
-
-abbrev toy_service : Service ℕ
-toy_service = record {
-  meaning = record {
-    table = λ who body stage. option_map (λ e. λ answer s. record { store = s; ending = e; keys = [] }) (toy_ending who stage);
-    opening = λ t. 0;
-    serve = λ t b text. record { state = b + 1; code = 0 };
-  };
-  begins = λ who body stage. option_map (λ e. record { plan = λ answer. Ends e; locks = [] }) (toy_ending who stage);
-  spell = outcome;
-  read = λ bytes. whole (outcome_at bytes);
-}
 
 abbrev conf : {B : Type 0} → Service B → ℕ → Config B
 conf m u = record { u = u; depth = 1; service = m; frame_length = λ from message. 0; record_length = λ facts. 0 }
@@ -99,17 +73,9 @@ abbrev size : ℕ → ℕ
 size zero = 1
 size (suc u) = suc (suc (size u))
 
-abbrev turn : ℕ → List TraceEvent
-turn u = each (λ n. Offer n Fine) (nodes_of Mid (size u) ++ nodes_of Inv (size u) ++ nodes_of Pay (size u)) ++ each (λ n. Work n []) (nodes_of Mid (size u))
-
 -- an event, and all that it leads to
 abbrev after : {B : Type 0} → Service B → ℕ → At B → TraceEvent → At B
 after m u a e = flow m u 300 (on m u a (e ∷ []))
-
--- so many turns of calm; those in which nothing is left to do change nothing
-abbrev calm : {B : Type 0} → Service B → ℕ → ℕ → At B → At B
-calm m u zero a = flow m u 300 a
-calm m u (suc n) a = calm m u n (on m u (flow m u 300 a) (turn u))
 
 abbrev ups : ℕ → List TraceEvent
 ups u = each (λ n. Restart n (Reads 0)) (nodes_of Mid (size u) ++ nodes_of Inv (size u) ++ nodes_of Pay (size u))
@@ -133,7 +99,6 @@ request seq = record { client = 1; seq = seq }
 abbrev node_turn : {B : Type 0} → Service B → At B → At B
 node_turn m a = after m 0 (after m 0 (after m 0 (after m 0 a (Offer (node Mid 0) Fine)) (Work (node Mid 0) [])) (Offer (node Mid 0) Fine)) (Work (node Mid 0) [])
 
--- The first round of the run `open_and_look_on_one_replica`, with the booking service.
 abbrev opened : At Amounts
 opened = node_turn booking_service (flow booking_service 0 300 (on booking_service 0 (record { cursor = 0; world = start }) (ups 0 ++ Lead (node Mid 0) Fine ∷ Submit 1 (codes "open 1 5 10 0") ∷ [])))
 
@@ -147,21 +112,3 @@ opens_on_one_replica : sums opened.world ≡ record {
 }
 unfolding digits checked number_at with_number no_locks run_job outcome_at all_pairs_at all_ends_at pairs_at pair_at ending_at backend_at stage_at text_at list_at
 opens_on_one_replica = refl
-
-abbrev leads : List TraceEvent
-leads = Lead (node Mid 0) Fine ∷ Lead (node Inv 0) Fine ∷ Lead (node Pay 0) Fine ∷ []
-
--- The run `ordinary_use`, with the same calls and replies by a service without a store.
-abbrev used : At ℕ
-used = calm toy_service 1 13 (on toy_service 1 (calm toy_service 1 3 (on toy_service 1 (calm toy_service 1 1 (on toy_service 1 (record { cursor = 0; world = start }) (ups 1 ++ leads))) (Submit 1 (codes "x") ∷ []))) (Submit 1 (codes "y") ∷ []))
-
-ordinary_use : sums used.world ≡ record {
-  hist = (Start (request 1) 0, codes "x") ∷ (Start (request 2) 1, codes "y") ∷ (Serve Inv 1, []) ∷ (Resume (request 2) 1, []) ∷ (Serve Pay 1, []) ∷ (Resume (request 2) 0, []) ∷ [];
-  told = record { client = 1; seq = 1; body = codes "ok" } ∷ record { client = 1; seq = 2; body = codes "done" } ∷ [];
-  mid = 8;
-  inv = 1;
-  pay = 1;
-  packets = 206;
-}
-unfolding digits checked number_at with_number no_locks run_job outcome_at all_pairs_at all_ends_at pairs_at pair_at ending_at backend_at stage_at text_at list_at
-ordinary_use = refl
