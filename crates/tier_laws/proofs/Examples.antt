@@ -94,8 +94,6 @@ sums w = record { hist = w.hist; told = w.told; mid = length w.log; inv = length
 abbrev request : ℕ → ReqId
 request seq = record { client = 1; seq = seq }
 
-
-
 abbrev node_turn : {B : Type 0} → Service B → At B → At B
 node_turn m a = after m 0 (after m 0 (after m 0 (after m 0 a (Offer (node Mid 0) Fine)) (Work (node Mid 0) [])) (Offer (node Mid 0) Fine)) (Work (node Mid 0) [])
 
