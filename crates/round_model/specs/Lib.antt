@@ -1,0 +1,7 @@
+pub mod Lists
+pub mod Service
+pub mod Tables
+pub mod After
+pub mod Verdicts
+pub mod Answers
+pub mod Copies

@@ -1,0 +1,90 @@
+-- What a replicated tier runs: the service's table with the backends', the programs that its executor interleaves, and
+-- the spelling of a job's outcome. What its segments and jobs come to.
+use Rattle.std.specs.Prelude.{ℕ, zero, suc, ◌+◌, Bool, true, ◌&&◌, ◌==◌, nat_lt, List, [], ◌∷◌, length, slice_get, Option, Some, None, if◌then◌else◌}
+use Rattle.aeg_base.specs.Store.{Store, written_all}
+use Rattle.aeg_base.specs.declared.names.ReqId.{ReqId}
+use Rattle.svc_api.specs.Segment.{Segment}
+use Rattle.svc_api.specs.declared.action.Ending.{Ending}
+use Rattle.svc_api.specs.declared.action.Ending.TheVariants.{Reply}
+use Rattle.svc_api.specs.declared.outcome.Outcome.{Outcome}
+use Rattle.server_model.specs.Server.{Meaning}
+use Rattle.exec_model.specs.declared.job.Seg.{Seg}
+use Rattle.exec_model.specs.Jobs.{Beginnings}
+use Rattle.exec_model.specs.Outcomes as changes
+use Rattle.round_model.specs.Lists.{is_some, tabulate}
+
+pub record Service (B : Type 0) : Type 0 where
+  pub meaning : Meaning B
+  pub begins : Beginnings
+  -- the bytes of an outcome, and the outcome that bytes spell
+  pub spell : Outcome → List ℕ
+  pub read : List ℕ → Option Outcome
+
+-- SEGMENTS
+
+-- the text is a request of this client
+abbrev pub is_request : {B : Type 0} → Service B → ReqId → List ℕ → Bool
+is_request m who body = is_some (m.meaning.table who body 0)
+
+-- the request has a segment at the stage
+abbrev pub has_stage : {B : Type 0} → Service B → ReqId → List ℕ → ℕ → Bool
+has_stage m who body stage = is_some (m.meaning.table who body stage)
+
+-- a row of the table; where there is none, nothing happens
+abbrev pub row_of : Option (Option ℕ → Store → Segment) → Option ℕ → Store → Segment
+row_of None answer s = record { store = s; ending = Reply []; keys = [] }
+row_of (Some row) answer s = row answer s
+
+-- a segment, run whole and at once
+abbrev pub run : {B : Type 0} → Service B → Seg → Store → Segment
+run m j s = row_of (m.meaning.table j.who j.body j.stage) j.answer s
+
+abbrev pub segment : {B : Type 0} → Service B → Option Seg → Store → Segment
+segment m None s = record { store = s; ending = Reply []; keys = [] }
+segment m (Some j) s = run m j s
+
+-- JOBS, ONE SEGMENT AFTER ANOTHER
+
+abbrev pub serial : {B : Type 0} → Service B → List Seg → List ℕ → Store → Store
+serial m J [] s = s
+serial m J (i ∷ is) s = serial m J is (segment m (slice_get J i) s).store
+
+-- how segment k ends
+abbrev pub serial_end : {B : Type 0} → Service B → List Seg → List ℕ → Store → ℕ → Ending
+serial_end m J [] s k = Reply []
+serial_end m J (i ∷ is) s k = if i == k then (segment m (slice_get J i) s).ending else serial_end m J is (segment m (slice_get J i) s).store k
+
+-- what a job comes to: the store after it, and the ends of its segments in job order
+pub record Finish : Type 0 where
+  pub store : Store
+  pub ends : List Ending
+
+abbrev pub finish : {B : Type 0} → Service B → List Seg → List ℕ → Store → Finish
+finish m J order s = record { store = serial m J order s; ends = tabulate (length J) (serial_end m J order s) }
+
+-- how often i stands in the list
+abbrev pub times : ℕ → List ℕ → ℕ
+times i [] = 0
+times i (j ∷ js) = (if j == i then 1 else 0) + times i js
+
+abbrev pub all_below : ℕ → List ℕ → Bool
+all_below n [] = true
+all_below n (i ∷ is) = nat_lt i n && all_below n is
+
+abbrev pub each_once : ℕ → List ℕ → Bool
+each_once zero order = true
+each_once (suc n) order = (times n order == 1) && each_once n order
+
+-- each number below n stands in it once, and no others do
+abbrev pub is_order : ℕ → List ℕ → Bool
+is_order n order = all_below n order && each_once n order
+
+-- TOKENS
+
+-- the token of a job that was begun on the store s
+abbrev pub token_of : {B : Type 0} → Service B → Store → Finish → List ℕ
+token_of m s f = m.spell (changes.outcome s f.store f.ends)
+
+-- what a token's outcome makes of the store at the job's start
+abbrev pub finish_by : Store → Outcome → Finish
+finish_by s o = record { store = written_all s o.pairs; ends = o.ends }

@@ -1,0 +1,2 @@
+//! Rounds as definitions: batches, jobs, verdicts, answers and copies, and what a log and answers come to.
+#![tactic(auto)]

@@ -1,0 +1,229 @@
+-- The invariant of the world, and what a change of one node keeps of it.
+use Rattle.std.proofs.Common.{◌≡◌, ℕ, ◌+◌, ◌*◌, ◌<◌, false, List, [], ◌∷◌, ◌++◌, refl, sym, ap, ◌∙◌, subst, Some}
+use Rattle.std.specs.Prelude.{slice_get, ◌==◌}
+use Rattle.aeg_base.specs.declared.names.Ballot.{Ballot}
+use Rattle.aeg_base.specs.declared.names.Tier.{Tier}
+use Rattle.log_model.proofs.Basics.{Every, every-append}
+use Rattle.log_model.proofs.History.{DidVote, grew-refl}
+use Rattle.log_model.proofs.Invariant.{AllGrew, SoupGrew, StateOk, TurnOk, soup-append, state-grew, turn-grew}
+use Rattle.log_model.proofs.Step.{put_each}
+use Rattle.log_model.specs.Log.{Turn}
+use Rattle.log_model.specs.Recover.{newest, newest_onto, onto}
+use Rattle.log_model.specs.World.{Mode, Node, Packet as LogPacket, recorded}
+use Rattle.log_model.specs.World.Mode.{Down, Gone, Up}
+use Rattle.log_model.specs.declared.fact.Fact.{Fact as LogFact}
+use Rattle.log_values.specs.declared.fact.Fact.{Fact}
+use Rattle.log_values.specs.declared.any_value.AnyValue.{AnyValue}
+use Rattle.log_values.specs.declared.entry.Entry.{Entry}
+use Rattle.round_model.specs.Answers.{Code}
+use Rattle.round_model.specs.Verdicts.{Vote}
+use Rattle.run_model.specs.World.{Config, World, with_mid}
+use Rattle.server_model.specs.declared.history.Hist.TheVariants.{Start}
+use Rattle.tier_laws.proofs.BackRows.{BackOther, Tied, back_other-more}
+use Rattle.tier_laws.proofs.Ledger.{Ledger}
+use Rattle.tier_laws.proofs.Logs.{Complete, LogPart, Nearly, log_weaker, nearly}
+use Rattle.tier_laws.proofs.Past.{BackOk, Grows, Known, MidOk, MidOther, SentOk, Past, RunOk, Submitted, back_ok-more, mid_ok-more, other-more, parcels-more, submitted-more}
+use Rattle.tier_laws.proofs.Maps.{server}
+use Rattle.tier_model.specs.Back.{Back}
+use Rattle.tier_model.specs.Mid.{Mid}
+use Rattle.aeg_base.specs.declared.names.ReqId.{ReqId}
+use Rattle.tier_laws.specs.Said.{Laws}
+use Rattle.tier_laws.proofs.Soups.{mid_soup, back_soup, nil, mid_soup-append, back_soup-append}
+use Rattle.tier_model.specs.Moves.{Packet, held_in, log_facts}
+
+abbrev pub past : {B : Type 0} → Config B → World B → (ℕ → List Code) → Past B
+past c w codes = record { codes = codes; log = w.log; server = server c.service w.hist; runs = w.runs; submitted = w.submitted }
+
+pub newest-push : {F : Type 0} (R : List (List F)) (fs E : List F) → newest_onto (recorded R fs) E ≡ onto fs (newest_onto R E)
+newest-push R [] E = refl
+newest-push [] (f ∷ fs) E = refl
+newest-push (r ∷ R) (f ∷ fs) E = newest-push R (f ∷ fs) (onto r E)
+
+-- THE NODES
+
+-- the other records of a middle node's disk that failed
+pub record MidPending {B : Type 0} (c : Config B) (P : Past B) (h : ℕ → List (LogFact AnyValue)) (soup : List (LogPacket AnyValue)) (x : ℕ) (R : List (List Fact)) : Type 0 where
+  pub turn : Turn AnyValue
+  pub codes : List Code
+  pub is_log : log_facts (newest R) ≡ onto turn.facts (h x)
+  pub is_held : held_in (newest R) ≡ P.codes x ++ codes
+  pub ok : TurnOk c.u h soup x turn
+  pub good : (p : ℕ) (b : Ballot) (v : AnyValue) → DidVote (onto turn.facts (h x)) p b v → MidOk c P p v
+  pub right : (i : ℕ) (q : Code) → slice_get codes i ≡ Some q → P.server.served q.tier q.num ≡ Some q.code
+
+pub record MidUp {B : Type 0} (c : Config B) (P : Past B) (h : ℕ → List (LogFact AnyValue)) (soup : List (LogPacket AnyValue)) (x : ℕ) (R : List (List Fact)) (σ : Mid) : Type 0 where
+  pub is_log : log_facts (newest R) ≡ h x
+  pub is_held : held_in (newest R) ≡ P.codes x
+  pub log : StateOk c.u h (h x) soup x σ.log
+  pub other : MidOther c P x σ
+
+pub record MidDown {B : Type 0} (c : Config B) (P : Past B) (h : ℕ → List (LogFact AnyValue)) (soup : List (LogPacket AnyValue)) (x : ℕ) (R : List (List Fact)) (others : List (List (List Fact))) : Type 0 where
+  pub is_log : log_facts (newest R) ≡ h x
+  pub is_held : held_in (newest R) ≡ P.codes x
+  pub pending : (n : ℕ) (Q : List (List Fact)) → slice_get others n ≡ Some Q → MidPending c P h soup x Q
+
+abbrev pub MidMode : {B : Type 0} → Config B → Past B → (ℕ → List (LogFact AnyValue)) → List (LogPacket AnyValue) → ℕ → Node Mid Fact → Mode Mid → Type 0
+MidMode c P h soup x node (Up σ) = MidUp c P h soup x node.records σ
+MidMode c P h soup x node Down = MidDown c P h soup x node.records node.others
+MidMode c P h soup x node Gone = Unit {0}
+
+pub record BackPending {B : Type 0} (c : Config B) (P : Past B) (t : Tier) (h : ℕ → List (LogFact AnyValue)) (soup : List (LogPacket AnyValue)) (x : ℕ) (R : List (List Fact)) : Type 0 where
+  pub turn : Turn AnyValue
+  pub is_log : log_facts (newest R) ≡ onto turn.facts (h x)
+  pub ok : TurnOk c.u h soup x turn
+  pub good : (p : ℕ) (b : Ballot) (v : AnyValue) → DidVote (onto turn.facts (h x)) p b v → BackOk c P t p v
+
+pub record BackUp {B : Type 0} (c : Config B) (P : Past B) (t : Tier) (h : ℕ → List (LogFact AnyValue)) (soup : List (LogPacket AnyValue)) (x : ℕ) (R : List (List Fact)) (σ : Back B) : Type 0 where
+  pub is_log : log_facts (newest R) ≡ h x
+  pub log : StateOk c.u h (h x) soup x σ.log
+  pub other : BackOther c P t σ
+  pub tied : Tied c.service t σ.log.learned σ
+
+pub record BackDown {B : Type 0} (c : Config B) (P : Past B) (t : Tier) (h : ℕ → List (LogFact AnyValue)) (soup : List (LogPacket AnyValue)) (x : ℕ) (R : List (List Fact)) (others : List (List (List Fact))) : Type 0 where
+  pub is_log : log_facts (newest R) ≡ h x
+  pub pending : (n : ℕ) (Q : List (List Fact)) → slice_get others n ≡ Some Q → BackPending c P t h soup x Q
+
+abbrev pub BackMode : {B : Type 0} → Config B → Past B → Tier → (ℕ → List (LogFact AnyValue)) → List (LogPacket AnyValue) → ℕ → Node (Back B) Fact → Mode (Back B) → Type 0
+BackMode c P t h soup x node (Up σ) = BackUp c P t h soup x node.records σ
+BackMode c P t h soup x node Down = BackDown c P t h soup x node.records node.others
+BackMode c P t h soup x node Gone = Unit {0}
+
+-- A NODE THAT AN EVENT LEAVES AS IT IS
+
+mid_pending-more : {B : Type 0} (c : Config B) (P Q : Past B) (h g : ℕ → List (LogFact AnyValue)) (xs ys : List (LogPacket AnyValue)) (x : ℕ) (R : List (List Fact)) → Grows P Q → AllGrew h g → SoupGrew c.u xs ys → g x ≡ h x → Q.codes x ≡ P.codes x
+    → MidPending c P h xs x R → MidPending c Q g ys x R
+mid_pending-more {B} c P Q h g xs ys x R w a s e f k = record {
+  turn = k.turn;
+  codes = k.codes;
+  is_log = k.is_log ∙ ap (onto k.turn.facts) (sym e);
+  is_held = k.is_held ∙ ap (λ z. z ++ k.codes) (sym f);
+  ok = turn-grew c.u h g xs ys x k.turn a s e k.ok;
+  good = λ p b v d. mid_ok-more c P Q p v w (k.good p b v (subst (λ z. DidVote (onto k.turn.facts z) p b v) e d));
+  right = λ i q r. w.kept.served q.tier q.num q.code (k.right i q r);
+}
+
+pub mid_mode-more : {B : Type 0} (c : Config B) (P Q : Past B) (h g : ℕ → List (LogFact AnyValue)) (xs ys : List (LogPacket AnyValue)) (x : ℕ) (node : Node Mid Fact) (m : Mode Mid) → Grows P Q → AllGrew h g → SoupGrew c.u xs ys → g x ≡ h x → Q.codes x ≡ P.codes x
+    → MidMode c P h xs x node m → MidMode c Q g ys x node m
+mid_mode-more c P Q h g xs ys x node (Up σ) w a s e f k = record { is_log = k.is_log ∙ sym e; is_held = k.is_held ∙ sym f; log = rw e (state-grew c.u h g (h x) xs ys x σ.log a s k.log); other = other-more c P Q x σ w f k.other }
+mid_mode-more c P Q h g xs ys x node Down w a s e f k = record { is_log = k.is_log ∙ sym e; is_held = k.is_held ∙ sym f; pending = λ n R q. mid_pending-more c P Q h g xs ys x R w a s e f (k.pending n R q) }
+mid_mode-more c P Q h g xs ys x node Gone w a s e f k = tt
+
+back_pending-more : {B : Type 0} (c : Config B) (P Q : Past B) (t : Tier) (h g : ℕ → List (LogFact AnyValue)) (xs ys : List (LogPacket AnyValue)) (x : ℕ) (R : List (List Fact)) → Grows P Q → AllGrew h g → SoupGrew c.u xs ys → g x ≡ h x
+    → BackPending c P t h xs x R → BackPending c Q t g ys x R
+back_pending-more c P Q t h g xs ys x R w a s e k = record {
+  turn = k.turn;
+  is_log = k.is_log ∙ ap (onto k.turn.facts) (sym e);
+  ok = turn-grew c.u h g xs ys x k.turn a s e k.ok;
+  good = λ p b v d. back_ok-more c P Q t p v w (k.good p b v (subst (λ z. DidVote (onto k.turn.facts z) p b v) e d));
+}
+
+pub back_mode-more : {B : Type 0} (c : Config B) (P Q : Past B) (t : Tier) (h g : ℕ → List (LogFact AnyValue)) (xs ys : List (LogPacket AnyValue)) (x : ℕ) (node : Node (Back B) Fact) (m : Mode (Back B)) → Grows P Q → AllGrew h g → SoupGrew c.u xs ys → g x ≡ h x
+    → BackMode c P t h xs x node m → BackMode c Q t g ys x node m
+back_mode-more c P Q t h g xs ys x node (Up σ) w a s e k = record { is_log = k.is_log ∙ sym e; log = rw e (state-grew c.u h g (h x) xs ys x σ.log a s k.log); other = back_other-more c P Q t σ w k.other; tied = k.tied }
+back_mode-more c P Q t h g xs ys x node Down w a s e k = record { is_log = k.is_log ∙ sym e; pending = λ n R q. back_pending-more c P Q t h g xs ys x R w a s e (k.pending n R q) }
+back_mode-more c P Q t h g xs ys x node Gone w a s e k = tt
+
+-- THE INVARIANT
+
+pub record Core {B : Type 0} (c : Config B) (w : World B) (codes : ℕ → List Code) (h : ℕ → List (LogFact AnyValue)) (k : Tier → ℕ → List (LogFact AnyValue)) : Type 0 where
+  pub laws : Laws c.service
+  pub mid_log : LogPart c.u h (mid_soup w.soup) w.log (MidOk c (past c w codes))
+  pub back_log : (t : Tier) → LogPart c.u (k t) (back_soup t w.soup) (w.logs t) (BackOk c (past c w codes) t)
+  pub ledger : Ledger c.service c.depth w.log w.logs w.hist
+  pub runs : (i : ℕ) (v : Vote) → slice_get w.runs i ≡ Some v → RunOk c (past c w codes) v
+  pub right : (x i : ℕ) (q : Code) → slice_get (codes x) i ≡ Some q → (server c.service w.hist).served q.tier q.num ≡ Some q.code
+  pub packets : Every (SentOk c (past c w codes)) w.soup
+  pub mids : (x : ℕ) → x < 2 * c.u + 1 → MidMode c (past c w codes) h (mid_soup w.soup) x (w.mids x) (w.mids x).mode
+  pub backs : (t : Tier) (x : ℕ) → x < 2 * c.u + 1 → BackMode c (past c w codes) t (k t) (back_soup t w.soup) x (w.backs t x) (w.backs t x).mode
+  pub clients : (y : ℕ) (text : List ℕ) → (w.clients y).opened ≡ Some text → Submitted (past c w codes) (record { client = y; seq = (w.clients y).last; body = text })
+  pub starts : (i n : ℕ) (who : ReqId) (body : List ℕ) → slice_get w.hist i ≡ Some (Start who n, body) → Submitted (past c w codes) (record { client = who.client; seq = who.seq; body = body })
+  pub told : (i : ℕ) (e : Entry) → slice_get w.told i ≡ Some e → (server c.service w.hist).replies e.client e.seq ≡ Some e.body
+
+pub record Done {B : Type 0} (c : Config B) (w : World B) : Type 0 where
+  pub mid : Complete c.u (mid_soup w.soup) w.log
+  pub back : (t : Tier) → Complete c.u (back_soup t w.soup) (w.logs t)
+
+pub record NearlyDone {B : Type 0} (c : Config B) (w : World B) : Type 0 where
+  pub mid : Nearly c.u (mid_soup w.soup) w.log
+  pub back : (t : Tier) → Nearly c.u (back_soup t w.soup) (w.logs t)
+
+pub nearly_done : {B : Type 0} (c : Config B) (w : World B) → Done c w → NearlyDone c w
+nearly_done c w k = record { mid = nearly c.u (mid_soup w.soup) w.log k.mid; back = λ t. nearly c.u (back_soup t w.soup) (w.logs t) (k.back t) }
+
+pub record Inv {B : Type 0} (c : Config B) (w : World B) : Type 0 where
+  pub codes : ℕ → List Code
+  pub h : ℕ → List (LogFact AnyValue)
+  pub k : Tier → ℕ → List (LogFact AnyValue)
+  pub core : Core c w codes h k
+  pub done : Done c w
+
+-- after an event, before the logs grow
+pub record Mid_event {B : Type 0} (c : Config B) (P : Past B) (w : World B) : Type 0 where
+  pub codes : ℕ → List Code
+  pub h : ℕ → List (LogFact AnyValue)
+  pub k : Tier → ℕ → List (LogFact AnyValue)
+  pub core : Core c w codes h k
+  pub near : NearlyDone c w
+  -- each value that is voted for was good before the event
+  pub before : LogPart c.u h (mid_soup w.soup) w.log (MidOk c P)
+
+pub unchanged : {B : Type 0} (c : Config B) (w : World B) → (i : Inv c w) → Mid_event c (past c w i.codes) w
+unchanged c w i = record { codes = i.codes; h = i.h; k = i.k; core = i.core; near = nearly_done c w i.done; before = i.core.mid_log }
+
+pub known : {B : Type 0} (c : Config B) (w : World B) (codes : ℕ → List Code) (h : ℕ → List (LogFact AnyValue)) (k : Tier → ℕ → List (LogFact AnyValue)) → Core c w codes h k → ((p : ℕ) (v : AnyValue) → slice_get w.log p ≡ Some v → MidOk c (past c w codes) p v) → Known c (past c w codes)
+known c w codes h k i v = record { laws = i.laws; values = v; decided = i.ledger.decided; runs = i.runs; codes = i.right }
+
+-- A MIDDLE NODE CHANGES
+
+pub record MidChange {B : Type 0} (c : Config B) (w : World B) (codes : ℕ → List Code) (h : ℕ → List (LogFact AnyValue)) (x : ℕ) (node : Node Mid Fact) (ks : List Packet) (rs : List Vote) : Type 0 where
+  pub new_codes : ℕ → List Code
+  pub new_h : ℕ → List (LogFact AnyValue)
+  pub grew : AllGrew h new_h
+  pub grows : Grows (past c w codes) (past c (with_mid w x node ks rs) new_codes)
+  pub same_h : (y : ℕ) → (y == x) ≡ false → new_h y ≡ h y
+  pub same_codes : (y : ℕ) → (y == x) ≡ false → new_codes y ≡ codes y
+  pub log : LogPart c.u new_h (mid_soup (w.soup ++ ks)) w.log (MidOk c (past c (with_mid w x node ks rs) new_codes))
+  pub no_back : (t : Tier) → back_soup t ks ≡ []
+  pub runs : (i : ℕ) (v : Vote) → slice_get (w.runs ++ rs) i ≡ Some v → RunOk c (past c (with_mid w x node ks rs) new_codes) v
+  pub right : (y i : ℕ) (q : Code) → slice_get (new_codes y) i ≡ Some q → (server c.service w.hist).served q.tier q.num ≡ Some q.code
+  pub sends : Every (SentOk c (past c (with_mid w x node ks rs) new_codes)) ks
+  pub mode : x < 2 * c.u + 1 → MidMode c (past c (with_mid w x node ks rs) new_codes) new_h (mid_soup (w.soup ++ ks)) x node node.mode
+
+pub soup_mid : (u : ℕ) (soup ks : List Packet) → SoupGrew u (mid_soup soup) (mid_soup (soup ++ ks))
+soup_mid u soup ks = subst (SoupGrew u (mid_soup soup)) (sym (mid_soup-append soup ks)) (soup-append u (mid_soup soup) (mid_soup ks))
+
+pub soup_back : (u : ℕ) (t : Tier) (soup ks : List Packet) → SoupGrew u (back_soup t soup) (back_soup t (soup ++ ks))
+soup_back u t soup ks = subst (SoupGrew u (back_soup t soup)) (sym (back_soup-append t soup ks)) (soup-append u (back_soup t soup) (back_soup t ks))
+
+pub same_back : (t : Tier) (soup ks : List Packet) → back_soup t ks ≡ [] → back_soup t (soup ++ ks) ≡ back_soup t soup
+same_back t soup ks e = back_soup-append t soup ks ∙ ap (λ z. back_soup t soup ++ z) e ∙ nil (back_soup t soup)
+
+pub same_mid : (soup ks : List Packet) → mid_soup ks ≡ [] → mid_soup (soup ++ ks) ≡ mid_soup soup
+same_mid soup ks e = mid_soup-append soup ks ∙ ap (λ z. mid_soup soup ++ z) e ∙ nil (mid_soup soup)
+
+all_same : {V : Type 0} (h : ℕ → List (LogFact V)) → AllGrew h h
+all_same h = record { at = λ y. grew-refl (h y) }
+
+pub mid_changed : {B : Type 0} (c : Config B) (w : World B) (codes : ℕ → List Code) (h : ℕ → List (LogFact AnyValue)) (k : Tier → ℕ → List (LogFact AnyValue)) (x : ℕ) (node : Node Mid Fact) (ks : List Packet) (rs : List Vote) → Core c w codes h k
+    → (d : MidChange c w codes h x node ks rs) → Core c (with_mid w x node ks rs) d.new_codes d.new_h k
+mid_changed {B} c w codes h k x node ks rs i d = record {
+  laws = i.laws;
+  mid_log = d.log;
+  back_log = λ t. subst (λ z. LogPart c.u (k t) z (w.logs t) (BackOk c Q t)) (sym (same_back t w.soup ks (d.no_back t))) (log_weaker c.u (k t) (back_soup t w.soup) (w.logs t) (BackOk c P t) (BackOk c Q t) (λ p v g. back_ok-more c P Q t p v d.grows g) (i.back_log t));
+  ledger = i.ledger;
+  runs = d.runs;
+  right = d.right;
+  packets = every-append (SentOk c Q) w.soup ks (parcels-more c P Q w.soup d.grows i.packets) d.sends;
+  mids = put_each (λ y n. y < 2 * c.u + 1 → MidMode c Q d.new_h (mid_soup (w.soup ++ ks)) y n n.mode) w.mids x node d.mode
+      (λ y e l. mid_mode-more c P Q h d.new_h (mid_soup w.soup) (mid_soup (w.soup ++ ks)) y (w.mids y) (w.mids y).mode d.grows d.grew (soup_mid c.u w.soup ks) (d.same_h y e) (d.same_codes y e) (i.mids y l));
+  backs = λ t y l. back_mode-more c P Q t (k t) (k t) (back_soup t w.soup) (back_soup t (w.soup ++ ks)) y (w.backs t y) (w.backs t y).mode d.grows (all_same (k t)) (soup_back c.u t w.soup ks) refl (i.backs t y l);
+  clients = λ y text e. submitted-more P Q _ d.grows (i.clients y text e);
+  starts = λ j n who body e. submitted-more P Q _ d.grows (i.starts j n who body e);
+  told = i.told;
+}
+  where
+    P : Past B
+    P = past c w codes
+
+    Q : Past B
+    Q = past c (with_mid w x node ks rs) d.new_codes

@@ -1,0 +1,378 @@
+-- Each event keeps the invariant.
+use Rattle.std.proofs.Common.{◌≡◌, ℕ, ◌+◌, ◌*◌, ◌<◌, true, false, List, [], ◌∷◌, ◌++◌, length, refl, sym, ap, ◌∙◌, subst, inl, inr, Option, Some, None, zero, suc}
+use Rattle.std.specs.Prelude.{slice_get, ◌⊎◌, ◌==◌, ◌&&◌, not, nat_lt, nat_le}
+use Rattle.std.proofs.lemmas.Bool.{cond_both, and_parts, cases_eq}
+use Rattle.aeg_base.specs.declared.names.Tier.{Tier}
+use Rattle.aeg_base.specs.declared.names.Tier.TheVariants.{Mid as MidTier, Inv, Pay}
+use Rattle.aeg_base.specs.declared.names.End.{End}
+use Rattle.aeg_base.specs.declared.names.End.TheVariants.{Node, Client}
+use Rattle.server_model.specs.Server.{same_tier}
+use Rattle.log_model.proofs.Basics.{Every, every-append, every-get}
+use Rattle.log_model.proofs.Invariant.{History, PacketOk, all_same}
+use Rattle.log_model.proofs.Origin.{msg_from}
+use Rattle.log_model.proofs.Votes.{on_msg_ok}
+use Rattle.log_model.specs.declared.message.PaxMsg.{PaxMsg}
+use Rattle.log_model.specs.Log.{nobody}
+use Rattle.log_model.specs.Rows.{on_msg}
+use Rattle.log_model.specs.World.{Packet as LogPacket, put}
+use Rattle.log_values.specs.declared.any_value.AnyValue.{AnyValue}
+use Rattle.log_values.specs.declared.entry.Entry.{Entry}
+use Rattle.frames.specs.declared.message.Msg.{Msg}
+use Rattle.frames.specs.declared.message.Msg.TheVariants as msgs
+use Rattle.round_model.specs.Lists.{is_some}
+use Rattle.round_model.specs.Service.{is_request}
+use Rattle.tier_model.specs.Moves.{node, tier_of, index_of, is_client, is_node_of, Packet, drops}
+use Rattle.tier_model.specs.Mid.{Mid, in_log}
+use Rattle.tier_model.specs.MidRows.{on_request, on_token, on_answer, on_have, is_backend_node, on_frame, work, work_run}
+use Rattle.tier_model.specs.MidRows as mids
+use Rattle.tier_model.specs.Back.{Back}
+use Rattle.tier_model.specs.Back as back
+use Rattle.tier_model.specs.BackRows.{on_call, on_settle}
+use Rattle.tier_model.specs.BackRows as backs
+use Rattle.run_model.specs.declared.trace.Fared.{Fared}
+use Rattle.run_model.specs.declared.trace.Found.{Found}
+use Rattle.run_model.specs.declared.trace.TraceEvent.{TraceEvent}
+use Rattle.run_model.specs.declared.trace.TraceEvent.TheVariants.{Submit, Deliver, Short, Lead, Offer, Work, Retry, Crash, Restart, Wipe}
+use Rattle.run_model.specs.World.{Config, World, ClientEnd, start, fate, unwritten, can_fare, no_run, request_to, requests, opens, is_client_number, submits, reopens, takes_reply, client_gets, node_gets, arrives, delivered, shortened, leads, offers, works, node_retries, retries, crashes, restarts, wipes, if_can, happens}
+use Rattle.run_model.specs.Runs.{is_in, log_part, log_soup, grows, run, world}
+use Rattle.tier_laws.specs.Said.{Laws}
+use Rattle.tier_laws.proofs.Lists.{put_here, put_there}
+use Rattle.tier_laws.proofs.Apply.{every-each}
+use Rattle.tier_laws.proofs.BackMoves.{back_move, back_retry_ok, back_leads_ok, back_offers_ok, one_msg}
+use Rattle.tier_laws.proofs.BackRows.{BackHere, BackMoveOk, back_knows, back_stays, call_ok, settle_ok}
+use Rattle.tier_laws.proofs.BackSteps.{at_back_ok, back_crash, back_restart, back_wipe}
+use Rattle.tier_laws.proofs.Backs.{ledger_start}
+use Rattle.tier_laws.proofs.Core.{Inv as WorldOk, Mid_event, back_mode-more, mid_mode-more, past, same_back, same_mid, soup_back, soup_mid, unchanged}
+use Rattle.tier_laws.proofs.Grow.{grows_ok}
+use Rattle.tier_laws.proofs.Ledger.{get-end, get-left}
+use Rattle.tier_laws.proofs.Logs.{Complete, LogPart, log_weaker, nearly}
+use Rattle.tier_laws.proofs.MidSteps.{at_mid_ok, mid_crash, mid_restart, mid_wipe, start_tables}
+use Rattle.tier_laws.proofs.Mirrors.{mirrors_start}
+use Rattle.tier_laws.proofs.Moves.{Here, MoveOk, knows, log_move, stays_ok}
+use Rattle.tier_laws.proofs.Offers.{retry_ok, leads_ok, offers_ok}
+use Rattle.tier_laws.proofs.Past.{BackOk, Grows, MidOk, SentBy, SentOk, Past, Submitted, back_ok-more, kept-refl, mid_ok-more, more-refl, parcels-more, run_ok-more, submitted-more}
+use Rattle.tier_laws.proofs.Rows.{answer_ok, have_ok, pushed, request_ok, token_ok, work_ok}
+use Rattle.tier_laws.proofs.Soups.{mid_soup, back_soup, back_nil, NoLog, no_mid, no_back, none_each}
+use Rattle.tier_laws.proofs.Stable.{MoreLog}
+use Rattle.tier_laws.proofs.Maps.{empty_server, server}
+
+-- CLIENT ENDS
+
+abbrev at_clients : {B : Type 0} → World B → (ℕ → ClientEnd) → List Packet → List Entry → List Entry → World B
+at_clients w cl ks sub td = record w { clients = cl; soup = w.soup ++ ks; submitted = sub; told = td }
+
+client_changed : {B : Type 0} (c : Config B) (w : World B) (cl : ℕ → ClientEnd) (ks : List Packet) (sub td : List Entry) (i : WorldOk c w) → NoLog ks → MoreLog w.submitted sub → Every (SentOk c (past c (at_clients w cl ks sub td) i.codes)) ks
+    → ((y : ℕ) (text : List ℕ) → (cl y).opened ≡ Some text → Submitted (past c (at_clients w cl ks sub td) i.codes) (record { client = y; seq = (cl y).last; body = text })) → ((j : ℕ) (e : Entry) → slice_get td j ≡ Some e → (server c.service w.hist).replies e.client e.seq ≡ Some e.body) → Mid_event c (past c w i.codes) (at_clients w cl ks sub td)
+client_changed {B} c w cl ks sub td i none more sends clients told = record {
+  codes = i.codes;
+  h = i.h;
+  k = i.k;
+  core = record {
+    laws = i.core.laws;
+    mid_log = subst (λ z. LogPart c.u i.h z w.log (MidOk c Q)) (sym (same_mid w.soup ks (no_mid ks none))) (log_weaker c.u i.h (mid_soup w.soup) w.log (MidOk c P) (MidOk c Q) (λ p v o. mid_ok-more c P Q p v gr o) i.core.mid_log);
+    back_log = λ t. subst (λ z. LogPart c.u (i.k t) z (w.logs t) (BackOk c Q t)) (sym (same_back t w.soup ks (no_back ks none t))) (log_weaker c.u (i.k t) (back_soup t w.soup) (w.logs t) (BackOk c P t) (BackOk c Q t) (λ p v o. back_ok-more c P Q t p v gr o) (i.core.back_log t));
+    ledger = i.core.ledger;
+    runs = λ j v e. run_ok-more c P Q v gr (i.core.runs j v e);
+    right = i.core.right;
+    packets = every-append (SentOk c Q) w.soup ks (parcels-more c P Q w.soup gr i.core.packets) sends;
+    mids = λ x l. mid_mode-more c P Q i.h i.h (mid_soup w.soup) (mid_soup (w.soup ++ ks)) x (w.mids x) (w.mids x).mode gr (all_same i.h) (soup_mid c.u w.soup ks) refl refl (i.core.mids x l);
+    backs = λ t x l. back_mode-more c P Q t (i.k t) (i.k t) (back_soup t w.soup) (back_soup t (w.soup ++ ks)) x (w.backs t x) (w.backs t x).mode gr (all_same (i.k t)) (soup_back c.u t w.soup ks) refl (i.core.backs t x l);
+    clients = clients;
+    starts = λ j n who body e. submitted-more P Q _ gr (i.core.starts j n who body e);
+    told = told;
+  };
+  before = subst (λ z. LogPart c.u i.h z w.log (MidOk c P)) (sym (same_mid w.soup ks (no_mid ks none))) i.core.mid_log;
+  near = record {
+    mid = nearly c.u (mid_soup (w.soup ++ ks)) w.log (subst (λ z. Complete c.u z w.log) (sym (same_mid w.soup ks (no_mid ks none))) i.done.mid);
+    back = λ t. nearly c.u (back_soup t (w.soup ++ ks)) (w.logs t) (subst (λ z. Complete c.u z (w.logs t)) (sym (same_back t w.soup ks (no_back ks none t))) (i.done.back t));
+  };
+}
+  where
+    P : Past B
+    P = past c w i.codes
+
+    Q : Past B
+    Q = past c (at_clients w cl ks sub td) i.codes
+
+    gr : Grows P Q
+    gr = record { held = λ y t n e. e; log = more-refl w.log; kept = kept-refl (server c.service w.hist); runs = more-refl w.runs; submitted = more }
+
+request_none : (u y s : ℕ) (text : List ℕ) → NoLog (requests u y s text)
+request_none u y s text = none_each (2 * u + 1) nobody (request_to y s text) (λ x. record { all = λ t. refl })
+
+opens_ok : {B : Type 0} (c : Config B) (w : World B) (y : ℕ) (text : List ℕ) → (i : WorldOk c w) → Mid_event c (past c w i.codes) (opens c.u w y text)
+opens_ok {B} c w y text i = client_changed c w cl (requests c.u y (suc (w.clients y).last) text) sub w.told i (request_none c.u y (suc (w.clients y).last) text) more
+    (every-each (SentOk c Q) (2 * c.u + 1) nobody (request_to y (suc (w.clients y).last) text) (λ x. new)) (λ z t e. clients z t (cases_eq z y) e) i.core.told
+  where
+    cl : ℕ → ClientEnd
+    cl = put w.clients y (record { last = suc (w.clients y).last; opened = Some text })
+
+    sub : List Entry
+    sub = w.submitted ++ record { client = y; seq = suc (w.clients y).last; body = text } ∷ []
+
+    more : MoreLog w.submitted sub
+    more = record { at = λ j v e. get-left w.submitted _ j v e }
+
+    Q : Past B
+    Q = past c (at_clients w cl (requests c.u y (suc (w.clients y).last) text) sub w.told) i.codes
+
+    new : Submitted Q (record { client = y; seq = suc (w.clients y).last; body = text })
+    new = (length w.submitted, get-end w.submitted (record { client = y; seq = suc (w.clients y).last; body = text }))
+
+    clients : (z : ℕ) (t : List ℕ) → (z ≡ y) ⊎ (z ≡ y → ⊥) → (cl z).opened ≡ Some t → Submitted Q (record { client = z; seq = (cl z).last; body = t })
+    clients z t (inl f) e =
+        let here : cl y ≡ record { last = suc (w.clients y).last; opened = Some text } = put_here w.clients y _ in
+        let g : Some text ≡ Some t = sym (ap (λ (q : ClientEnd). q.opened) here) ∙ ap (λ q. (cl q).opened) (sym f) ∙ e in
+        let s : text ≡ t = cc in
+        subst (λ q. Submitted Q (record { client = q; seq = (cl q).last; body = t })) (sym f) (subst (λ (q : ClientEnd). Submitted Q (record { client = y; seq = q.last; body = t })) (sym here) (subst (λ q. Submitted Q (record { client = y; seq = suc (w.clients y).last; body = q })) s new))
+    clients z t (inr f) e =
+        let there : cl z ≡ w.clients z = put_there w.clients y _ z f in
+        let r = i.core.clients z t (sym (ap (λ (q : ClientEnd). q.opened) there) ∙ e) in
+        subst (λ (q : ClientEnd). Submitted Q (record { client = z; seq = q.last; body = t })) (sym there) (r.0, more.at r.0 _ r.1)
+
+submits_ok : {B : Type 0} (c : Config B) (w : World B) (y : ℕ) (text : List ℕ) → (i : WorldOk c w) → Mid_event c (past c w i.codes) (submits c w y text)
+submits_ok c w y text i = cond_both (is_client_number y && (is_request c.service (record { client = y; seq = suc (w.clients y).last }) text && (not (is_some (w.clients y).opened) && nat_lt (w.clients y).last 65536))) (opens c.u w y text) w (Mid_event c (past c w i.codes)) (λ e. opens_ok c w y text i) (λ e. unchanged c w i)
+
+reopens_ok : {B : Type 0} (c : Config B) (w : World B) (y : ℕ) (o : Option (List ℕ)) → (w.clients y).opened ≡ o → (i : WorldOk c w) → Mid_event c (past c w i.codes) (reopens c w y o)
+reopens_ok c w y None e i = unchanged c w i
+reopens_ok {B} c w y (Some text) e i = client_changed c w w.clients (requests c.u y (w.clients y).last text) w.submitted w.told i (request_none c.u y (w.clients y).last text) (more-refl w.submitted)
+    (every-each (SentOk c (past c (at_clients w w.clients (requests c.u y (w.clients y).last text) w.submitted w.told) i.codes)) (2 * c.u + 1) nobody (request_to y (w.clients y).last text) (λ x. i.core.clients y text e)) i.core.clients i.core.told
+
+-- a reply closes the request
+takes_ok : {B : Type 0} (c : Config B) (w : World B) (y s : ℕ) (text : List ℕ) → (server c.service w.hist).replies y s ≡ Some text → (i : WorldOk c w) → Mid_event c (past c w i.codes) (takes_reply w y s text)
+takes_ok {B} c w y s text said i = cond_both (is_some (w.clients y).opened && (s == (w.clients y).last)) _ w (Mid_event c (past c w i.codes)) (λ e. closed) (λ e. unchanged c w i)
+  where
+    cl : ℕ → ClientEnd
+    cl = put w.clients y (record { last = (w.clients y).last; opened = None })
+
+    td : List Entry
+    td = w.told ++ record { client = y; seq = s; body = text } ∷ []
+
+    clients : (z : ℕ) (t : List ℕ) → (z ≡ y) ⊎ (z ≡ y → ⊥) → (cl z).opened ≡ Some t → Submitted (past c w i.codes) (record { client = z; seq = (cl z).last; body = t })
+    clients z t (inl f) e = absurd (let g : None ≡ Some t = sym (ap (λ (q : ClientEnd). q.opened) (put_here w.clients y (record { last = (w.clients y).last; opened = None }))) ∙ ap (λ q. (cl q).opened) (sym f) ∙ e in cc)
+    clients z t (inr f) e =
+        let there : cl z ≡ w.clients z = put_there w.clients y _ z f in
+        subst (λ (q : ClientEnd). Submitted (past c w i.codes) (record { client = z; seq = q.last; body = t })) (sym there) (i.core.clients z t (sym (ap (λ (q : ClientEnd). q.opened) there) ∙ e))
+
+    closed : Mid_event c (past c w i.codes) (record w { clients = put w.clients y (record { last = (w.clients y).last; opened = None }); told = w.told ++ record { client = y; seq = s; body = text } ∷ [] })
+    closed = record {
+      codes = i.codes;
+      h = i.h;
+      k = i.k;
+      core = record {
+        laws = i.core.laws;
+        mid_log = i.core.mid_log;
+        back_log = i.core.back_log;
+        ledger = i.core.ledger;
+        runs = i.core.runs;
+        right = i.core.right;
+        packets = i.core.packets;
+        mids = i.core.mids;
+        backs = i.core.backs;
+        clients = λ z t e. clients z t (cases_eq z y) e;
+        starts = i.core.starts;
+        told = pushed (λ (e : Entry). (server c.service w.hist).replies e.client e.seq ≡ Some e.body) w.told (record { client = y; seq = s; body = text }) i.core.told said;
+      };
+      before = i.core.mid_log;
+      near = record { mid = nearly c.u (mid_soup w.soup) w.log i.done.mid; back = λ t. nearly c.u (back_soup t w.soup) (w.logs t) (i.done.back t) };
+    }
+
+-- DELIVERIES
+
+get-past : {A : Type 0} (xs ys : List A) (i : ℕ) (a : A) → slice_get ys i ≡ Some a → (j : ℕ) × (slice_get (xs ++ ys) j ≡ Some a)
+get-past [] ys i a e = (i, e)
+get-past (x ∷ xs) ys i a e = let r = get-past xs ys i a e in (suc r.0, r.1)
+
+log_part-first : (t : Tier) (from to : End) (p : PaxMsg AnyValue) (ys : List (LogPacket AnyValue)) → is_in t from ≡ true → slice_get (log_part t from to (msgs.Log p) ++ ys) 0 ≡ Some (record { from = index_of from; to = index_of to; msg = p })
+log_part-first t from to p ys e = rw e refl
+
+-- a packet of a tier's log stands among its packets
+pub log_place : (t : Tier) (soup : List Packet) (i : ℕ) (from to : End) (p : PaxMsg AnyValue) → is_in t from ≡ true → slice_get soup i ≡ Some (record { from = from; to = to; message = msgs.Log p }) → (j : ℕ) × (slice_get (log_soup t soup) j ≡ Some (record { from = index_of from; to = index_of to; msg = p }))
+log_place t [] i from to p b e = absurd (cc)
+log_place t (k ∷ soup) zero from to p b e =
+    let s : record { from = from; to = to; message = msgs.Log p } ≡ k = cc in
+    (0, subst (λ (z : Packet). slice_get (log_part t z.from z.to z.message ++ log_soup t soup) 0 ≡ Some (record { from = index_of from; to = index_of to; msg = p })) s (log_part-first t from to p (log_soup t soup) b))
+log_place t (k ∷ soup) (suc i) from to p b e = let r = log_place t soup i from to p b e in get-past (log_part t k.from k.to k.message) (log_soup t soup) r.0 _ r.1
+
+pub back_place : (t : Tier) (soup : List Packet) (i : ℕ) (from to : End) (p : PaxMsg AnyValue) → same_tier t MidTier ≡ false → is_in t from ≡ true → slice_get soup i ≡ Some (record { from = from; to = to; message = msgs.Log p }) → (j : ℕ) × (slice_get (back_soup t soup) j ≡ Some (record { from = index_of from; to = index_of to; msg = p }))
+back_place MidTier soup i from to p m b e = absurd (cc)
+back_place Inv soup i from to p m b e = log_place Inv soup i from to p b e
+back_place Pay soup i from to p m b e = log_place Pay soup i from to p b e
+
+node_in : (u : ℕ) (t : Tier) (from : End) → is_node_of u t from ≡ true → is_in t from ≡ true
+node_in u t (Node n) e = (and_parts (same_tier n.tier t) (nat_lt n.index (2 * u + 1)) e).0
+node_in u t (Client y) e = absurd (cc)
+
+mid_frame_ok : {B : Type 0} (c : Config B) (w : World B) (place : ℕ) (from to : End) (message : Msg) (x : ℕ) (σ : Mid) → (i : WorldOk c w) → slice_get w.soup place ≡ Some (record { from = from; to = to; message = message }) → SentBy c (past c w i.codes) from to message → Here c (past c w i.codes) i.h w.soup x σ
+    → MoveOk c (past c w i.codes) i.h w.soup x [] (on_frame c.u c.service x σ from message)
+mid_frame_ok {B} c w place from to (msgs.Log p) x σ i e sent k = cond_both (is_node_of c.u MidTier from) (in_log c.u c.service x σ (on_msg c.u σ.log (index_of from) p)) (drops σ 7) (MoveOk c (past c w i.codes) i.h w.soup x []) taken (λ f. stays_ok c (past c w i.codes) i.h w.soup x σ k)
+  where
+    taken : is_node_of c.u MidTier from ≡ true → MoveOk c (past c w i.codes) i.h w.soup x [] (in_log c.u c.service x σ (on_msg c.u σ.log (index_of from) p))
+    taken f =
+        let q = log_place MidTier w.soup place from to p (node_in c.u MidTier from f) e in
+        let j : LogPacket AnyValue = record { from = index_of from; to = index_of to; msg = p } in
+        let right : PacketOk c.u i.h (mid_soup w.soup) j = every-get (PacketOk c.u i.h (mid_soup w.soup)) (mid_soup w.soup) q.0 j i.core.mid_log.history.packets q.1 in
+        log_move c (past c w i.codes) i.h w.soup x σ (on_msg c.u σ.log (index_of from) p) None k
+        (on_msg_ok c.u i.h (mid_soup w.soup) x σ.log q.0 j p (knows c (past c w i.codes) i.h w.soup x σ k) q.1 refl right)
+        (msg_from c.u i.h (mid_soup w.soup) x σ.log (index_of from) p k.inside right) (λ v f. absurd (cc))
+mid_frame_ok c w place from to (msgs.Request seq text) x σ i e sent k = cond_both (not (is_client from)) (drops σ 7) _ (MoveOk c (past c w i.codes) i.h w.soup x []) (λ f. stays_ok c (past c w i.codes) i.h w.soup x σ k)
+    (λ f. cond_both (not (is_request c.service (record { client = index_of from; seq = seq }) text)) (drops σ 8) (on_request x σ (index_of from) seq text) (MoveOk c (past c w i.codes) i.h w.soup x []) (λ g. stays_ok c (past c w i.codes) i.h w.soup x σ k)
+    (λ g. request_ok c (past c w i.codes) i.h w.soup x σ (index_of from) seq text k sent))
+mid_frame_ok c w place from to (msgs.Token r token order) x σ i e sent k = cond_both (is_node_of c.u MidTier from) (on_token σ (record { round = r; from = index_of from; token = token; order = order })) (drops σ 7) (MoveOk c (past c w i.codes) i.h w.soup x [])
+    (λ f. token_ok c (past c w i.codes) i.h w.soup x σ (record { round = r; from = index_of from; token = token; order = order }) k sent) (λ f. stays_ok c (past c w i.codes) i.h w.soup x σ k)
+mid_frame_ok c w place from to (msgs.Answer n code) x σ i e sent k = cond_both (is_backend_node c.u from) (on_answer c.u x σ (tier_of from) n code) (drops σ 7) (MoveOk c (past c w i.codes) i.h w.soup x [])
+    (λ f. answer_ok c (past c w i.codes) i.h w.soup x σ (tier_of from) n code k sent) (λ f. stays_ok c (past c w i.codes) i.h w.soup x σ k)
+mid_frame_ok c w place from to (msgs.Have t n code) x σ i e sent k = cond_both (is_node_of c.u MidTier from) (on_have c.u x σ (index_of from) t n code) (drops σ 7) (MoveOk c (past c w i.codes) i.h w.soup x [])
+    (λ f. have_ok c (past c w i.codes) i.h w.soup x σ (index_of from) t n code k sent.0 sent.1) (λ f. stays_ok c (past c w i.codes) i.h w.soup x σ k)
+mid_frame_ok c w place from to (msgs.Reply who text) x σ i e sent k = stays_ok c (past c w i.codes) i.h w.soup x σ k
+mid_frame_ok c w place from to (msgs.Call n text) x σ i e sent k = stays_ok c (past c w i.codes) i.h w.soup x σ k
+mid_frame_ok c w place from to (msgs.Settle g) x σ i e sent k = stays_ok c (past c w i.codes) i.h w.soup x σ k
+
+back_frame_ok : {B : Type 0} (c : Config B) (w : World B) (place : ℕ) (from : End) (message : Msg) (t : Tier) (x : ℕ) (σ : Back B) → (i : WorldOk c w) → slice_get w.soup place ≡ Some (record { from = from; to = node t x; message = message }) → SentBy c (past c w i.codes) from (node t x) message
+    → BackHere c (past c w i.codes) t (w.logs t) (i.k t) w.soup x σ → BackMoveOk c (past c w i.codes) t (i.k t) w.soup x (backs.on_frame c.u c.service t x σ from message)
+back_frame_ok {B} c w place from (msgs.Log p) t x σ i e sent k = cond_both (is_node_of c.u t from) (back.in_log c.u c.service t x σ (on_msg c.u σ.log (index_of from) p)) (drops σ 7) (BackMoveOk c (past c w i.codes) t (i.k t) w.soup x) taken (λ f. back_stays c (past c w i.codes) t (w.logs t) (i.k t) w.soup x σ k)
+  where
+    taken : is_node_of c.u t from ≡ true → BackMoveOk c (past c w i.codes) t (i.k t) w.soup x (back.in_log c.u c.service t x σ (on_msg c.u σ.log (index_of from) p))
+    taken f =
+        let q = back_place t w.soup place from (node t x) p k.backend (node_in c.u t from f) e in
+        let j : LogPacket AnyValue = record { from = index_of from; to = x; msg = p } in
+        let right : PacketOk c.u (i.k t) (back_soup t w.soup) j = every-get (PacketOk c.u (i.k t) (back_soup t w.soup)) (back_soup t w.soup) q.0 j (i.core.back_log t).history.packets q.1 in
+        back_move c (past c w i.codes) t (w.logs t) (i.k t) w.soup x σ (on_msg c.u σ.log (index_of from) p) None k
+        (on_msg_ok c.u (i.k t) (back_soup t w.soup) x σ.log q.0 j p (back_knows c (past c w i.codes) t (w.logs t) (i.k t) w.soup x σ k) q.1 refl right)
+        (msg_from c.u (i.k t) (back_soup t w.soup) x σ.log (index_of from) p k.inside right) (one_msg c.u σ.log (index_of from) p) (λ q v f. absurd (cc))
+back_frame_ok c w place from (msgs.Call n text) t x σ i e sent k = cond_both (is_node_of c.u MidTier from) (on_call t x σ (index_of from) n text) (drops σ 7) (BackMoveOk c (past c w i.codes) t (i.k t) w.soup x)
+    (λ f. call_ok c (past c w i.codes) t (w.logs t) (i.k t) w.soup x σ (index_of from) n text k sent) (λ f. back_stays c (past c w i.codes) t (w.logs t) (i.k t) w.soup x σ k)
+back_frame_ok c w place from (msgs.Settle g) t x σ i e sent k = cond_both (is_node_of c.u MidTier from) (on_settle σ (index_of from) g) (drops σ 7) (BackMoveOk c (past c w i.codes) t (i.k t) w.soup x)
+    (λ f. settle_ok c (past c w i.codes) t (w.logs t) (i.k t) w.soup x σ (index_of from) g k sent) (λ f. back_stays c (past c w i.codes) t (w.logs t) (i.k t) w.soup x σ k)
+back_frame_ok c w place from (msgs.Request seq text) t x σ i e sent k = back_stays c (past c w i.codes) t (w.logs t) (i.k t) w.soup x σ k
+back_frame_ok c w place from (msgs.Reply who text) t x σ i e sent k = back_stays c (past c w i.codes) t (w.logs t) (i.k t) w.soup x σ k
+back_frame_ok c w place from (msgs.Token r token order) t x σ i e sent k = back_stays c (past c w i.codes) t (w.logs t) (i.k t) w.soup x σ k
+back_frame_ok c w place from (msgs.Answer n code) t x σ i e sent k = back_stays c (past c w i.codes) t (w.logs t) (i.k t) w.soup x σ k
+back_frame_ok c w place from (msgs.Have v n code) t x σ i e sent k = back_stays c (past c w i.codes) t (w.logs t) (i.k t) w.soup x σ k
+
+client_ok : {B : Type 0} (c : Config B) (w : World B) (from : End) (message : Msg) (y : ℕ) → (i : WorldOk c w) → SentBy c (past c w i.codes) from (Client y) message → Mid_event c (past c w i.codes) (client_gets w y message)
+client_ok {B} c w from (msgs.Reply who text) y i sent =
+    let s : Client y ≡ Client who.client = sent.0 in
+    let same : who.client ≡ y = sym (ap index_of s) in
+    takes_ok c w y who.seq text (subst (λ z. (server c.service w.hist).replies z who.seq ≡ Some text) same sent.1) i
+client_ok c w from (msgs.Log p) y i sent = unchanged c w i
+client_ok c w from (msgs.Request seq text) y i sent = unchanged c w i
+client_ok c w from (msgs.Token r token order) y i sent = unchanged c w i
+client_ok c w from (msgs.Call n text) y i sent = unchanged c w i
+client_ok c w from (msgs.Answer n code) y i sent = unchanged c w i
+client_ok c w from (msgs.Have t n code) y i sent = unchanged c w i
+client_ok c w from (msgs.Settle g) y i sent = unchanged c w i
+
+node_gets_ok : {B : Type 0} (c : Config B) (w : World B) (fared : Fared) (place : ℕ) (from : End) (message : Msg) (t : Tier) (x : ℕ) → c.u < 128 → (i : WorldOk c w) → slice_get w.soup place ≡ Some (record { from = from; to = node t x; message = message }) → SentBy c (past c w i.codes) from (node t x) message
+    → Mid_event c (past c w i.codes) (node_gets c w fared from message t x)
+node_gets_ok c w fared place from message MidTier x few i e sent = at_mid_ok c w x (fate c fared) (λ σ. on_frame c.u c.service x σ from message) no_run few i.core.laws i (λ σ k. mid_frame_ok c w place from (node MidTier x) message x σ i e sent k) (λ R fs f σ. refl)
+node_gets_ok c w fared place from message Inv x few i e sent = at_back_ok c w Inv x (fate c fared) (λ σ. backs.on_frame c.u c.service Inv x σ from message) few refl i (λ σ k. back_frame_ok c w place from message Inv x σ i e sent k)
+node_gets_ok c w fared place from message Pay x few i e sent = at_back_ok c w Pay x (fate c fared) (λ σ. backs.on_frame c.u c.service Pay x σ from message) few refl i (λ σ k. back_frame_ok c w place from message Pay x σ i e sent k)
+
+arrives_ok : {B : Type 0} (c : Config B) (w : World B) (fared : Fared) (place : ℕ) (from : End) (message : Msg) (to : End) → c.u < 128 → (i : WorldOk c w) → slice_get w.soup place ≡ Some (record { from = from; to = to; message = message }) → Mid_event c (past c w i.codes) (arrives c w fared from message to)
+arrives_ok c w fared place from message (Node n) few i e = node_gets_ok c w fared place from message n.tier n.index few i e (every-get (SentOk c (past c w i.codes)) w.soup place (record { from = from; to = Node n; message = message }) i.core.packets e)
+arrives_ok c w fared place from message (Client y) few i e = client_ok c w from message y i (every-get (SentOk c (past c w i.codes)) w.soup place (record { from = from; to = Client y; message = message }) i.core.packets e)
+
+delivered_ok : {B : Type 0} (c : Config B) (w : World B) (fared : Fared) (place : ℕ) (o : Option Packet) → c.u < 128 → (i : WorldOk c w) → slice_get w.soup place ≡ o → Mid_event c (past c w i.codes) (delivered c w fared o)
+delivered_ok c w fared place None few i e = unchanged c w i
+delivered_ok c w fared place (Some k) few i e = arrives_ok c w fared place k.from k.message k.to few i e
+
+shortened_ok : {B : Type 0} (c : Config B) (w : World B) (fared : Fared) (bytes place : ℕ) (o : Option Packet) → c.u < 128 → (i : WorldOk c w) → slice_get w.soup place ≡ o → Mid_event c (past c w i.codes) (shortened c w fared bytes o)
+shortened_ok c w fared bytes place None few i e = unchanged c w i
+shortened_ok c w fared bytes place (Some k) few i e = cond_both (nat_le (c.frame_length k.from k.message) bytes) (arrives c w fared k.from k.message k.to) w (Mid_event c (past c w i.codes)) (λ f. arrives_ok c w fared place k.from k.message k.to few i e) (λ f. unchanged c w i)
+
+-- COMMANDS
+
+lead_event : {B : Type 0} (c : Config B) (w : World B) (fared : Fared) (t : Tier) (x : ℕ) → c.u < 128 → (i : WorldOk c w) → Mid_event c (past c w i.codes) (leads c w fared t x)
+lead_event c w fared MidTier x few i = at_mid_ok c w x (fate c fared) (λ σ. mids.leads c.u c.service x σ) no_run few i.core.laws i (λ σ k. leads_ok c (past c w i.codes) i.h w.soup x σ k) (λ R fs f σ. refl)
+lead_event c w fared Inv x few i = at_back_ok c w Inv x (fate c fared) (λ σ. backs.leads c.u c.service Inv x σ) few refl i (λ σ k. back_leads_ok c (past c w i.codes) Inv (w.logs Inv) (i.k Inv) w.soup x σ k)
+lead_event c w fared Pay x few i = at_back_ok c w Pay x (fate c fared) (λ σ. backs.leads c.u c.service Pay x σ) few refl i (λ σ k. back_leads_ok c (past c w i.codes) Pay (w.logs Pay) (i.k Pay) w.soup x σ k)
+
+offer_event : {B : Type 0} (c : Config B) (w : World B) (fared : Fared) (t : Tier) (x : ℕ) → c.u < 128 → (i : WorldOk c w) → Mid_event c (past c w i.codes) (offers c w fared t x)
+offer_event c w fared MidTier x few i = at_mid_ok c w x (fate c fared) (λ σ. mids.offers c.u c.service x σ) no_run few i.core.laws i (λ σ k. offers_ok c (past c w i.codes) i.h w.soup x σ k) (λ R fs f σ. refl)
+offer_event c w fared Inv x few i = at_back_ok c w Inv x (fate c fared) (λ σ. backs.offers c.u c.service Inv x σ) few refl i (λ σ k. back_offers_ok c (past c w i.codes) Inv (w.logs Inv) (i.k Inv) w.soup x σ k)
+offer_event c w fared Pay x few i = at_back_ok c w Pay x (fate c fared) (λ σ. backs.offers c.u c.service Pay x σ) few refl i (λ σ k. back_offers_ok c (past c w i.codes) Pay (w.logs Pay) (i.k Pay) w.soup x σ k)
+
+work_event : {B : Type 0} (c : Config B) (w : World B) (t : Tier) (x : ℕ) (schedule : List ℕ) → c.u < 128 → (i : WorldOk c w) → Mid_event c (past c w i.codes) (works c w t x schedule)
+work_event c w MidTier x schedule few i = at_mid_ok c w x unwritten (λ σ. work c.u c.service x σ schedule) (λ σ. work_run c.u c.service x σ schedule) few i.core.laws i (λ σ k. work_ok c (past c w i.codes) i.h w.soup x σ schedule k) (λ R fs f σ. absurd (cc))
+work_event c w Inv x schedule few i = unchanged c w i
+work_event c w Pay x schedule few i = unchanged c w i
+
+node_retry_event : {B : Type 0} (c : Config B) (w : World B) (t : Tier) (x : ℕ) → c.u < 128 → (i : WorldOk c w) → Mid_event c (past c w i.codes) (node_retries c w t x)
+node_retry_event c w MidTier x few i = at_mid_ok c w x unwritten (λ σ. mids.retry c.u x σ) no_run few i.core.laws i (λ σ k. retry_ok c (past c w i.codes) i.h w.soup x σ k) (λ R fs f σ. refl)
+node_retry_event c w Inv x few i = at_back_ok c w Inv x unwritten (λ σ. backs.retry c.u Inv x σ) few refl i (λ σ k. back_retry_ok c (past c w i.codes) Inv (w.logs Inv) (i.k Inv) w.soup x σ k)
+node_retry_event c w Pay x few i = at_back_ok c w Pay x unwritten (λ σ. backs.retry c.u Pay x σ) few refl i (λ σ k. back_retry_ok c (past c w i.codes) Pay (w.logs Pay) (i.k Pay) w.soup x σ k)
+
+retry_event : {B : Type 0} (c : Config B) (w : World B) (end : End) → c.u < 128 → (i : WorldOk c w) → Mid_event c (past c w i.codes) (retries c w end)
+retry_event c w (Node n) few i = node_retry_event c w n.tier n.index few i
+retry_event c w (Client y) few i = reopens_ok c w y (w.clients y).opened refl i
+
+crash_event : {B : Type 0} (c : Config B) (w : World B) (t : Tier) (x : ℕ) → (i : WorldOk c w) → Mid_event c (past c w i.codes) (crashes c w t x)
+crash_event c w MidTier x i = mid_crash c w x i
+crash_event c w Inv x i = back_crash c w Inv x i
+crash_event c w Pay x i = back_crash c w Pay x i
+
+restart_event : {B : Type 0} (c : Config B) (w : World B) (found : Found) (t : Tier) (x : ℕ) → (i : WorldOk c w) → Mid_event c (past c w i.codes) (restarts c w found t x)
+restart_event c w found MidTier x i = mid_restart c w x found i
+restart_event c w found Inv x i = back_restart c w Inv x found i
+restart_event c w found Pay x i = back_restart c w Pay x found i
+
+wipe_event : {B : Type 0} (c : Config B) (w : World B) (t : Tier) (x : ℕ) → (i : WorldOk c w) → Mid_event c (past c w i.codes) (wipes c w t x)
+wipe_event c w MidTier x i = mid_wipe c w x i
+wipe_event c w Inv x i = back_wipe c w Inv x i
+wipe_event c w Pay x i = back_wipe c w Pay x i
+
+-- EVENTS
+
+if_can_ok : {B : Type 0} (c : Config B) (w new : World B) (fared : Fared) → (i : WorldOk c w) → Mid_event c (past c w i.codes) new → Mid_event c (past c w i.codes) (if_can fared new w)
+if_can_ok c w new fared i k = cond_both (can_fare fared) new w (Mid_event c (past c w i.codes)) (λ e. k) (λ e. unchanged c w i)
+
+pub happens_ok : {B : Type 0} (c : Config B) (w : World B) (e : TraceEvent) → c.u < 128 → (i : WorldOk c w) → Mid_event c (past c w i.codes) (happens c w e)
+happens_ok c w (Submit y text) few i = submits_ok c w y text i
+happens_ok c w (Deliver k fared) few i = if_can_ok c w _ fared i (delivered_ok c w fared k (slice_get w.soup k) few i refl)
+happens_ok c w (Short k bytes fared) few i = if_can_ok c w _ fared i (shortened_ok c w fared bytes k (slice_get w.soup k) few i refl)
+happens_ok c w (Lead n fared) few i = if_can_ok c w _ fared i (lead_event c w fared n.tier n.index few i)
+happens_ok c w (Offer n fared) few i = if_can_ok c w _ fared i (offer_event c w fared n.tier n.index few i)
+happens_ok c w (Work n schedule) few i = work_event c w n.tier n.index schedule few i
+happens_ok c w (Retry end) few i = retry_event c w end few i
+happens_ok c w (Crash n) few i = crash_event c w n.tier n.index i
+happens_ok c w (Restart n found) few i = restart_event c w found n.tier n.index i
+happens_ok c w (Wipe n) few i = wipe_event c w n.tier n.index i
+
+pub start_ok : {B : Type 0} (c : Config B) → Laws c.service → WorldOk c (start {B = B})
+start_ok {B} c laws = record {
+  codes = λ x. [];
+  h = λ x. [];
+  k = λ t x. [];
+  core = record {
+    laws = laws;
+    mid_log = record { history = empty_history c.u; good = λ x l p b v d. absurd d; sound = λ p v e. absurd (cc) };
+    back_log = back_log;
+    ledger = ledger_start c.service c.depth (mirrors_start c.service c.depth) (start_tables c.service c.depth (empty_server c.service));
+    runs = λ i v e. absurd (cc);
+    right = λ x i q e. absurd (cc);
+    packets = tt;
+    mids = λ x l. record { is_log = refl; is_held = refl; pending = λ n Q q. absurd (cc) };
+    backs = λ t x l. record { is_log = refl; pending = λ n Q q. absurd (cc) };
+    clients = λ y text e. absurd (cc);
+    starts = λ j n who body e. absurd (cc);
+    told = λ j e f. absurd (cc);
+  };
+  done = record { mid = record { at = λ p v m. absurd (let e = m.is_sent in cc) }; back = complete };
+}
+  where
+    empty_history : {V : Type 0} (u : ℕ) → History {V = V} u (λ x. []) []
+    empty_history u = record { orderly = λ x l. tt; votes = λ x l p b v d. absurd d; learned = λ x l p v e. absurd (cc); packets = tt }
+
+    back_log : (t : Tier) → LogPart c.u (λ x. []) (back_soup t []) [] (BackOk c (past c (start {B = B}) (λ x. [])) t)
+    back_log t = subst (λ z. LogPart c.u (λ x. []) z [] (BackOk c (past c (start {B = B}) (λ x. [])) t)) (sym (back_nil t)) (record { history = empty_history c.u; good = λ x l p b v d. absurd d; sound = λ p v e. absurd (cc) })
+
+    complete : (t : Tier) → Complete {V = AnyValue} c.u (back_soup t []) []
+    complete t = subst (λ z. Complete c.u z []) (sym (back_nil t)) (record { at = λ p v m. absurd (let e = m.is_sent in cc) })
+
+pub run_ok : {B : Type 0} (c : Config B) (es : List TraceEvent) (w : World B) → c.u < 128 → WorldOk c w → WorldOk c (run c es w)
+run_ok c [] w few i = i
+run_ok c (e ∷ es) w few i = run_ok c es (grows c (happens c w e)) few (grows_ok c (past c w i.codes) (happens c w e) few (happens_ok c w e few i))
+
+pub world_ok : {B : Type 0} (c : Config B) (es : List TraceEvent) → c.u < 128 → Laws c.service → WorldOk c (world c es)
+world_ok c es few laws = run_ok c es start few (start_ok c laws)

@@ -1,0 +1,15 @@
+-- A tier has at most five nodes.
+use Rattle.std.proofs.Common.{ℕ, ◌<◌, ◌≤◌, arith}
+use Rattle.run_model.specs.World.{Config}
+use Rattle.run_model.specs.Runs.{world}
+use Rattle.run_model.specs.declared.trace.TraceEvent.{TraceEvent}
+use Rattle.std.proofs.Common.{List}
+use Rattle.tier_laws.specs.Said.{Laws}
+use Rattle.tier_laws.proofs.Core.{Inv as WorldOk}
+use Rattle.tier_laws.proofs.Events.{world_ok}
+
+pub few : (u : ℕ) → u ≤ 2 → u < 128
+few u l = omega arith
+
+pub inv : {B : Type 0} (c : Config B) (es : List TraceEvent) → c.u ≤ 2 → Laws c.service → WorldOk c (world c es)
+inv c es l laws = world_ok c es (few c.u l) laws

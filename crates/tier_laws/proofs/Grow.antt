@@ -1,0 +1,338 @@
+-- The logs grow, and with them the history.
+use Rattle.std.proofs.Common.{◌≡◌, ℕ, ◌+◌, ◌*◌, ◌<◌, ◌≤◌, Bool, true, false, cond, List, [], ◌∷◌, ◌++◌, length, map, refl, sym, ap, ◌∙◌, subst, inl, inr, Option, Some, None, zero, suc, arith}
+use Rattle.std.specs.Prelude.{slice_get, ◌⊎◌, ◌==◌, nat_lt}
+use Rattle.std.proofs.lemmas.Bool.{cond-true, cond-false, lt-ltb, eq-eqb, ne_eqb, cases_eq, and_from}
+use Rattle.aeg_base.specs.declared.names.Tier.{Tier}
+use Rattle.aeg_base.specs.declared.names.Tier.TheVariants.{Inv, Pay}
+use Rattle.log_model.proofs.Invariant.{all_same, soup-refl}
+use Rattle.log_model.specs.Chosen.{Meets, chosen_among}
+use Rattle.log_model.specs.declared.fact.Fact.{Fact as LogFact}
+use Rattle.log_values.specs.declared.any_value.AnyValue.{AnyValue}
+use Rattle.log_values.specs.declared.any_value.AnyValue.TheVariants.{Back as OfBack, Mid as OfMid}
+use Rattle.log_values.specs.declared.back_value.BackValue.TheVariants.{Call as Called, Settle as Settled}
+use Rattle.log_values.specs.declared.entry.Entry.{Entry}
+use Rattle.log_values.specs.declared.mid_value.MidValue.TheVariants.{Batch, Verdict as Decided}
+use Rattle.log_values.specs.declared.mid_value.Verdict.{Verdict}
+use Rattle.log_values.specs.declared.mid_value.Verdict.TheVariants.{Commit, Serial}
+use Rattle.round_model.specs.After.{Round, after, batch_in, round_at}
+use Rattle.round_model.specs.Answers.{Code}
+use Rattle.round_model.specs.Lists.{at, below, half, head_of, tabulate}
+use Rattle.round_model.specs.Service.{all_below, each_once, finish, is_order, times}
+use Rattle.round_model.specs.Tables.{Number, Tables, Want, fresh_of, numbers, resumed, started, wants}
+use Rattle.run_model.specs.Histories.{back_steps, is_called, step_of, steps_by, value_steps, verdict_steps}
+use Rattle.run_model.specs.Runs.{back_chosen, back_grows, grows, mid_chosen, mid_grows}
+use Rattle.run_model.specs.World.{Config, World, put_tier}
+use Rattle.server_model.specs.History.{History as History_}
+use Rattle.server_model.specs.Server.{same_tier}
+use Rattle.server_model.specs.declared.history.Hist.{Hist}
+use Rattle.server_model.specs.declared.history.Hist.TheVariants.{Resume, Serve, Start}
+use Rattle.tier_laws.proofs.Lists.{tier_cases, tier_here, tier_there}
+use Rattle.tier_laws.proofs.Backs.{ledger_called, ledger_settled}
+use Rattle.tier_laws.proofs.Core.{Core, Inv as WorldOk, Mid_event, NearlyDone, back_mode-more, mid_mode-more, past}
+use Rattle.tier_laws.proofs.Ledger.{Extended, Ledger, extend_batch, ledger_verdict, more-push, ordered}
+use Rattle.tier_laws.proofs.Logs.{Complete, LogPart, Nearly, chosen_now, grow_none, grow_some, log_weaker, meets_good, part_some}
+use Rattle.tier_laws.proofs.Past.{BackOk, BatchOk, Grows, MidOk, Past, Submitted, VerdictBy, back_ok-more, mid_ok-more, more-refl, parcels-more, run_ok-more, submitted-more}
+use Rattle.tier_laws.proofs.Rounds.{Kept}
+use Rattle.tier_laws.proofs.Stable.{MoreLog, RoundParts, batch_in-some, round_parts, then_parts}
+use Rattle.tier_laws.proofs.Wants.{fresh-at, get_cases, get_map}
+use Rattle.tier_laws.proofs.Maps.{server}
+use Rattle.aeg_base.specs.declared.names.Tier.TheVariants.{Mid as MidTier}
+use Rattle.aeg_base.specs.declared.names.ReqId.{ReqId}
+use Rattle.run_model.specs.Runs.{served_of}
+use Rattle.run_model.specs.Histories.{HistoryStep}
+use Rattle.tier_laws.proofs.Shows.{shown}
+use Rattle.tier_laws.proofs.Soups.{mid_soup, back_soup}
+
+-- JOB ORDER IS AN ORDER
+
+times-low : (n : ℕ) (f : ℕ → ℕ) (a k : ℕ) → ((i : ℕ) → f i ≡ a + i) → k < a → times k (tabulate n f) ≡ 0
+times-low zero f a k e l = refl
+times-low (suc n) f a k e l =
+    let first : cond (f 0 == k) 1 0 ≡ 0 = cond-false {A = ℕ} (f 0 == k) 1 0 (ne_eqb (f 0) k (λ g. let h = e 0 in omega arith)) in
+    omega (arith, first, times-low n (λ i. f (suc i)) (suc a) k (λ i. let h = e (suc i) in omega arith) (omega arith))
+
+times-in : (n : ℕ) (f : ℕ → ℕ) (a k : ℕ) → ((i : ℕ) → f i ≡ a + i) → a ≤ k → k < a + n → times k (tabulate n f) ≡ 1
+times-in zero f a k e l m = absurd (omega arith)
+times-in (suc n) f a k e l m = go (cases_eq k a) (times-in n (λ i. f (suc i)) (suc a) k (λ i. let h = e (suc i) in omega arith))
+  where
+    rest : (i : ℕ) → f (suc i) ≡ suc a + i
+    rest i = let h = e (suc i) in omega arith
+
+    go : (k ≡ a) ⊎ (k ≡ a → ⊥) → (suc a ≤ k → k < suc a + n → times k (tabulate n (λ i. f (suc i))) ≡ 1) → times k (tabulate (suc n) f) ≡ 1
+    go (inl g) r =
+        let first : cond (f 0 == k) 1 0 ≡ 1 = cond-true {A = ℕ} (f 0 == k) 1 0 (eq-eqb (f 0) k (let h = e 0 in omega arith)) in
+        omega (arith, first, times-low n (λ i. f (suc i)) (suc a) k rest (omega arith))
+    go (inr g) r =
+        let first : cond (f 0 == k) 1 0 ≡ 0 = cond-false {A = ℕ} (f 0 == k) 1 0 (ne_eqb (f 0) k (λ q. let h = e 0 in g (omega arith))) in
+        omega (arith, first, r (omega arith) (omega arith))
+
+inside-all : (n : ℕ) (f : ℕ → ℕ) (a N : ℕ) → ((i : ℕ) → f i ≡ a + i) → a + n ≤ N → all_below N (tabulate n f) ≡ true
+inside-all zero f a N e l = refl
+inside-all (suc n) f a N e l = and_from (nat_lt (f 0) N) (all_below N (tabulate n (λ i. f (suc i)))) (lt-ltb (f 0) N (let h = e 0 in omega arith)) (inside-all n (λ i. f (suc i)) (suc a) N (λ i. let h = e (suc i) in omega arith) (omega arith))
+
+once-all : (j n : ℕ) → j ≤ n → each_once j (below n) ≡ true
+once-all zero n l = refl
+once-all (suc j) n l = and_from (times j (below n) == 1) (each_once j (below n)) (eq-eqb (times j (below n)) 1 (times-in n (λ i. i) 0 j (λ i. omega arith) (omega arith) (omega arith))) (once-all j n (omega arith))
+
+pub job_order : (n : ℕ) → is_order n (below n) ≡ true
+job_order n = and_from (all_below n (below n)) (each_once n (below n)) (inside-all n (λ i. i) 0 n (λ i. omega arith) (omega arith)) (once-all n n (omega arith))
+
+pub is_ordered : {B : Type 0} (c : Config B) (P : Past B) (r : ℕ) (R : Round) (v : Verdict) → VerdictBy c P r R v → is_order (length R.job) (ordered R v) ≡ true
+is_ordered c P r R (Commit o order) k = k.0
+is_ordered c P r R Serial k = job_order (length R.job)
+
+-- LONGER LOGS AND A LONGER HISTORY
+
+abbrev longer : {B : Type 0} → World B → List AnyValue → (Tier → List AnyValue) → History_ → World B
+longer w L K h = record w { log = L; logs = K; hist = h }
+
+grows_to : {B : Type 0} (c : Config B) (w : World B) (codes : ℕ → List Code) (L : List AnyValue) (K : Tier → List AnyValue) (h : History_) → MoreLog w.log L → Kept (server c.service w.hist) (server c.service h) → Grows (past c w codes) (past c (longer w L K h) codes)
+grows_to c w codes L K h l k = record { held = λ x t n e. e; log = l; kept = k; runs = more-refl w.runs; submitted = more-refl w.submitted }
+
+core_longer : {B : Type 0} (c : Config B) (w : World B) (codes : ℕ → List Code) (g : ℕ → List (LogFact AnyValue)) (k : Tier → ℕ → List (LogFact AnyValue)) (L : List AnyValue) (K : Tier → List AnyValue) (h : History_) → Core c w codes g k → Grows (past c w codes) (past c (longer w L K h) codes) → Ledger c.service c.depth L K h
+    → LogPart c.u g (mid_soup w.soup) L (MidOk c (past c w codes)) → ((t : Tier) → LogPart c.u (k t) (back_soup t w.soup) (K t) (BackOk c (past c w codes) t)) → ((j n : ℕ) (who : ReqId) (body : List ℕ) → slice_get h j ≡ Some (Start who n, body) → Submitted (past c w codes) (record { client = who.client; seq = who.seq; body = body })) → Core c (longer w L K h) codes g k
+core_longer {B} c w codes g k L K h i gr ledger mid back starts = record {
+  laws = i.laws;
+  mid_log = log_weaker c.u g (mid_soup w.soup) L (MidOk c P) (MidOk c Q) (λ p v o. mid_ok-more c P Q p v gr o) mid;
+  back_log = λ t. log_weaker c.u (k t) (back_soup t w.soup) (K t) (BackOk c P t) (BackOk c Q t) (λ p v o. back_ok-more c P Q t p v gr o) (back t);
+  ledger = ledger;
+  runs = λ j v e. run_ok-more c P Q v gr (i.runs j v e);
+  right = λ x j q e. gr.kept.served q.tier q.num q.code (i.right x j q e);
+  packets = parcels-more c P Q w.soup gr i.packets;
+  mids = λ x l. mid_mode-more c P Q g g (mid_soup w.soup) (mid_soup w.soup) x (w.mids x) (w.mids x).mode gr (all_same g) (soup-refl c.u (mid_soup w.soup)) refl refl (i.mids x l);
+  backs = λ t x l. back_mode-more c P Q t (k t) (k t) (back_soup t w.soup) (back_soup t w.soup) x (w.backs t x) (w.backs t x).mode gr (all_same (k t)) (soup-refl c.u (back_soup t w.soup)) refl (i.backs t x l);
+  clients = λ y text e. submitted-more P Q _ gr (i.clients y text e);
+  starts = λ j n who body e. submitted-more P Q _ gr (starts j n who body e);
+  told = λ j e f. gr.kept.replies e.client e.seq e.body (i.told j e f);
+}
+  where
+    P : Past B
+    P = past c w codes
+
+    Q : Past B
+    Q = past c (longer w L K h) codes
+
+-- STARTS WERE SUBMITTED
+
+abbrev StartsIn : {B : Type 0} → Past B → History_ → Type 0
+StartsIn P h = (j n : ℕ) (who : ReqId) (body : List ℕ) → slice_get h j ≡ Some (Start who n, body) → Submitted P (record { client = who.client; seq = who.seq; body = body })
+
+starts_by : {B : Type 0} (c : Config B) (w : World B) (codes : ℕ → List Code) (h : ℕ → List (LogFact AnyValue)) (k : Tier → ℕ → List (LogFact AnyValue)) (ks : History_) → Core c w codes h k → StartsIn (past c w codes) ks → StartsIn (past c w codes) (w.hist ++ ks)
+starts_by {B} c w codes h k ks i new j n who body e = go (get_cases w.hist ks j (Start who n, body) e)
+  where
+    go : (slice_get w.hist j ≡ Some (Start who n, body)) ⊎ ((l : ℕ) × (slice_get ks l ≡ Some (Start who n, body))) → Submitted (past c w codes) (record { client = who.client; seq = who.seq; body = body })
+    go (inl f) = i.starts j n who body f
+    go (inr f) = new f.0 n who body f.1
+
+back_starts : (t : Tier) (vs : List AnyValue) (v : AnyValue) (j n : ℕ) (who : ReqId) (body : List ℕ) → slice_get (back_steps t vs v) j ≡ Some (Start who n, body) → ⊥
+back_starts t vs (OfMid v) j n who body e = cc
+back_starts t vs (OfBack (Settled g)) j n who body e = cc
+back_starts t vs (OfBack (Called k text)) j n who body e = go (is_called k vs) j e
+  where
+    go : (b : Bool) (j : ℕ) → slice_get {X = HistoryStep} (cond b [] ((Serve t k, []) ∷ [])) j ≡ Some (Start who n, body) → ⊥
+    go true j f = cc
+    go false zero f = let g : Some (Serve t k) ≡ Some (Start who n) = ap first f in cc
+      where
+        first : Option HistoryStep → Option Hist
+        first None = None
+        first (Some x) = Some x.0
+    go false (suc j) f = cc
+
+-- a step that starts is that of a want that starts
+record StartOf (ws : List Want) (y s : ℕ) (body : List ℕ) : Type 0 where
+  place : ℕ
+  want : Want
+  is_want : slice_get ws place ≡ Some want
+  none : want.call ≡ None
+  client : want.client ≡ y
+  seq : want.seq ≡ s
+  text : want.body ≡ body
+
+start_parts : (y s k n : ℕ) (text body : List ℕ) (who : ReqId) → (◌≡◌ {A = HistoryStep} (Start (record { client = y; seq = s }) k, text) (Start who n, body)) → (y ≡ who.client) × (s ≡ who.seq) × (text ≡ body)
+start_parts y s k n text body who e = (ap (λ (x : HistoryStep). client_in x.0) e, ap (λ (x : HistoryStep). seq_in x.0) e, ap (λ (x : HistoryStep). x.1) e)
+  where
+    client_in : Hist → ℕ
+    client_in (Start r m) = r.client
+    client_in (Serve t m) = 0
+    client_in (Resume r m) = 0
+
+    seq_in : Hist → ℕ
+    seq_in (Start r m) = r.seq
+    seq_in (Serve t m) = 0
+    seq_in (Resume r m) = 0
+
+is_start : Hist → Bool
+is_start (Start r m) = true
+is_start (Serve t m) = false
+is_start (Resume r m) = false
+
+step_start : (ws : List Want) (i : ℕ) (o : Option Want) (k n : ℕ) (who : ReqId) (body : List ℕ) → slice_get ws i ≡ o → ◌≡◌ {A = HistoryStep} (step_of o k) (Start who n, body) → StartOf ws who.client who.seq body
+unfolding is_start
+step_start ws i None k n who body e f = absurd (let g : false ≡ true = ap (λ (x : HistoryStep). is_start x.0) f in cc)
+step_start ws i (Some w) k n who body e f = go w.call refl f
+  where
+    go : (q : Option Number) → w.call ≡ q → ◌≡◌ {A = HistoryStep} (elim q [ None ↦ (Start (record { client = w.client; seq = w.seq }) k, w.body) | Some c ↦ (Resume (record { client = w.client; seq = w.seq }) k, []) ]) (Start who n, body) → StartOf ws who.client who.seq body
+    go None g h = let p = start_parts w.client w.seq k n w.body body who h in record { place = i; want = w; is_want = e; none = g; client = p.0; seq = p.1; text = p.2 }
+    go (Some c) g h = absurd (let q : false ≡ true = ap (λ (x : HistoryStep). is_start x.0) h in cc)
+
+some_same : {A : Type 0} (a b : A) → Some a ≡ Some b → a ≡ b
+some_same a b e = cc
+
+steps_start : (ws : List Want) (nums order : List ℕ) (j n : ℕ) (who : ReqId) (body : List ℕ) → slice_get (steps_by ws nums order) j ≡ Some (Start who n, body) → StartOf ws who.client who.seq body
+steps_start ws nums [] j n who body e = absurd (cc)
+steps_start ws nums (i ∷ is) zero n who body e = step_start ws i (slice_get ws i) (at 0 nums i) n who body refl (some_same (step_of (slice_get ws i) (at 0 nums i)) (Start who n, body) e)
+steps_start ws nums (i ∷ is) (suc j) n who body e = steps_start ws nums is j n who body e
+
+batch_value : (v : AnyValue) (es : List Entry) → batch_in (Some v) ≡ Some es → v ≡ OfMid (Batch es)
+batch_value (OfMid (Batch ds)) es e = let s : ds ≡ es = cc in ap (λ z. OfMid (Batch z)) s
+batch_value (OfMid (Decided v)) es e = absurd (cc)
+batch_value (OfBack v) es e = absurd (cc)
+
+value_starts : {B : Type 0} (c : Config B) (w : World B) (codes : ℕ → List Code) (h : ℕ → List (LogFact AnyValue)) (k : Tier → ℕ → List (LogFact AnyValue)) (v : AnyValue) → Core c w codes h k → MidOk c (past c w codes) (length w.log) v → StartsIn (past c w codes) (value_steps c.service c.depth w.log (server c.service w.hist).served v)
+unfolding is_start
+value_starts c w codes h k (OfMid (Batch es)) i o j n who body e = absurd (cc)
+value_starts c w codes h k (OfBack v) i o j n who body e = absurd o
+value_starts {B} c w codes h k (OfMid (Decided v)) i o j n who body e = go (is_order (length R.job) (ordered R v)) (subst (λ z. slice_get (verdict_steps c.service z v) j ≡ Some (Start who n, body)) o.1.is_round e)
+  where
+    R : Round
+    R = o.1.made
+
+    P : Past B
+    P = past c w codes
+
+    a : (T : Tables) × (after c.service c.depth w.log (server c.service w.hist).served (half (length w.log)) ≡ Some T) × (round_at c.service w.log (server c.service w.hist).served (half (length w.log)) T ≡ Some o.1.made)
+    a = then_parts (after c.service c.depth w.log (server c.service w.hist).served (half (length w.log))) (round_at c.service w.log (server c.service w.hist).served (half (length w.log))) o.1.made o.1.is_round
+
+    parts : RoundParts c.service w.log (server c.service w.hist).served (half (length w.log)) a.0 o.1.made
+    parts = round_parts c.service w.log (server c.service w.hist).served (half (length w.log)) a.0 o.1.made a.2
+
+    value : (u : AnyValue) × (slice_get w.log (2 * half (length w.log)) ≡ Some u) × (batch_in (Some u) ≡ Some parts.batch)
+    value = batch_in-some (slice_get w.log (2 * half (length w.log))) parts.batch parts.is_batch
+
+    entries : BatchOk P parts.batch
+    entries = (subst (MidOk c P (2 * half (length w.log))) (batch_value value.0 parts.batch value.2) (meets_good c.u h (mid_soup w.soup) w.log (MidOk c P) (2 * half (length w.log)) value.0 i.mid_log (i.mid_log.sound (2 * half (length w.log)) value.0 value.1))).1
+
+    from : StartOf (wants c.service a.0 parts.batch) who.client who.seq body → Submitted P (record { client = who.client; seq = who.seq; body = body })
+    from q = by (get_cases (map resumed (head_of a.0.queue)) (map started (fresh_of c.service a.0 [] parts.batch)) q.place q.want q.is_want)
+      where
+        by : (slice_get (map resumed (head_of a.0.queue)) q.place ≡ Some q.want) ⊎ ((l : ℕ) × (slice_get (map started (fresh_of c.service a.0 [] parts.batch)) l ≡ Some q.want)) → Submitted P (record { client = who.client; seq = who.seq; body = body })
+        by (inl f) = absurd (let z = get_map resumed (head_of a.0.queue) q.place q.want f in let g : (resumed z.0).call ≡ None = ap (λ (x : Want). x.call) z.2 ∙ q.none in cc)
+        by (inr f) =
+            let z = get_map started (fresh_of c.service a.0 [] parts.batch) f.0 q.want f.1 in
+            let b = (fresh-at c.service a.0 [] parts.batch f.0 z.0 z.1).1 in
+            let e1 : z.0.client ≡ who.client = ap (λ (x : Want). x.client) z.2 ∙ q.client in
+            let e2 : z.0.seq ≡ who.seq = ap (λ (x : Want). x.seq) z.2 ∙ q.seq in
+            let e3 : z.0.body ≡ body = ap (λ (x : Want). x.body) z.2 ∙ q.text in
+            let same : z.0 ≡ record { client = who.client; seq = who.seq; body = body } = λ i. record { client = e1 i; seq = e2 i; body = e3 i } in
+            subst (Submitted P) same (entries b.0 z.0 b.1)
+
+    go : (b : Bool) → slice_get {X = HistoryStep} (cond b (steps_by o.1.made.wants (numbers o.1.made.tables.next (finish c.service o.1.made.job (ordered o.1.made v) o.1.made.tables.store).ends) (ordered o.1.made v)) ((Serve Inv 0, []) ∷ [])) j ≡ Some (Start who n, body) → Submitted P (record { client = who.client; seq = who.seq; body = body })
+    go true f = from (subst (λ z. StartOf z who.client who.seq body) parts.is_wants (steps_start o.1.made.wants (numbers o.1.made.tables.next (finish c.service o.1.made.job (ordered o.1.made v) o.1.made.tables.store).ends) (ordered o.1.made v) j n who body f))
+    go false f = absurd (none j f)
+      where
+        none : (j : ℕ) → slice_get {X = HistoryStep} ((Serve Inv 0, []) ∷ []) j ≡ Some (Start who n, body) → ⊥
+        none zero f = let g : false ≡ true = ap (λ (x : HistoryStep). is_start x.0) (some_same (Serve Inv 0, []) (Start who n, body) f) in cc
+        none (suc j) f = cc
+
+-- THE MIDDLE LOG
+
+record MidGrown {B : Type 0} (c : Config B) (w : World B) (codes : ℕ → List Code) (h : ℕ → List (LogFact AnyValue)) (k : Tier → ℕ → List (LogFact AnyValue)) : Type 0 where
+  core : Core c w codes h k
+  mid : Complete c.u (mid_soup w.soup) w.log
+  back : (t : Tier) → Nearly c.u (back_soup t w.soup) (w.logs t)
+
+-- the history's list of served calls is looked up as the maps say
+pub served_same : {B : Type 0} (c : Config B) (w : World B) (codes : ℕ → List Code) (h : ℕ → List (LogFact AnyValue)) (k : Tier → ℕ → List (LogFact AnyValue)) → Core c w codes h k → served_of c w ≡ (server c.service w.hist).served
+served_same c w codes h k i = λ j t n. (shown c.service w.hist i.laws.again i.ledger.legal).shows.served t n j
+
+extend_by : {B : Type 0} (c : Config B) (w : World B) (codes : ℕ → List Code) (h : ℕ → List (LogFact AnyValue)) (k : Tier → ℕ → List (LogFact AnyValue)) (v : AnyValue) → Core c w codes h k → MidOk c (past c w codes) (length w.log) v
+    → Extended c.service c.depth w.hist (w.log ++ v ∷ []) w.logs (w.hist ++ value_steps c.service c.depth w.log (server c.service w.hist).served v)
+extend_by c w codes h k (OfBack v) i o = absurd o
+extend_by c w codes h k (OfMid (Batch es)) i o = extend_batch c.service c.depth w.log w.logs w.hist es o.0 i.ledger
+extend_by c w codes h k (OfMid (Decided v)) i o = ledger_verdict c.service c.depth w.log w.logs w.hist v o.1.made o.0 o.1.is_round (is_ordered c (past c w codes) (half (length w.log)) o.1.made v o.1.by) i.ledger
+
+abbrev steps_now : {B : Type 0} → Config B → World B → AnyValue → History_
+steps_now c w v = value_steps c.service c.depth w.log (served_of c w) v
+
+extend_mid : {B : Type 0} (c : Config B) (w : World B) (codes : ℕ → List Code) (h : ℕ → List (LogFact AnyValue)) (k : Tier → ℕ → List (LogFact AnyValue)) (v : AnyValue) → Core c w codes h k → MidOk c (past c w codes) (length w.log) v
+    → Extended c.service c.depth w.hist (w.log ++ v ∷ []) w.logs (w.hist ++ steps_now c w v)
+extend_mid c w codes h k v i o = subst (λ A. Extended c.service c.depth w.hist (w.log ++ v ∷ []) w.logs (w.hist ++ value_steps c.service c.depth w.log A v)) (sym (served_same c w codes h k i)) (extend_by c w codes h k v i o)
+
+steps_start_now : {B : Type 0} (c : Config B) (w : World B) (codes : ℕ → List Code) (h : ℕ → List (LogFact AnyValue)) (k : Tier → ℕ → List (LogFact AnyValue)) (v : AnyValue) → Core c w codes h k → MidOk c (past c w codes) (length w.log) v → StartsIn (past c w codes) (steps_now c w v)
+steps_start_now c w codes h k v i o = subst (λ A. StartsIn (past c w codes) (value_steps c.service c.depth w.log A v)) (sym (served_same c w codes h k i)) (value_starts c w codes h k v i o)
+
+mid_grown : {B : Type 0} (c : Config B) (w : World B) (codes : ℕ → List Code) (h : ℕ → List (LogFact AnyValue)) (k : Tier → ℕ → List (LogFact AnyValue)) (o : Option AnyValue) → c.u < 128 → chosen_among c.u (mid_soup w.soup) (length w.log) (mid_soup w.soup) ≡ o → Core c w codes h k → NearlyDone c w → MidGrown c (mid_chosen c w o) codes h k
+mid_grown c w codes h k None few e i n = record { core = i; mid = grow_none c.u (mid_soup w.soup) w.log n.mid e; back = n.back }
+mid_grown {B} c w codes h k (Some v) few e i n =
+    let m : Meets c.u (mid_soup w.soup) (length w.log) v = chosen_now c.u (mid_soup w.soup) (length w.log) v e in
+    let ok : MidOk c (past c w codes) (length w.log) v = meets_good c.u h (mid_soup w.soup) w.log (MidOk c (past c w codes)) (length w.log) v i.mid_log m in
+    let x : Extended c.service c.depth w.hist (w.log ++ v ∷ []) w.logs (w.hist ++ steps_now c w v) = extend_mid c w codes h k v i ok in
+    record {
+      core = core_longer c w codes h k (w.log ++ v ∷ []) w.logs (w.hist ++ steps_now c w v) i (grows_to c w codes (w.log ++ v ∷ []) w.logs (w.hist ++ steps_now c w v) (more-push w.log v) x.kept) x.ledger
+          (part_some c.u h (mid_soup w.soup) w.log (MidOk c (past c w codes)) v i.mid_log m) i.back_log (starts_by c w codes h k (steps_now c w v) i (steps_start_now c w codes h k v i ok));
+      mid = grow_some c.u h (mid_soup w.soup) w.log (MidOk c (past c w codes)) v few i.mid_log n.mid m;
+      back = n.back;
+    }
+
+-- A BACKEND'S LOG
+
+by_tier : {A : Type 0} (G : Tier → A → Type 0) (f : Tier → A) (t : Tier) (a : A) → G t a → ((v : Tier) → same_tier v t ≡ false → G v (f v)) → (v : Tier) → G v (put_tier f t a v)
+by_tier {A} G f t a here there v = go (tier_cases v t)
+  where
+    go : (v ≡ t) ⊎ (same_tier v t ≡ false) → G v (put_tier f t a v)
+    go (inl e) = subst (λ z. G z (put_tier f t a z)) (sym e) (subst (G t) (sym (tier_here f t a)) here)
+    go (inr e) = subst (G v) (sym (tier_there f t a v e)) (there v e)
+
+extend_back : {B : Type 0} (c : Config B) (w : World B) (codes : ℕ → List Code) (h : ℕ → List (LogFact AnyValue)) (k : Tier → ℕ → List (LogFact AnyValue)) (t : Tier) (v : AnyValue) → same_tier t MidTier ≡ false → Core c w codes h k → BackOk c (past c w codes) t (length (w.logs t)) v
+    → Extended c.service c.depth w.hist w.log (put_tier w.logs t (w.logs t ++ v ∷ [])) (w.hist ++ back_steps t (w.logs t) v)
+extend_back c w codes h k t (OfMid v) b i o = absurd o
+extend_back c w codes h k t (OfBack (Called n text)) b i o = ledger_called c.service c.depth w.log w.logs w.hist t n text b o i.ledger
+extend_back c w codes h k t (OfBack (Settled g)) b i o = ledger_settled c.service c.depth w.log w.logs w.hist t g o.served i.ledger
+
+-- what the growth of the tier t's log leaves
+record BackGrown {B : Type 0} (c : Config B) (w : World B) (t : Tier) (codes : ℕ → List Code) (h : ℕ → List (LogFact AnyValue)) (k : Tier → ℕ → List (LogFact AnyValue)) (z : World B) : Type 0 where
+  core : Core c z codes h k
+  mid : Complete c.u (mid_soup w.soup) w.log → Complete c.u (mid_soup z.soup) z.log
+  here : Complete c.u (back_soup t z.soup) (z.logs t)
+  near : (v : Tier) → same_tier v t ≡ false → Nearly c.u (back_soup v w.soup) (w.logs v) → Nearly c.u (back_soup v z.soup) (z.logs v)
+  there : (v : Tier) → same_tier v t ≡ false → Complete c.u (back_soup v w.soup) (w.logs v) → Complete c.u (back_soup v z.soup) (z.logs v)
+
+back_grown : {B : Type 0} (c : Config B) (w : World B) (t : Tier) (codes : ℕ → List Code) (h : ℕ → List (LogFact AnyValue)) (k : Tier → ℕ → List (LogFact AnyValue)) (o : Option AnyValue) → c.u < 128 → same_tier t MidTier ≡ false → chosen_among c.u (back_soup t w.soup) (length (w.logs t)) (back_soup t w.soup) ≡ o → Core c w codes h k
+    → Nearly c.u (back_soup t w.soup) (w.logs t) → BackGrown c w t codes h k (back_chosen w t o)
+back_grown c w t codes h k None few b e i n = record { core = i; mid = λ d. d; here = grow_none c.u (back_soup t w.soup) (w.logs t) n e; near = λ v f d. d; there = λ v f d. d }
+back_grown {B} c w t codes h k (Some v) few b e i n =
+    let m : Meets c.u (back_soup t w.soup) (length (w.logs t)) v = chosen_now c.u (back_soup t w.soup) (length (w.logs t)) v e in
+    let ok : BackOk c (past c w codes) t (length (w.logs t)) v = meets_good c.u (k t) (back_soup t w.soup) (w.logs t) (BackOk c (past c w codes) t) (length (w.logs t)) v (i.back_log t) m in
+    let x : Extended c.service c.depth w.hist w.log (put_tier w.logs t (w.logs t ++ v ∷ [])) (w.hist ++ back_steps t (w.logs t) v) = extend_back c w codes h k t v b i ok in
+    record {
+      core = core_longer c w codes h k w.log (put_tier w.logs t (w.logs t ++ v ∷ [])) (w.hist ++ back_steps t (w.logs t) v) i (grows_to c w codes w.log (put_tier w.logs t (w.logs t ++ v ∷ [])) (w.hist ++ back_steps t (w.logs t) v) (more-refl w.log) x.kept) x.ledger i.mid_log
+          (by_tier (λ v K. LogPart c.u (k v) (back_soup v w.soup) K (BackOk c (past c w codes) v)) w.logs t (w.logs t ++ v ∷ []) (part_some c.u (k t) (back_soup t w.soup) (w.logs t) (BackOk c (past c w codes) t) v (i.back_log t) m) (λ v f. i.back_log v))
+          (starts_by c w codes h k (back_steps t (w.logs t) v) i (λ j n who body f. absurd (back_starts t (w.logs t) v j n who body f)));
+      mid = λ d. d;
+      here = subst (Complete c.u (back_soup t w.soup)) (sym (tier_here w.logs t (w.logs t ++ v ∷ []))) (grow_some c.u (k t) (back_soup t w.soup) (w.logs t) (BackOk c (past c w codes) t) v few (i.back_log t) n m);
+      near = λ y f d. subst (Nearly c.u (back_soup y w.soup)) (sym (tier_there w.logs t (w.logs t ++ v ∷ []) y f)) d;
+      there = λ y f d. subst (Complete c.u (back_soup y w.soup)) (sym (tier_there w.logs t (w.logs t ++ v ∷ []) y f)) d;
+    }
+
+pub grows_ok : {B : Type 0} (c : Config B) (P : Past B) (w : World B) → c.u < 128 → Mid_event c P w → WorldOk c (grows c w)
+grows_ok {B} c P w few i = record { codes = i.codes; h = i.h; k = i.k; core = p.core; done = record { mid = p.mid (n.mid m.mid); back = both } }
+  where
+    m : MidGrown c (mid_grows c w) i.codes i.h i.k
+    m = mid_grown c w i.codes i.h i.k (chosen_among c.u (mid_soup w.soup) (length w.log) (mid_soup w.soup)) few refl i.core i.near
+
+    one : World B
+    one = mid_grows c w
+
+    n : BackGrown c (mid_grows c w) Inv i.codes i.h i.k (back_grows c Inv (mid_grows c w))
+    n = back_grown c one Inv i.codes i.h i.k (chosen_among c.u (back_soup Inv one.soup) (length (one.logs Inv)) (back_soup Inv one.soup)) few refl refl m.core (m.back Inv)
+
+    two : World B
+    two = back_grows c Inv (mid_grows c w)
+
+    p : BackGrown c (back_grows c Inv (mid_grows c w)) Pay i.codes i.h i.k (grows c w)
+    p = back_grown c two Pay i.codes i.h i.k (chosen_among c.u (back_soup Pay two.soup) (length (two.logs Pay)) (back_soup Pay two.soup)) few refl refl n.core (n.near Pay refl (m.back Pay))
+
+    both : (t : Tier) → Complete c.u (back_soup t (grows c w).soup) ((grows c w).logs t)
+    both MidTier = record { at = λ p v m. absurd (let e = m.is_sent in cc) }
+    both Inv = p.there Inv refl n.here
+    both Pay = p.here

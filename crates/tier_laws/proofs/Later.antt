@@ -1,0 +1,207 @@
+-- The history grows at its end, so what is submitted later starts later.
+use Rattle.std.proofs.Common.{◌≡◌, ℕ, ◌+◌, ◌*◌, ◌<◌, ◌≤◌, List, [], ◌∷◌, ◌++◌, length, refl, sym, ap, ◌∙◌, subst, inl, inr, Option, Some, None, suc}
+use Rattle.std.specs.Prelude.{slice_get, ◌⊎◌, ◌==◌, ◌&&◌, not, nat_lt, nat_le}
+use Rattle.std.proofs.lemmas.Bool.{cond_both, cases_lt}
+use Rattle.aeg_base.specs.declared.names.ReqId.{ReqId}
+use Rattle.aeg_base.specs.declared.names.Tier.{Tier}
+use Rattle.aeg_base.specs.declared.names.Tier.TheVariants.{Mid as MidTier, Inv, Pay}
+use Rattle.aeg_base.specs.declared.names.End.{End}
+use Rattle.aeg_base.specs.declared.names.End.TheVariants.{Node as OfNode, Client}
+use Rattle.server_model.specs.declared.history.Hist.TheVariants.{Start}
+use Rattle.log_model.specs.Chosen.{chosen_among}
+use Rattle.log_model.specs.World.{Device, Mode, Node, stands}
+use Rattle.log_model.specs.World.Mode.{Down, Gone, Up}
+use Rattle.log_values.specs.declared.fact.Fact.{Fact}
+use Rattle.log_values.specs.declared.any_value.AnyValue.{AnyValue}
+use Rattle.frames.specs.declared.message.Msg.{Msg}
+use Rattle.frames.specs.declared.message.Msg.TheVariants as msgs
+use Rattle.round_model.specs.Lists.{is_some}
+use Rattle.round_model.specs.Service.{is_request}
+use Rattle.tier_model.specs.Mid.{Mid}
+use Rattle.tier_model.specs.MidRows.{Running}
+use Rattle.tier_model.specs.MidRows as mids
+use Rattle.tier_model.specs.BackRows as backs
+use Rattle.tier_model.specs.Back.{Back}
+use Rattle.tier_model.specs.Moves.{Move, Packet}
+use Rattle.run_model.specs.declared.trace.Fared.{Fared}
+use Rattle.run_model.specs.declared.trace.Found.{Found}
+use Rattle.run_model.specs.declared.trace.TraceEvent.{TraceEvent}
+use Rattle.run_model.specs.declared.trace.TraceEvent.TheVariants.{Submit, Deliver, Short, Lead, Offer, Work, Retry, Crash, Restart, Wipe}
+use Rattle.run_model.specs.World.{Config, World, start, fate, unwritten, no_run, crashed, restarted, at_mid, mid_up, at_back, back_up, mid_node, back_node, with_mid, with_back, opens, is_client_number, submits, reopens, takes_reply, client_gets, node_gets, arrives, delivered, shortened, leads, offers, works, node_retries, retries, crashes, restarts, wipes, can_fare, if_can, happens}
+use Rattle.run_model.specs.Runs.{back_chosen, back_grows, grows, mid_chosen, mid_grows, run, world}
+use Rattle.run_model.specs.Histories.{HistoryStep}
+use Rattle.tier_laws.specs.Said.{Laws}
+use Rattle.tier_laws.proofs.Events.{world_ok}
+use Rattle.tier_laws.proofs.Ledger.{get-left}
+use Rattle.tier_laws.proofs.Legal.{get_within}
+use Rattle.tier_laws.proofs.Past.{more-refl}
+use Rattle.tier_laws.proofs.Soups.{mid_soup, back_soup}
+use Rattle.tier_laws.proofs.Stable.{MoreLog}
+
+-- AN EVENT LEAVES WHAT WAS CHOSEN
+
+pub record Keeps {B : Type 0} (w z : World B) : Type 0 where
+  pub hist : z.hist ≡ w.hist
+  pub log : z.log ≡ w.log
+
+keeps_refl : {B : Type 0} (w : World B) → Keeps w w
+keeps_refl w = record { hist = refl; log = refl }
+
+mid_up_keeps : {B : Type 0} (w : World B) (x : ℕ) (d : List (List Fact) → List Fact → Device) (move : Mid → Move Mid) (r : Mid → Option Running) (m : Mode Mid) → Keeps w (mid_up w x d move r m)
+mid_up_keeps w x d move r (Up σ) = record { hist = refl; log = refl }
+mid_up_keeps w x d move r Down = keeps_refl w
+mid_up_keeps w x d move r Gone = keeps_refl w
+
+at_mid_keeps : {B : Type 0} (c : Config B) (w : World B) (x : ℕ) (d : List (List Fact) → List Fact → Device) (move : Mid → Move Mid) (r : Mid → Option Running) → Keeps w (at_mid c w x d move r)
+at_mid_keeps c w x d move r = cond_both (nat_lt x (2 * c.u + 1)) (mid_up w x d move r (w.mids x).mode) w (Keeps w) (λ e. mid_up_keeps w x d move r (w.mids x).mode) (λ e. keeps_refl w)
+
+back_up_keeps : {B : Type 0} (w : World B) (t : Tier) (x : ℕ) (d : List (List Fact) → List Fact → Device) (move : Back B → Move (Back B)) (m : Mode (Back B)) → Keeps w (back_up w t x d move m)
+back_up_keeps w t x d move (Up σ) = record { hist = refl; log = refl }
+back_up_keeps w t x d move Down = keeps_refl w
+back_up_keeps w t x d move Gone = keeps_refl w
+
+at_back_keeps : {B : Type 0} (c : Config B) (w : World B) (t : Tier) (x : ℕ) (d : List (List Fact) → List Fact → Device) (move : Back B → Move (Back B)) → Keeps w (at_back c w t x d move)
+at_back_keeps c w t x d move = cond_both (nat_lt x (2 * c.u + 1)) (back_up w t x d move (w.backs t x).mode) w (Keeps w) (λ e. back_up_keeps w t x d move (w.backs t x).mode) (λ e. keeps_refl w)
+
+mid_node_keeps : {B : Type 0} (c : Config B) (w : World B) (x : ℕ) (node : Node Mid Fact) → Keeps w (mid_node c w x node)
+mid_node_keeps c w x node = cond_both (nat_lt x (2 * c.u + 1)) (with_mid w x node [] []) w (Keeps w) (λ e. record { hist = refl; log = refl }) (λ e. keeps_refl w)
+
+back_node_keeps : {B : Type 0} (c : Config B) (w : World B) (t : Tier) (x : ℕ) (node : Node (Back B) Fact) → Keeps w (back_node c w t x node)
+back_node_keeps c w t x node = cond_both (nat_lt x (2 * c.u + 1)) (with_back w t x node []) w (Keeps w) (λ e. record { hist = refl; log = refl }) (λ e. keeps_refl w)
+
+takes_keeps : {B : Type 0} (w : World B) (y s : ℕ) (text : List ℕ) → Keeps w (takes_reply w y s text)
+takes_keeps w y s text = cond_both (is_some (w.clients y).opened && (s == (w.clients y).last)) _ w (Keeps w) (λ e. record { hist = refl; log = refl }) (λ e. keeps_refl w)
+
+submits_keeps : {B : Type 0} (c : Config B) (w : World B) (y : ℕ) (text : List ℕ) → Keeps w (submits c w y text)
+submits_keeps c w y text = cond_both (is_client_number y && (is_request c.service (record { client = y; seq = suc (w.clients y).last }) text && (not (is_some (w.clients y).opened) && nat_lt (w.clients y).last 65536))) (opens c.u w y text) w (Keeps w) (λ e. record { hist = refl; log = refl }) (λ e. keeps_refl w)
+
+reopens_keeps : {B : Type 0} (c : Config B) (w : World B) (y : ℕ) (o : Option (List ℕ)) → Keeps w (reopens c w y o)
+reopens_keeps c w y None = keeps_refl w
+reopens_keeps c w y (Some text) = record { hist = refl; log = refl }
+
+client_keeps : {B : Type 0} (w : World B) (y : ℕ) (message : Msg) → Keeps w (client_gets w y message)
+client_keeps w y (msgs.Reply who text) = takes_keeps w y who.seq text
+client_keeps w y (msgs.Log p) = keeps_refl w
+client_keeps w y (msgs.Request seq text) = keeps_refl w
+client_keeps w y (msgs.Token r token order) = keeps_refl w
+client_keeps w y (msgs.Call n text) = keeps_refl w
+client_keeps w y (msgs.Answer n code) = keeps_refl w
+client_keeps w y (msgs.Have t n code) = keeps_refl w
+client_keeps w y (msgs.Settle g) = keeps_refl w
+
+node_gets_keeps : {B : Type 0} (c : Config B) (w : World B) (fared : Fared) (from : End) (message : Msg) (t : Tier) (x : ℕ) → Keeps w (node_gets c w fared from message t x)
+node_gets_keeps c w fared from message MidTier x = at_mid_keeps c w x (fate c fared) (λ σ. mids.on_frame c.u c.service x σ from message) no_run
+node_gets_keeps c w fared from message Inv x = at_back_keeps c w Inv x (fate c fared) (λ σ. backs.on_frame c.u c.service Inv x σ from message)
+node_gets_keeps c w fared from message Pay x = at_back_keeps c w Pay x (fate c fared) (λ σ. backs.on_frame c.u c.service Pay x σ from message)
+
+arrives_keeps : {B : Type 0} (c : Config B) (w : World B) (fared : Fared) (from : End) (message : Msg) (to : End) → Keeps w (arrives c w fared from message to)
+arrives_keeps c w fared from message (OfNode n) = node_gets_keeps c w fared from message n.tier n.index
+arrives_keeps c w fared from message (Client y) = client_keeps w y message
+
+delivered_keeps : {B : Type 0} (c : Config B) (w : World B) (fared : Fared) (o : Option Packet) → Keeps w (delivered c w fared o)
+delivered_keeps c w fared None = keeps_refl w
+delivered_keeps c w fared (Some k) = arrives_keeps c w fared k.from k.message k.to
+
+shortened_keeps : {B : Type 0} (c : Config B) (w : World B) (fared : Fared) (bytes : ℕ) (o : Option Packet) → Keeps w (shortened c w fared bytes o)
+shortened_keeps c w fared bytes None = keeps_refl w
+shortened_keeps c w fared bytes (Some k) = cond_both (nat_le (c.frame_length k.from k.message) bytes) (arrives c w fared k.from k.message k.to) w (Keeps w) (λ e. arrives_keeps c w fared k.from k.message k.to) (λ e. keeps_refl w)
+
+lead_keeps : {B : Type 0} (c : Config B) (w : World B) (fared : Fared) (t : Tier) (x : ℕ) → Keeps w (leads c w fared t x)
+lead_keeps c w fared MidTier x = at_mid_keeps c w x (fate c fared) (λ σ. mids.leads c.u c.service x σ) no_run
+lead_keeps c w fared Inv x = at_back_keeps c w Inv x (fate c fared) (λ σ. backs.leads c.u c.service Inv x σ)
+lead_keeps c w fared Pay x = at_back_keeps c w Pay x (fate c fared) (λ σ. backs.leads c.u c.service Pay x σ)
+
+offer_keeps : {B : Type 0} (c : Config B) (w : World B) (fared : Fared) (t : Tier) (x : ℕ) → Keeps w (offers c w fared t x)
+offer_keeps c w fared MidTier x = at_mid_keeps c w x (fate c fared) (λ σ. mids.offers c.u c.service x σ) no_run
+offer_keeps c w fared Inv x = at_back_keeps c w Inv x (fate c fared) (λ σ. backs.offers c.u c.service Inv x σ)
+offer_keeps c w fared Pay x = at_back_keeps c w Pay x (fate c fared) (λ σ. backs.offers c.u c.service Pay x σ)
+
+work_keeps : {B : Type 0} (c : Config B) (w : World B) (t : Tier) (x : ℕ) (schedule : List ℕ) → Keeps w (works c w t x schedule)
+work_keeps c w MidTier x schedule = at_mid_keeps c w x unwritten (λ σ. mids.work c.u c.service x σ schedule) (λ σ. mids.work_run c.u c.service x σ schedule)
+work_keeps c w Inv x schedule = keeps_refl w
+work_keeps c w Pay x schedule = keeps_refl w
+
+node_retry_keeps : {B : Type 0} (c : Config B) (w : World B) (t : Tier) (x : ℕ) → Keeps w (node_retries c w t x)
+node_retry_keeps c w MidTier x = at_mid_keeps c w x unwritten (λ σ. mids.retry c.u x σ) no_run
+node_retry_keeps c w Inv x = at_back_keeps c w Inv x unwritten (λ σ. backs.retry c.u Inv x σ)
+node_retry_keeps c w Pay x = at_back_keeps c w Pay x unwritten (λ σ. backs.retry c.u Pay x σ)
+
+retry_keeps : {B : Type 0} (c : Config B) (w : World B) (end : End) → Keeps w (retries c w end)
+retry_keeps c w (OfNode n) = node_retry_keeps c w n.tier n.index
+retry_keeps c w (Client y) = reopens_keeps c w y (w.clients y).opened
+
+crash_keeps : {B : Type 0} (c : Config B) (w : World B) (t : Tier) (x : ℕ) → Keeps w (crashes c w t x)
+crash_keeps c w MidTier x = mid_node_keeps c w x (crashed (w.mids x) (w.mids x).mode)
+crash_keeps c w Inv x = back_node_keeps c w Inv x (crashed (w.backs Inv x) (w.backs Inv x).mode)
+crash_keeps c w Pay x = back_node_keeps c w Pay x (crashed (w.backs Pay x) (w.backs Pay x).mode)
+
+restart_keeps : {B : Type 0} (c : Config B) (w : World B) (found : Found) (t : Tier) (x : ℕ) → Keeps w (restarts c w found t x)
+restart_keeps c w found MidTier x = mid_node_keeps c w x (restarted (mids.recovered c.u c.service c.depth) (w.mids x) found (w.mids x).mode)
+restart_keeps c w found Inv x = back_node_keeps c w Inv x (restarted (backs.recovered c.u c.service Inv) (w.backs Inv x) found (w.backs Inv x).mode)
+restart_keeps c w found Pay x = back_node_keeps c w Pay x (restarted (backs.recovered c.u c.service Pay) (w.backs Pay x) found (w.backs Pay x).mode)
+
+wipe_keeps : {B : Type 0} (c : Config B) (w : World B) (t : Tier) (x : ℕ) → Keeps w (wipes c w t x)
+wipe_keeps c w MidTier x = mid_node_keeps c w x (stands Gone [])
+wipe_keeps c w Inv x = back_node_keeps c w Inv x (stands Gone [])
+wipe_keeps c w Pay x = back_node_keeps c w Pay x (stands Gone [])
+
+if_can_keeps : {B : Type 0} (fared : Fared) (new w : World B) → Keeps w new → Keeps w (if_can fared new w)
+if_can_keeps fared new w k = cond_both (can_fare fared) new w (Keeps w) (λ e. k) (λ e. keeps_refl w)
+
+pub happens_keeps : {B : Type 0} (c : Config B) (w : World B) (e : TraceEvent) → Keeps w (happens c w e)
+happens_keeps c w (Submit y text) = submits_keeps c w y text
+happens_keeps c w (Deliver k fared) = if_can_keeps fared _ w (delivered_keeps c w fared (slice_get w.soup k))
+happens_keeps c w (Short k bytes fared) = if_can_keeps fared _ w (shortened_keeps c w fared bytes (slice_get w.soup k))
+happens_keeps c w (Lead n fared) = if_can_keeps fared _ w (lead_keeps c w fared n.tier n.index)
+happens_keeps c w (Offer n fared) = if_can_keeps fared _ w (offer_keeps c w fared n.tier n.index)
+happens_keeps c w (Work n schedule) = work_keeps c w n.tier n.index schedule
+happens_keeps c w (Retry end) = retry_keeps c w end
+happens_keeps c w (Crash n) = crash_keeps c w n.tier n.index
+happens_keeps c w (Restart n found) = restart_keeps c w found n.tier n.index
+happens_keeps c w (Wipe n) = wipe_keeps c w n.tier n.index
+
+-- A RUN GOES ON
+
+mid_longer : {B : Type 0} (c : Config B) (w : World B) (o : Option AnyValue) → MoreLog w.hist (mid_chosen c w o).hist
+mid_longer c w None = more-refl w.hist
+mid_longer c w (Some v) = record { at = λ i k e. get-left w.hist _ i k e }
+
+back_longer : {B : Type 0} (w : World B) (t : Tier) (o : Option AnyValue) → MoreLog w.hist (back_chosen w t o).hist
+back_longer w t None = more-refl w.hist
+back_longer w t (Some v) = record { at = λ i k e. get-left w.hist _ i k e }
+
+-- a run goes on from its history
+pub run_longer : {B : Type 0} (c : Config B) (es : List TraceEvent) (w : World B) → MoreLog w.hist (run c es w).hist
+run_longer c [] w = more-refl w.hist
+run_longer {B} c (e ∷ es) w = record { at = λ i k f. (run_longer c es (grows c (happens c w e))).at i k ((three i k) (two i k (one i k (subst (λ h. slice_get h i ≡ Some k) (sym (happens_keeps c w e).hist) f)))) }
+  where
+    one : (i : ℕ) (k : HistoryStep) → slice_get (happens c w e).hist i ≡ Some k → slice_get (mid_grows c (happens c w e)).hist i ≡ Some k
+    one i k f = (mid_longer c (happens c w e) (chosen_among c.u (mid_soup (happens c w e).soup) (length (happens c w e).log) (mid_soup (happens c w e).soup))).at i k f
+
+    two : (i : ℕ) (k : HistoryStep) → slice_get (mid_grows c (happens c w e)).hist i ≡ Some k → slice_get (back_grows c Inv (mid_grows c (happens c w e))).hist i ≡ Some k
+    two i k f = (back_longer (mid_grows c (happens c w e)) Inv (chosen_among c.u (back_soup Inv (mid_grows c (happens c w e)).soup) (length ((mid_grows c (happens c w e)).logs Inv)) (back_soup Inv (mid_grows c (happens c w e)).soup))).at i k f
+
+    three : (i : ℕ) (k : HistoryStep) → slice_get (back_grows c Inv (mid_grows c (happens c w e))).hist i ≡ Some k → slice_get (grows c (happens c w e)).hist i ≡ Some k
+    three i k f = (back_longer (back_grows c Inv (mid_grows c (happens c w e))) Pay (chosen_among c.u (back_soup Pay (back_grows c Inv (mid_grows c (happens c w e))).soup) (length ((back_grows c Inv (mid_grows c (happens c w e))).logs Pay)) (back_soup Pay (back_grows c Inv (mid_grows c (happens c w e))).soup))).at i k f
+
+pub run-append : {B : Type 0} (c : Config B) (es fs : List TraceEvent) (w : World B) → run c (es ++ fs) w ≡ run c fs (run c es w)
+run-append c [] fs w = refl
+run-append c (e ∷ es) fs w = run-append c es fs (grows c (happens c w e))
+
+pub hist_later : {B : Type 0} (c : Config B) (es fs : List TraceEvent) (i : ℕ) (k : HistoryStep) → slice_get (world c es).hist i ≡ Some k → slice_get (world c (es ++ fs)).hist i ≡ Some k
+hist_later {B} c es fs i k e = ap (λ (z : World B). slice_get z.hist i) (run-append c es fs start) ∙ (run_longer c fs (world c es)).at i k e
+
+-- a start that was not submitted after es stands past the history of es
+pub starts_later : {B : Type 0} (c : Config B) (es fs : List TraceEvent) (i n : ℕ) (who : ReqId) (body : List ℕ) → c.u < 128 → Laws c.service → slice_get (world c (es ++ fs)).hist i ≡ Some (Start who n, body)
+    → ((j : ℕ) (text : List ℕ) → slice_get (world c es).submitted j ≡ Some (record { client = who.client; seq = who.seq; body = text }) → ⊥) → length (world c es).hist ≤ i
+starts_later {B} c es fs i n who body few laws e new = go (cases_lt i (length (world c es).hist))
+  where
+    go : (i < length (world c es).hist) ⊎ (length (world c es).hist ≤ i) → length (world c es).hist ≤ i
+    go (inr l) = l
+    go (inl l) =
+        let k = get_within (world c es).hist i l in
+        let f : slice_get (world c (es ++ fs)).hist i ≡ Some k.0 = ap (λ (z : World B). slice_get z.hist i) (run-append c es fs start) ∙ (run_longer c fs (world c es)).at i k.0 k.1 in
+        let same : k.0 ≡ (Start who n, body) = cc in
+        let g : slice_get (world c es).hist i ≡ Some (Start who n, body) = k.1 ∙ ap Some same in
+        let r = (world_ok c es few laws).core.starts i n who body g in
+        absurd (new r.0 body r.1)

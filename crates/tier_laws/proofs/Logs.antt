@@ -1,0 +1,144 @@
+-- One tier's log inside a larger world: a turn of the log, and the chosen log that grows at its end.
+use Rattle.std.proofs.Common.{◌≡◌, ℕ, ◌+◌, ◌*◌, ◌<◌, ◌≤◌, true, List, [], ◌∷◌, ◌++◌, length, sym, ap, ◌∙◌, subst, inl, inr, Some, None, zero, suc, arith}
+use Rattle.std.specs.Prelude.{slice_get, ◌⊎◌}
+use Rattle.std.proofs.lemmas.Bool.{cases_lt}
+use Rattle.aeg_base.specs.declared.names.Ballot.{Ballot}
+use Rattle.log_model.proofs.Agree.{agree, meets_voted}
+use Rattle.log_model.proofs.Basics.{every-append}
+use Rattle.log_model.proofs.Chosen.{IsSomething, meets_now, now_meets}
+use Rattle.log_model.proofs.History.{DidVote, opening, votes_below}
+use Rattle.log_model.proofs.Invariant.{AllGrew, posted, sends-grew, History, PacketOk, Rest, SoupGrew, TurnOk, all_same, packets-grew, soup-append, soup-refl}
+use Rattle.log_model.proofs.Soup.{meets-append}
+use Rattle.log_model.proofs.Step.{grown, histories, put_each, put_same}
+use Rattle.log_model.specs.Chosen.{Meets, chosen_among, is_reached}
+use Rattle.log_model.specs.Log.{Turn}
+use Rattle.log_model.specs.Recover.{learned_in, onto}
+use Rattle.log_model.specs.declared.message.PaxMsg.TheVariants.{Accepted}
+use Rattle.log_model.specs.World.{packets_of, Packet as LogPacket, put}
+use Rattle.log_model.specs.declared.fact.Fact.{Fact as LogFact}
+use Rattle.tier_laws.proofs.Ledger.{get-end, get-last, get-left}
+use Rattle.tier_laws.proofs.Legal.{get_within, within_get}
+
+pub record LogPart {V : Type 0} (u : ℕ) (H : ℕ → List (LogFact V)) (soup : List (LogPacket V)) (L : List V) (G : ℕ → V → Type 0) : Type 0 where
+  pub history : History u H soup
+  pub good : (x : ℕ) → x < 2 * u + 1 → (p : ℕ) (b : Ballot) (v : V) → DidVote (H x) p b v → G p v
+  pub sound : (p : ℕ) (v : V) → slice_get L p ≡ Some v → Meets u soup p v
+
+pub record Complete {V : Type 0} (u : ℕ) (soup : List (LogPacket V)) (L : List V) : Type 0 where
+  pub at : (p : ℕ) (v : V) → Meets u soup p v → slice_get L p ≡ Some v
+
+-- but for the next position
+pub record Nearly {V : Type 0} (u : ℕ) (soup : List (LogPacket V)) (L : List V) : Type 0 where
+  pub at : (p : ℕ) (v : V) → Meets u soup p v → (slice_get L p ≡ Some v) ⊎ (p ≡ length L)
+
+pub nearly : {V : Type 0} (u : ℕ) (soup : List (LogPacket V)) (L : List V) → Complete u soup L → Nearly u soup L
+nearly u soup L k = record { at = λ p v m. inl (k.at p v m) }
+
+pub log_weaker : {V : Type 0} (u : ℕ) (H : ℕ → List (LogFact V)) (soup : List (LogPacket V)) (L : List V) (G F : ℕ → V → Type 0) → ((p : ℕ) (v : V) → G p v → F p v) → LogPart u H soup L G → LogPart u H soup L F
+log_weaker u H soup L G F f k = record { history = k.history; sound = k.sound; good = λ x l p b v d. f p v (k.good x l p b v d) }
+
+good_put : {V : Type 0} (u : ℕ) (H : ℕ → List (LogFact V)) (x : ℕ) (F : List (LogFact V)) (G : ℕ → V → Type 0) → ((p : ℕ) (b : Ballot) (v : V) → DidVote F p b v → G p v) → ((y : ℕ) → y < 2 * u + 1 → (p : ℕ) (b : Ballot) (v : V) → DidVote (H y) p b v → G p v)
+    → (y : ℕ) → y < 2 * u + 1 → (p : ℕ) (b : Ballot) (v : V) → DidVote (put H x F y) p b v → G p v
+good_put {V} u H x F G f k = put_each (λ y E. y < 2 * u + 1 → (p : ℕ) (b : Ballot) (v : V) → DidVote E p b v → G p v) H x F (λ l p b v d. f p b v d) (λ y e l. k y l)
+
+-- a turn whose record is kept and whose packets are sent
+pub turn_log : {V : Type 0} (u : ℕ) (H : ℕ → List (LogFact V)) (soup : List (LogPacket V)) (L : List V) (G : ℕ → V → Type 0) (x : ℕ) (t : Turn V) → LogPart u H soup L G → TurnOk u H soup x t → ((p : ℕ) (b : Ballot) (v : V) → DidVote (onto t.facts (H x)) p b v → G p v)
+    → LogPart u (put H x (onto t.facts (H x))) (soup ++ packets_of x t.sends) L G
+turn_log {V} u H soup L G x t k ok new = record {
+  history = histories u H soup (soup ++ packets_of x t.sends) x t k.history s ok.orderly r
+      (every-append (PacketOk u g (soup ++ packets_of x t.sends)) soup (packets_of x t.sends)
+      (packets-grew u H g soup (soup ++ packets_of x t.sends) soup m s k.history.packets)
+      (posted u g (soup ++ packets_of x t.sends) x t.sends (sends-grew u g g soup (soup ++ packets_of x t.sends) x t.sends (all_same g) s r.sends)));
+  good = good_put u H x (onto t.facts (H x)) G new k.good;
+  sound = λ p v e. s.meets p v (k.sound p v e);
+}
+  where
+    g : ℕ → List (LogFact V)
+    g = put H x (onto t.facts (H x))
+
+    m : AllGrew H g
+    m = grown H x t.facts ok.orderly
+
+    s : SoupGrew u soup (soup ++ packets_of x t.sends)
+    s = soup-append u soup (packets_of x t.sends)
+
+    r : Rest u g (onto t.facts (H x)) soup x t
+    r = ok.rest g (put_same H x (onto t.facts (H x))) m
+
+-- the same where nothing is sent
+pub write_log : {V : Type 0} (u : ℕ) (H : ℕ → List (LogFact V)) (soup : List (LogPacket V)) (L : List V) (G : ℕ → V → Type 0) (x : ℕ) (t : Turn V) → LogPart u H soup L G → TurnOk u H soup x t → ((p : ℕ) (b : Ballot) (v : V) → DidVote (onto t.facts (H x)) p b v → G p v)
+    → LogPart u (put H x (onto t.facts (H x))) soup L G
+write_log {V} u H soup L G x t k ok new = record {
+  history = histories u H soup soup x t k.history (soup-refl u soup) ok.orderly (ok.rest g (put_same H x (onto t.facts (H x))) m) (packets-grew u H g soup soup soup m (soup-refl u soup) k.history.packets);
+  good = good_put u H x (onto t.facts (H x)) G new k.good;
+  sound = k.sound;
+}
+  where
+    g : ℕ → List (LogFact V)
+    g = put H x (onto t.facts (H x))
+
+    m : AllGrew H g
+    m = grown H x t.facts ok.orderly
+
+-- what is learned after the turn was chosen before it
+learned_before : {V : Type 0} (u : ℕ) (H : ℕ → List (LogFact V)) (soup : List (LogPacket V)) (x : ℕ) (t : Turn V) → History u H soup → TurnOk u H soup x t → (y : ℕ) → y < 2 * u + 1 → (p : ℕ) (v : V) → slice_get (learned_in (put H x (onto t.facts (H x)) y)) p ≡ Some v → Meets u soup p v
+learned_before {V} u H soup x t k ok = put_each (λ y F. y < 2 * u + 1 → (p : ℕ) (v : V) → slice_get (learned_in F) p ≡ Some v → Meets u soup p v) H x (onto t.facts (H x))
+    (λ l p v e. (ok.rest (put H x (onto t.facts (H x))) (put_same H x (onto t.facts (H x))) (grown H x t.facts ok.orderly)).learned p v e) (λ y e l p v f. k.learned y l p v f)
+
+pub turn_nearly : {V : Type 0} (u : ℕ) (H : ℕ → List (LogFact V)) (soup : List (LogPacket V)) (L : List V) (G : ℕ → V → Type 0) (x : ℕ) (t : Turn V) → u < 128 → LogPart u H soup L G → Complete u soup L → TurnOk u H soup x t
+    → History u (put H x (onto t.facts (H x))) (soup ++ packets_of x t.sends) → Nearly u (soup ++ packets_of x t.sends) L
+turn_nearly {V} u H soup L G x t few k c ok new = record { at = λ p v m. at p v m (cases_lt p (length L)) }
+  where
+    at : (p : ℕ) (v : V) → Meets u (soup ++ packets_of x t.sends) p v → (p < length L) ⊎ (length L ≤ p) → (slice_get L p ≡ Some v) ⊎ (p ≡ length L)
+    at p v m (inl l) =
+        let w = get_within L p l in
+        let e : w.0 ≡ v = agree u (put H x (onto t.facts (H x))) (soup ++ packets_of x t.sends) few new p w.0 v (meets-append u soup (packets_of x t.sends) p w.0 (k.sound p w.0 w.1)) m in
+        inl (w.1 ∙ ap Some e)
+    at zero v m (inr l) = inr (omega arith)
+    at (suc q) v m (inr l) = past (cases_lt q (length L))
+      where
+        a : (y : ℕ) × (y < 2 * u + 1) × DidVote (put H x (onto t.facts (H x)) y) (suc q) m.ballot v
+        a = meets_voted u (put H x (onto t.facts (H x))) (soup ++ packets_of x t.sends) new (suc q) v m
+
+        past : (q < length L) ⊎ (length L ≤ q) → (slice_get L (suc q) ≡ Some v) ⊎ (suc q ≡ length L)
+        past (inl h) = inr (omega arith)
+        past (inr h) =
+            let below : suc q ≤ opening (put H x (onto t.facts (H x)) a.0) = (votes_below (put H x (onto t.facts (H x)) a.0) (suc q) m.ballot v (new.orderly a.0 a.1) a.2).0 in
+            let w = get_within (learned_in (put H x (onto t.facts (H x)) a.0)) q below in
+            let e : slice_get L q ≡ Some w.0 = c.at q w.0 (learned_before u H soup x t k.history ok a.0 a.1 q w.0 w.1) in
+            absurd (omega (arith, within_get L q w.0 e))
+
+-- THE LOG GROWS
+
+pub grow_none : {V : Type 0} (u : ℕ) (soup : List (LogPacket V)) (L : List V) → Nearly u soup L → chosen_among u soup (length L) soup ≡ None → Complete u soup L
+grow_none {V} u soup L k none = record { at = λ p v m. go p v m (k.at p v m) }
+  where
+    go : (p : ℕ) (v : V) → Meets u soup p v → (slice_get L p ≡ Some v) ⊎ (p ≡ length L) → slice_get L p ≡ Some v
+    go p v m (inl e) = e
+    go p v m (inr e) =
+        let f : m.packet.msg ≡ Accepted m.ballot (length L) v = subst (λ z. m.packet.msg ≡ Accepted m.ballot z v) e m.is_accepted in
+        let s : IsSomething (chosen_among u soup (length L) soup) = meets_now u soup (length L) soup m.place m.packet m.ballot v m.is_sent f (subst (λ z. is_reached u soup z m.ballot ≡ true) e m.is_reached_by) in
+        absurd (let h = s.1 in cc)
+
+pub chosen_now : {V : Type 0} (u : ℕ) (soup : List (LogPacket V)) (p : ℕ) (v : V) → chosen_among u soup p soup ≡ Some v → Meets u soup p v
+chosen_now u soup p v e = now_meets u soup p soup v (λ j k f. (j, f)) e
+
+pub grow_some : {V : Type 0} (u : ℕ) (H : ℕ → List (LogFact V)) (soup : List (LogPacket V)) (L : List V) (G : ℕ → V → Type 0) (v : V) → u < 128 → LogPart u H soup L G → Nearly u soup L → Meets u soup (length L) v → Complete u soup (L ++ v ∷ [])
+grow_some {V} u H soup L G v few k n m = record { at = λ p w a. go p w a (n.at p w a) }
+  where
+    go : (p : ℕ) (w : V) → Meets u soup p w → (slice_get L p ≡ Some w) ⊎ (p ≡ length L) → slice_get (L ++ v ∷ []) p ≡ Some w
+    go p w a (inl e) = get-left L (v ∷ []) p w e
+    go p w a (inr e) =
+        let same : v ≡ w = agree u H soup few k.history (length L) v w m (subst (λ z. Meets u soup z w) e a) in
+        ap (slice_get (L ++ v ∷ [])) e ∙ get-end L v ∙ ap Some same
+
+pub part_some : {V : Type 0} (u : ℕ) (H : ℕ → List (LogFact V)) (soup : List (LogPacket V)) (L : List V) (G : ℕ → V → Type 0) (v : V) → LogPart u H soup L G → Meets u soup (length L) v → LogPart u H soup (L ++ v ∷ []) G
+part_some {V} u H soup L G v k m = record { history = k.history; good = k.good; sound = λ p w e. go p w (get-last L v p w e) }
+  where
+    go : (p : ℕ) (w : V) → (slice_get L p ≡ Some w) ⊎ ((p ≡ length L) × (v ≡ w)) → Meets u soup p w
+    go p w (inl e) = k.sound p w e
+    go p w (inr e) = subst (λ z. Meets u soup z w) (sym e.0) (subst (Meets u soup (length L)) e.1 m)
+
+-- a value that is chosen was voted for, so it is good
+pub meets_good : {V : Type 0} (u : ℕ) (H : ℕ → List (LogFact V)) (soup : List (LogPacket V)) (L : List V) (G : ℕ → V → Type 0) (p : ℕ) (v : V) → LogPart u H soup L G → Meets u soup p v → G p v
+meets_good u H soup L G p v k m = let a = meets_voted u H soup k.history p v m in k.good a.0 a.1 p m.ballot v a.2

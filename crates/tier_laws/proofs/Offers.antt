@@ -1,0 +1,249 @@
+-- What a middle node offers of its own, and what a retry sends.
+use Rattle.std.proofs.Common.{◌≡◌, ℕ, ◌+◌, ◌*◌, ◌-◌, ◌<◌, ◌≤◌, Bool, true, false, cond, List, [], ◌∷◌, ◌++◌, length, refl, sym, ap, ◌∙◌, subst, inl, inr, Option, Some, None, zero, suc, arith}
+use Rattle.std.specs.Prelude.{slice_get, ◌⊎◌, ◌==◌, ◌&&◌, not, nat_lt, nat_le, take, drop}
+use Rattle.std.proofs.lemmas.Bool.{cond-true, cond_both, eq-eqb, cases_eq}
+use Rattle.aeg_base.specs.declared.names.Tier.{Tier}
+use Rattle.log_model.proofs.Basics.{Every, every-append}
+use Rattle.log_model.proofs.Rows.{still}
+use Rattle.log_model.specs.Log.{Leader, LogState, is, nobody, open_at}
+use Rattle.log_model.specs.Rows.{lead, offer}
+use Rattle.log_model.specs.declared.fact.Fact.{Fact as LogFact}
+use Rattle.log_values.specs.declared.any_value.AnyValue.{AnyValue}
+use Rattle.log_values.specs.declared.any_value.AnyValue.TheVariants.{Mid as OfMid}
+use Rattle.log_values.specs.declared.entry.Entry.{Entry}
+use Rattle.log_values.specs.declared.mid_value.MidValue.TheVariants.{Batch, Verdict as Decided}
+use Rattle.round_model.specs.Answers.{Code, code_of, insert, least_open, sorted}
+use Rattle.round_model.specs.Lists.{and_then, concat, each, half, is_nil, is_some, odd}
+use Rattle.round_model.specs.Service.{Service}
+use Rattle.round_model.specs.Tables.{pending_of, Parked, Tables, fresh_pending, if_fresh, is_fresh}
+use Rattle.round_model.specs.Verdicts.{verdict}
+use Rattle.run_model.specs.World.{Config}
+use Rattle.server_model.specs.Server.{same_tier}
+use Rattle.tier_laws.proofs.Lists.{tier_same}
+use Rattle.tier_laws.proofs.Apply.{every-each}
+use Rattle.tier_laws.proofs.Moves.{Here, MoveOk, knows}
+use Rattle.tier_laws.proofs.Past.{BatchOk, FloorOk, Known, MidOk, MidOther, SentOk, Past, holds, other-more}
+use Rattle.tier_laws.proofs.Stable.{then_parts}
+use Rattle.tier_laws.proofs.Verdicts.{usable_ok, verdict_ok}
+use Rattle.tier_laws.proofs.Wants.{get_cases}
+use Rattle.aeg_base.specs.declared.names.Tier.TheVariants.{Mid as MidTier, Inv, Pay}
+use Rattle.tier_laws.proofs.Soups.{mid_soup, back_soup, nil, mid_soup-append, back_soup-append, NoLog, no_mid, no_back, none_nil, none_append, none_each, mid_soup-log, back_soup-mid, every-log}
+use Rattle.tier_model.specs.Mid.{Mid, calls_to}
+use Rattle.log_model.specs.declared.message.PaxMsg.TheVariants.{Ask}
+use Rattle.log_model.specs.declared.turn.Offering.{Offering}
+use Rattle.log_model.specs.declared.turn.Offering.TheVariants.{NotLeader, NoPromises, InFlight, LogFull, Taken, Free}
+use Rattle.log_model.specs.Log.{says as log_says}
+use Rattle.log_model.specs.Rows.{offer_as, wants as log_wants}
+use Rattle.log_model.proofs.Rows.{lead_ok}
+use Rattle.log_model.proofs.Votes.{offer_ok}
+use Rattle.log_model.proofs.Origin.{lead_from, offer_from}
+use Rattle.log_model.proofs.Invariant.{SendOk}
+use Rattle.round_model.specs.Answers.{highest}
+use Rattle.tier_laws.proofs.Moves.{log_move, stays_ok}
+use Rattle.tier_model.specs.Mid.{in_log, call_to}
+use Rattle.tier_model.specs.Moves.{log_packets, idles}
+use Rattle.tier_model.specs.MidRows.{leads, offers, offers_as, own_cause, have_to, settle_at, usable_here, floor_here, open_calls, put_parked, by_number, again, calls_again, haves, haves_again, own_batch, own_value, retry, settle_to}
+use Rattle.tier_model.specs.Moves.{Packet, asks}
+
+-- OWN VALUES
+
+fresh_get : {B : Type 0} (m : Service B) (T : Tables) (o : Option Entry) (i : ℕ) (e : Entry) → slice_get (if_fresh m T o) i ≡ Some e → o ≡ Some e
+fresh_get m T None i e f = absurd (cc)
+fresh_get m T (Some d) i e f = go (is_fresh m T d) i f
+  where
+    go : (b : Bool) (i : ℕ) → slice_get (cond b (d ∷ []) []) i ≡ Some e → Some d ≡ Some e
+    go true zero g = g
+    go true (suc i) g = absurd (cc)
+    go false i g = absurd (cc)
+
+pending_get : {B : Type 0} (m : Service B) (T : Tables) (pending : List (Option Entry)) (n i : ℕ) (e : Entry) → slice_get (fresh_pending m T pending n) i ≡ Some e → (y : ℕ) × (pending_of pending y ≡ Some e)
+pending_get m T pending zero i e f = absurd (cc)
+pending_get {B} m T pending (suc n) i e f = go (get_cases (fresh_pending m T pending n) (if_fresh m T (pending_of pending (suc n))) i e f) (λ i f. pending_get m T pending n i e f)
+  where
+    go : (slice_get (fresh_pending m T pending n) i ≡ Some e) ⊎ ((j : ℕ) × (slice_get (if_fresh m T (pending_of pending (suc n))) j ≡ Some e)) → ((i : ℕ) → slice_get (fresh_pending m T pending n) i ≡ Some e → (y : ℕ) × (pending_of pending y ≡ Some e)) → (y : ℕ) × (pending_of pending y ≡ Some e)
+    go (inl g) r = r i g
+    go (inr g) r = (suc n, fresh_get m T (pending_of pending (suc n)) g.0 e g.1)
+
+take_get : {A : Type 0} (n : ℕ) (xs : List A) (i : ℕ) (a : A) → slice_get (take n xs) i ≡ Some a → slice_get xs i ≡ Some a
+take_get zero xs i a e = absurd (cc)
+take_get (suc n) [] i a e = absurd (cc)
+take_get (suc n) (x ∷ xs) zero a e = e
+take_get (suc n) (x ∷ xs) (suc i) a e = take_get n xs i a e
+
+batch_ok : {B : Type 0} (c : Config B) (P : Past B) (h : ℕ → List (LogFact AnyValue)) (soup : List Packet) (x : ℕ) (σ : Mid) (v : AnyValue) → Here c P h soup x σ → odd (open_at σ.log) ≡ false → own_batch c.service σ (half (open_at σ.log)) ≡ Some v → MidOk c P (open_at σ.log) v
+batch_ok {B} c P h soup x σ v k o e = go (nat_lt σ.applied (half (open_at σ.log))) (is_nil (fresh_pending c.service σ.tables σ.pending 16) && is_nil (concat σ.tables.queue)) e
+  where
+    entries : BatchOk P (take 8 (fresh_pending c.service σ.tables σ.pending 16))
+    entries i d f = let q = pending_get c.service σ.tables σ.pending 16 i d (take_get 8 (fresh_pending c.service σ.tables σ.pending 16) i d f) in k.other.pending q.0 d q.1
+
+    go : (a b : Bool) → cond a None (cond b None (Some (OfMid (Batch (take 8 (fresh_pending c.service σ.tables σ.pending 16)))))) ≡ Some v → MidOk c P (open_at σ.log) v
+    go true b f = absurd (cc)
+    go false true f = absurd (cc)
+    go false false f = let s : OfMid (Batch (take 8 (fresh_pending c.service σ.tables σ.pending 16))) ≡ v = cc in subst (MidOk c P (open_at σ.log)) s (o, entries)
+
+pub own_ok : {B : Type 0} (c : Config B) (P : Past B) (h : ℕ → List (LogFact AnyValue)) (soup : List Packet) (x : ℕ) (σ : Mid) (v : AnyValue) → Here c P h soup x σ → own_value c.u c.service σ ≡ Some v → MidOk c P (open_at σ.log) v
+own_ok {B} c P h soup x σ v k e = go (odd (open_at σ.log)) refl e
+  where
+    go : (b : Bool) → odd (open_at σ.log) ≡ b → cond b (and_then (verdict c.u σ.tally (half (open_at σ.log))) (λ v. Some (OfMid (Decided v)))) (own_batch c.service σ (half (open_at σ.log))) ≡ Some v → MidOk c P (open_at σ.log) v
+    go true o f =
+        let p = then_parts (verdict c.u σ.tally (half (open_at σ.log))) (λ v. Some (OfMid (Decided v))) v f in
+        let s : OfMid (Decided p.0) ≡ v = let g = p.2 in cc in
+        subst (MidOk c P (open_at σ.log)) s (o, verdict_ok c P σ.tally (half (open_at σ.log)) p.0 k.known (record { at = k.other.tally }) p.1)
+    go false o f = batch_ok c P h soup x σ v k o f
+
+-- the offer leaves what is learned
+pub offer_learned : {V : Type 0} (u x : ℕ) (log : LogState V) (o : Option (Leader V)) (own : Option V) → (offer_as u x log o own).state.learned ≡ log.learned
+offer_learned u x log None own = refl
+offer_learned {V} u x log (Some l) own = grind arith
+
+-- RETRY
+
+abbrev IsCall : {B : Type 0} → Past B → Parked → Type 0
+IsCall Q p = Q.server.calls p.tier p.num ≡ Some p.text
+
+open_every : (G : Parked → Type 0) (held : List Code) (t : Tier) (ps : List Parked) → Every G ps → Every G (open_calls held t ps)
+open_every G held t [] e = tt
+open_every G held t (p ∷ ps) e = cond_both (same_tier p.tier t && not (is_some (code_of held p.tier p.num))) (p ∷ open_calls held t ps) (open_calls held t ps) (Every G) (λ f. (e.0, open_every G held t ps e.1)) (λ f. open_every G held t ps e.1)
+
+put_every : (G : Parked → Type 0) (p : Parked) (ps : List Parked) → G p → Every G ps → Every G (put_parked p ps)
+put_every G p [] g e = (g, tt)
+put_every G p (q ∷ qs) g e = cond_both (nat_lt q.num p.num) (q ∷ put_parked p qs) (p ∷ q ∷ qs) (Every G) (λ f. (e.0, put_every G p qs g e.1)) (λ f. (g, (e.0, e.1)))
+
+number_every : (G : Parked → Type 0) (ps : List Parked) → Every G ps → Every G (by_number ps)
+number_every G [] e = tt
+number_every G (p ∷ ps) e = put_every G p (by_number ps) e.0 (number_every G ps e.1)
+
+calls_ok : {B : Type 0} (c : Config B) (Q : Past B) (x : ℕ) (ps : List Parked) → Every (IsCall Q) ps → Every (SentOk c Q) (calls_again c.u x ps)
+calls_ok c Q x [] k = tt
+calls_ok c Q x (p ∷ ps) k = every-append (SentOk c Q) (calls_to c.u x p.tier p.num p.text) (calls_again c.u x ps)
+    (every-each (SentOk c Q) (2 * c.u + 1) nobody (call_to x p.tier p.num p.text) (λ y. k.0)) (calls_ok c Q x ps k.1)
+
+calls_none : (u x : ℕ) (ps : List Parked) → NoLog (calls_again u x ps)
+calls_none u x [] = none_nil
+calls_none u x (p ∷ ps) = none_append (calls_to u x p.tier p.num p.text) (calls_again u x ps) (none_each (2 * u + 1) nobody (call_to x p.tier p.num p.text) (λ y. record { all = λ v. refl })) (calls_none u x ps)
+
+-- codes that are kept in a sorted list
+insert_every : (G : Code → Type 0) (k : Code) (ks : List Code) → G k → Every G ks → Every G (insert k ks)
+insert_every G k [] g e = (g, tt)
+insert_every G k (d ∷ ds) g e = cond_both (nat_le k.num d.num) (k ∷ d ∷ ds) (d ∷ insert k ds) (Every G) (λ f. (g, (e.0, e.1))) (λ f. (e.0, insert_every G k ds g e.1))
+
+pub sorted_every : (G : Code → Type 0) (t : Tier) (ks : List Code) → Every G ks → Every G (sorted t ks)
+sorted_every G t [] e = tt
+sorted_every G t (k ∷ ks) e = cond_both (same_tier k.tier t) (insert k (sorted t ks)) (sorted t ks) (Every G) (λ f. insert_every G k (sorted t ks) e.0 (sorted_every G t ks e.1)) (λ f. sorted_every G t ks e.1)
+
+drop_every : {A : Type 0} (G : A → Type 0) (n : ℕ) (xs : List A) → Every G xs → Every G (drop n xs)
+drop_every G zero xs e = e
+drop_every G (suc n) [] e = tt
+drop_every G (suc n) (x ∷ xs) e = drop_every G n xs e.1
+
+pub highest_every : (G : Code → Type 0) (t : Tier) (ks : List Code) → Every G ks → Every G (highest t ks)
+highest_every G t ks e = drop_every G (length (sorted t ks) - 16) (sorted t ks) (sorted_every G t ks e)
+
+pub every_from : {A : Type 0} (G : A → Type 0) (xs : List A) → ((i : ℕ) (a : A) → slice_get xs i ≡ Some a → G a) → Every G xs
+every_from G [] k = tt
+every_from G (x ∷ xs) k = (k 0 x refl, every_from G xs (λ i a e. k (suc i) a e))
+
+code_of-at : (cs : List Code) (i : ℕ) (k : Code) → slice_get cs i ≡ Some k → is_some (code_of cs k.tier k.num) ≡ true
+code_of-at [] i k e = absurd (cc)
+code_of-at (c ∷ cs) zero k e =
+    let s : c ≡ k = cc in
+    subst (λ (z : Code). is_some (code_of (c ∷ cs) z.tier z.num) ≡ true) s (ap is_some (cond-true (same_tier c.tier c.tier && (c.num == c.num)) (Some c.code) (code_of cs c.tier c.num) (both (same_tier c.tier c.tier) (c.num == c.num) (tier_same c.tier) (eq-eqb c.num c.num refl))))
+  where
+    both : (a b : Bool) → a ≡ true → b ≡ true → (a && b) ≡ true
+    both a b e f = rw (e, f) refl
+code_of-at (c ∷ cs) (suc i) k e = go (same_tier c.tier k.tier && (c.num == k.num)) (code_of-at cs i k e)
+  where
+    go : (b : Bool) → is_some (code_of cs k.tier k.num) ≡ true → is_some (cond b (Some c.code) (code_of cs k.tier k.num)) ≡ true
+    go true f = refl
+    go false f = f
+
+abbrev HaveOk : {B : Type 0} → Past B → ℕ → Code → Type 0
+HaveOk Q x k = (Q.server.served k.tier k.num ≡ Some k.code) × (holds Q k.tier k.num x ≡ true)
+
+haves_ok : {B : Type 0} (c : Config B) (Q : Past B) (x : ℕ) (ks : List Code) → Every (HaveOk Q x) ks → Every (SentOk c Q) (haves_again c.u x ks)
+haves_ok c Q x [] e = tt
+haves_ok c Q x (k ∷ ks) e = every-append (SentOk c Q) (haves c.u x k.tier k.num k.code) (haves_again c.u x ks) (every-each (SentOk c Q) (2 * c.u + 1) (is x) (have_to x k.tier k.num k.code) (λ y. e.0)) (haves_ok c Q x ks e.1)
+
+haves_none : (u x : ℕ) (ks : List Code) → NoLog (haves_again u x ks)
+haves_none u x [] = none_nil
+haves_none u x (k ∷ ks) = none_append (haves u x k.tier k.num k.code) (haves_again u x ks) (none_each (2 * u + 1) (is x) (have_to x k.tier k.num k.code) (λ y. record { all = λ v. refl })) (haves_none u x ks)
+
+-- all numbers below the floor are usable
+least_below : (A : Tier → ℕ → Option ℕ) (t : Tier) (k n i : ℕ) → n ≤ i → i < least_open A t k n → (code : ℕ) × (A t i ≡ Some code)
+least_below A t zero n i a b = absurd (omega arith)
+least_below A t (suc k) n i a b = go (A t n) refl b (cases_eq i n) (least_below A t k (suc n) i)
+  where
+    go : (o : Option ℕ) → A t n ≡ o → i < cond (is_some (A t n)) (least_open A t k (suc n)) n → (i ≡ n) ⊎ (i ≡ n → ⊥) → (suc n ≤ i → i < least_open A t k (suc n) → (code : ℕ) × (A t i ≡ Some code)) → (code : ℕ) × (A t i ≡ Some code)
+    go None e f g r = absurd (let q : i < n = rw e at f in omega arith)
+    go (Some code) e f (inl g) r = (code, ap (A t) g ∙ e)
+    go (Some code) e f (inr g) r = let q : i < least_open A t k (suc n) = rw e at f in r (omega arith) q
+
+pub floor_ok : {B : Type 0} (c : Config B) (Q : Past B) (x : ℕ) (σ : Mid) (t : Tier) → Known c Q → MidOther c Q x σ → FloorOk c Q t (floor_here c.u x σ t)
+floor_ok c Q x σ t k o = record {
+  served = λ n a b. let q = least_below (usable_here c.u x σ) t (length σ.held) 1 n (omega arith) b in (q.0, (usable_ok c Q x σ t n q.0 k o q.1).0);
+  many = λ n a b. let q = least_below (usable_here c.u x σ) t (length σ.held) 1 n (omega arith) b in (usable_ok c Q x σ t n q.0 k o q.1).1;
+}
+
+settle_ok : {B : Type 0} (c : Config B) (Q : Past B) (x : ℕ) (t : Tier) (g : ℕ) → FloorOk c Q t g → Every (SentOk c Q) (settle_to c.u x t g)
+settle_ok c Q x t g k = cond_both (nat_lt 1 g) (each (2 * c.u + 1) nobody (settle_at x t g)) [] (Every (SentOk c Q)) (λ e. every-each (SentOk c Q) (2 * c.u + 1) nobody (settle_at x t g) (λ y. k)) (λ e. tt)
+
+settle_none : (u x : ℕ) (t : Tier) (g : ℕ) → NoLog (settle_to u x t g)
+settle_none u x t g = cond_both (nat_lt 1 g) (each (2 * u + 1) nobody (settle_at x t g)) [] NoLog (λ e. none_each (2 * u + 1) nobody (settle_at x t g) (λ y. record { all = λ v. refl })) (λ e. none_nil)
+
+held_have : {B : Type 0} (c : Config B) (Q : Past B) (x : ℕ) (σ : Mid) → Known c Q → MidOther c Q x σ → Every (HaveOk Q x) σ.held
+held_have c Q x σ k o = every_from (HaveOk Q x) σ.held (λ i q e.
+    let f : slice_get (Q.codes x) i ≡ Some q = subst (λ z. slice_get z i ≡ Some q) o.held e in
+    (k.codes x i q f, code_of-at (Q.codes x) i q f))
+
+again_ok : {B : Type 0} (c : Config B) (Q : Past B) (x : ℕ) (σ : Mid) → Known c Q → MidOther c Q x σ → Every (SentOk c Q) (again c.u x σ)
+again_ok c Q x σ k o =
+    every-append (SentOk c Q) (calls_again c.u x (by_number (open_calls σ.held Inv (concat σ.tables.queue)))) _ (calls_ok c Q x (by_number (open_calls σ.held Inv (concat σ.tables.queue))) (number_every (IsCall Q) (open_calls σ.held Inv (concat σ.tables.queue)) (open_every (IsCall Q) σ.held Inv (concat σ.tables.queue) (every_from (IsCall Q) (concat σ.tables.queue) o.tables.parked))))
+    (every-append (SentOk c Q) (calls_again c.u x (by_number (open_calls σ.held Pay (concat σ.tables.queue)))) _ (calls_ok c Q x (by_number (open_calls σ.held Pay (concat σ.tables.queue))) (number_every (IsCall Q) (open_calls σ.held Pay (concat σ.tables.queue)) (open_every (IsCall Q) σ.held Pay (concat σ.tables.queue) (every_from (IsCall Q) (concat σ.tables.queue) o.tables.parked))))
+    (every-append (SentOk c Q) (haves_again c.u x (highest Inv σ.held)) _ (haves_ok c Q x (highest Inv σ.held) (highest_every (HaveOk Q x) Inv σ.held (held_have c Q x σ k o)))
+    (every-append (SentOk c Q) (haves_again c.u x (highest Pay σ.held)) _ (haves_ok c Q x (highest Pay σ.held) (highest_every (HaveOk Q x) Pay σ.held (held_have c Q x σ k o)))
+    (every-append (SentOk c Q) (settle_to c.u x Inv (floor_here c.u x σ Inv)) _ (settle_ok c Q x Inv (floor_here c.u x σ Inv) (floor_ok c Q x σ Inv k o)) (settle_ok c Q x Pay (floor_here c.u x σ Pay) (floor_ok c Q x σ Pay k o))))))
+
+again_none : (u x : ℕ) (σ : Mid) → NoLog (again u x σ)
+again_none u x σ =
+    none_append (calls_again u x (by_number (open_calls σ.held Inv (concat σ.tables.queue)))) _ (calls_none u x (by_number (open_calls σ.held Inv (concat σ.tables.queue))))
+    (none_append (calls_again u x (by_number (open_calls σ.held Pay (concat σ.tables.queue)))) _ (calls_none u x (by_number (open_calls σ.held Pay (concat σ.tables.queue))))
+    (none_append (haves_again u x (highest Inv σ.held)) _ (haves_none u x (highest Inv σ.held))
+    (none_append (haves_again u x (highest Pay σ.held)) _ (haves_none u x (highest Pay σ.held))
+    (none_append (settle_to u x Inv (floor_here u x σ Inv)) _ (settle_none u x Inv (floor_here u x σ Inv)) (settle_none u x Pay (floor_here u x σ Pay))))))
+
+pub retry_ok : {B : Type 0} (c : Config B) (P : Past B) (h : ℕ → List (LogFact AnyValue)) (soup : List Packet) (x : ℕ) (σ : Mid) → Here c P h soup x σ → MoveOk c P h soup x [] (retry c.u x σ)
+retry_ok {B} c P h soup x σ k = record {
+  turn = log_says σ.log (asks c.u x (open_at σ.log));
+  turn_ok = still c.u h (mid_soup soup) x σ.log σ.log (asks c.u x (open_at σ.log)) None (knows c P h soup x σ k) k.log (λ g same m. every-each (SendOk c.u g (mid_soup soup) x) (2 * c.u + 1) (is x) (λ y. (y, Ask (open_at σ.log))) (λ y. tt));
+  good = λ p b w d. k.good x k.inside p b w d;
+  is_facts = refl;
+  is_sends = mid_soup-append (log_packets MidTier x (asks c.u x (open_at σ.log))) (again c.u x σ) ∙ ap (λ z. mid_soup (log_packets MidTier x (asks c.u x (open_at σ.log))) ++ z) (no_mid _ (again_none c.u x σ)) ∙ nil (mid_soup (log_packets MidTier x (asks c.u x (open_at σ.log)))) ∙ mid_soup-log x (asks c.u x (open_at σ.log));
+  is_log = refl;
+  no_back = λ v. back_soup-append v (log_packets MidTier x (asks c.u x (open_at σ.log))) (again c.u x σ) ∙ ap (λ z. z ++ back_soup v (again c.u x σ)) (back_soup-mid v x (asks c.u x (open_at σ.log))) ∙ no_back _ (again_none c.u x σ) v;
+  codes = λ i q e. absurd (cc);
+  runs = λ i r e. absurd (cc);
+  later = λ Q g kn e rs.
+      let o : MidOther c Q x σ = other-more c P Q x σ g (e ∙ nil (P.codes x)) k.other in
+      record { other = o; sends = every-append (SentOk c Q) (log_packets MidTier x (asks c.u x (open_at σ.log))) (again c.u x σ) (every-log c Q MidTier x (asks c.u x (open_at σ.log))) (again_ok c Q x σ kn o) };
+}
+
+-- LEADING AND OFFERING
+
+pub leads_ok : {B : Type 0} (c : Config B) (P : Past B) (h : ℕ → List (LogFact AnyValue)) (soup : List Packet) (x : ℕ) (σ : Mid) → Here c P h soup x σ → MoveOk c P h soup x [] (leads c.u c.service x σ)
+leads_ok c P h soup x σ k = log_move c P h soup x σ (lead c.u x σ.log) None k (lead_ok c.u h (mid_soup soup) x σ.log (knows c P h soup x σ k)) (lead_from c.u h x σ.log k.inside) (λ v e. absurd (cc))
+
+pub offers_ok : {B : Type 0} (c : Config B) (P : Past B) (h : ℕ → List (LogFact AnyValue)) (soup : List Packet) (x : ℕ) (σ : Mid) → Here c P h soup x σ → MoveOk c P h soup x [] (offers c.u c.service x σ)
+offers_ok {B} c P h soup x σ k = go (log_wants c.u σ.log)
+  where
+    offered : MoveOk c P h soup x [] (in_log c.u c.service x σ (offer c.u x σ.log (own_value c.u c.service σ)))
+    offered = log_move c P h soup x σ (offer c.u x σ.log (own_value c.u c.service σ)) (own_value c.u c.service σ) k (offer_ok c.u h (mid_soup soup) x σ.log σ.log.leader (own_value c.u c.service σ) (knows c P h soup x σ k) k.log.leader)
+        (offer_from c.u h x σ.log σ.log.leader (own_value c.u c.service σ) k.inside k.log.leader)
+        (λ v e. subst (λ z. MidOk c P (length z) v) (sym (offer_learned c.u x σ.log σ.log.leader (own_value c.u c.service σ))) (own_ok c P h soup x σ v k e))
+
+    go : (o : Offering) → MoveOk c P h soup x [] (offers_as c.u c.service x σ o)
+    go NotLeader = stays_ok c P h soup x σ k
+    go (NoPromises have) = stays_ok c P h soup x σ k
+    go (InFlight p) = stays_ok c P h soup x σ k
+    go LogFull = stays_ok c P h soup x σ k
+    go Taken = offered
+    go (Free p) = cond_both (is_some (own_value c.u c.service σ)) (in_log c.u c.service x σ (offer c.u x σ.log (own_value c.u c.service σ))) (idles σ (own_cause c.u σ)) (MoveOk c P h soup x []) (λ e. offered) (λ e. stays_ok c P h soup x σ k)

@@ -1,0 +1,252 @@
+-- What the laws say, from the invariant.
+use Rattle.std.proofs.Common.{◌≡◌, ℕ, ◌+◌, ◌*◌, ◌<◌, Bool, true, false, cond, List, [], ◌∷◌, ◌++◌, refl, sym, ap, ◌∙◌, subst, inl, inr, Option, Some, None, arith}
+use Rattle.std.specs.Prelude.{slice_get}
+use Rattle.std.proofs.lemmas.Slice.Eq.{bytes_eq-Decides}
+use Rattle.aeg_base.specs.declared.names.ReqId.{ReqId}
+use Rattle.aeg_base.specs.declared.names.Tier.{Tier}
+use Rattle.aeg_base.specs.declared.names.Tier.TheVariants.{Mid as MidTier, Inv, Pay}
+use Rattle.aeg_base.specs.declared.names.End.{End}
+use Rattle.aeg_base.specs.declared.names.End.TheVariants.{Client}
+use Rattle.server_model.specs.History as history
+use Rattle.log_model.proofs.Basics.{every-get}
+use Rattle.log_model.proofs.Invariant.{PacketOk}
+use Rattle.log_model.specs.declared.message.PaxMsg.TheVariants.{Learn}
+use Rattle.log_model.specs.Chosen.{Meets}
+use Rattle.log_model.specs.Recover.{newest, learned_in, onto}
+use Rattle.log_model.proofs.Step.{put_same, grown}
+use Rattle.log_model.specs.World.{Packet as LogPacket, Mode, put}
+use Rattle.log_model.specs.World.Mode.{Down, Gone, Up}
+use Rattle.log_model.specs.declared.fact.Fact.{Fact as LogFact}
+use Rattle.log_values.specs.declared.fact.Fact.{Fact}
+use Rattle.log_values.specs.declared.any_value.AnyValue.{AnyValue}
+use Rattle.log_values.specs.declared.any_value.AnyValue.TheVariants.{Mid as OfMid}
+use Rattle.log_values.specs.declared.mid_value.MidValue.TheVariants.{Verdict as Decided}
+use Rattle.log_values.specs.declared.mid_value.Verdict.{Verdict}
+use Rattle.log_values.specs.declared.mid_value.Verdict.TheVariants.{Commit, Serial}
+use Rattle.frames.specs.declared.message.Msg.{Msg}
+use Rattle.frames.specs.declared.message.Msg.TheVariants as msgs
+use Rattle.round_model.specs.After.{Round, round, after}
+use Rattle.round_model.specs.Answers.{Code, code_of}
+use Rattle.round_model.specs.Lists.{is_some}
+use Rattle.round_model.specs.Tables.{Number, Want}
+use Rattle.run_model.specs.World.{Config, World}
+use Rattle.run_model.specs.Runs.{is_in, log_soup, served_of}
+use Rattle.tier_model.specs.Back.{Back}
+use Rattle.tier_model.specs.Mid.{Mid}
+use Rattle.tier_model.specs.Moves.{tier_of, index_of, Packet, log_facts, held_in}
+use Rattle.tier_laws.specs.Said.{HasReply, HasCall, HasAnswer, chosen_log, MidLearned, BackLearned, HasLearned, StandsFor, DiskStandsFor, learned_from, MidApplied, BackServes, Caused, is_gone, FewGone, Durable}
+use Rattle.tier_laws.proofs.Apply.{code_at, half-odd}
+use Rattle.tier_laws.proofs.Core.{BackMode, BackPending, Inv as WorldOk, MidMode, MidPending, past}
+use Rattle.tier_laws.proofs.Events.{log_place, back_place}
+use Rattle.tier_laws.proofs.Grow.{served_same}
+use Rattle.tier_laws.proofs.MidSteps.{values}
+use Rattle.tier_laws.proofs.Past.{ManyHold, MidOk, SentBy, SentOk, Past, VerdictBy, VerdictOk, holds}
+use Rattle.tier_laws.proofs.Shows.{Shown, shown}
+use Rattle.tier_laws.proofs.Soups.{mid_soup, back_soup}
+use Rattle.tier_laws.proofs.Verdicts.{count-gap}
+use Rattle.tier_laws.proofs.Maps.{server, empty_server}
+use Rattle.server_model.specs.Server as real
+use Rattle.server_model.specs.Server.{same_tier}
+
+-- THE HISTORY
+
+pub shown_now : {B : Type 0} (c : Config B) (w : World B) → WorldOk c w → Shown c.service (empty_server c.service) w.hist (real.opening_server c.service.meaning)
+shown_now c w i = shown c.service w.hist i.core.laws.again i.core.ledger.legal
+
+pub legal : {B : Type 0} (c : Config B) (w : World B) → WorldOk c w → history.Legal c.service.meaning w.hist
+legal c w i = (shown_now c w i).legal
+
+pub has_reply : {B : Type 0} (c : Config B) (w : World B) (who : ReqId) (text : List ℕ) → WorldOk c w → (server c.service w.hist).replies who.client who.seq ≡ Some text → HasReply c w who text
+has_reply c w who text i e = (shown_now c w i).shows.replies who.client who.seq text e
+
+pub has_call : {B : Type 0} (c : Config B) (w : World B) (t : Tier) (n : ℕ) (text : List ℕ) → WorldOk c w → (server c.service w.hist).calls t n ≡ Some text → HasCall c w t n text
+has_call c w t n text i e = (shown_now c w i).shows.calls t n ∙ e
+
+pub has_answer : {B : Type 0} (c : Config B) (w : World B) (t : Tier) (n code : ℕ) → WorldOk c w → (server c.service w.hist).served t n ≡ Some code → HasAnswer c w t n code
+has_answer c w t n code i e = (shown_now c w i).shows.served t n ∙ e
+
+pub sent : {B : Type 0} (c : Config B) (w : World B) (place : ℕ) (k : Packet) (message : Msg) (i : WorldOk c w) → slice_get w.soup place ≡ Some k → k.message ≡ message → SentBy c (past c w i.codes) k.from k.to message
+sent c w place k message i e f = subst (SentBy c (past c w i.codes) k.from k.to) f (every-get (SentOk c (past c w i.codes)) w.soup place k i.core.packets e)
+
+pub reply_sent : {B : Type 0} (c : Config B) (w : World B) (place : ℕ) (k : Packet) (who : ReqId) (text : List ℕ) → WorldOk c w → slice_get w.soup place ≡ Some k → k.message ≡ msgs.Reply who text → (k.to ≡ Client who.client) × HasReply c w who text
+reply_sent c w place k who text i e f = let s = sent c w place k (msgs.Reply who text) i e f in (s.0, has_reply c w who text i s.1)
+
+-- AGREEMENT
+
+pub chosen_here : {B : Type 0} (c : Config B) (w : World B) (t : Tier) (p : ℕ) (v : AnyValue) → WorldOk c w → Meets c.u (log_soup t w.soup) p v → slice_get (chosen_log w t) p ≡ Some v
+chosen_here c w MidTier p v i m = i.done.mid.at p v m
+chosen_here c w Inv p v i m = (i.done.back Inv).at p v m
+chosen_here c w Pay p v i m = (i.done.back Pay).at p v m
+
+mid_learned : {B : Type 0} (c : Config B) (w : World B) (i : WorldOk c w) (x p : ℕ) (v : AnyValue) (m : Mode Mid) → x < 2 * c.u + 1 → MidMode c (past c w i.codes) i.h (mid_soup w.soup) x (w.mids x) m → MidLearned m p v → slice_get w.log p ≡ Some v
+mid_learned c w i x p v (Up σ) l k e = i.done.mid.at p v (i.core.mid_log.history.learned x l p v (rw (← k.log.learned) e))
+mid_learned c w i x p v Down l k e = absurd e
+mid_learned c w i x p v Gone l k e = absurd e
+
+back_learned : {B : Type 0} (c : Config B) (w : World B) (i : WorldOk c w) (t : Tier) (x p : ℕ) (v : AnyValue) (m : Mode (Back B)) → x < 2 * c.u + 1 → BackMode c (past c w i.codes) t (i.k t) (back_soup t w.soup) x (w.backs t x) m → BackLearned m p v → slice_get (w.logs t) p ≡ Some v
+back_learned c w i t x p v (Up σ) l k e = (i.done.back t).at p v ((i.core.back_log t).history.learned x l p v (rw (← k.log.learned) e))
+back_learned c w i t x p v Down l k e = absurd e
+back_learned c w i t x p v Gone l k e = absurd e
+
+pub learned : {B : Type 0} (c : Config B) (w : World B) (t : Tier) (x p : ℕ) (v : AnyValue) → WorldOk c w → x < 2 * c.u + 1 → HasLearned w t x p v → slice_get (chosen_log w t) p ≡ Some v
+learned c w MidTier x p v i l e = mid_learned c w i x p v (w.mids x).mode l (i.core.mids x l) e
+learned c w Inv x p v i l e = back_learned c w i Inv x p v (w.backs Inv x).mode l (i.core.backs Inv x l) e
+learned c w Pay x p v i l e = back_learned c w i Pay x p v (w.backs Pay x).mode l (i.core.backs Pay x l) e
+
+-- a Learn tells what was chosen
+mid_told : {B : Type 0} (c : Config B) (w : World B) (place : ℕ) (from to : End) (p : ℕ) (v : AnyValue) → WorldOk c w → is_in MidTier from ≡ true → slice_get w.soup place ≡ Some (record { from = from; to = to; message = msgs.Log (Learn p v) }) → slice_get w.log p ≡ Some v
+mid_told c w place from to p v i b e =
+    let q = log_place MidTier w.soup place from to (Learn p v) b e in
+    let j : LogPacket AnyValue = record { from = index_of from; to = index_of to; msg = Learn p v } in
+    let right : PacketOk c.u i.h (mid_soup w.soup) j = every-get (PacketOk c.u i.h (mid_soup w.soup)) (mid_soup w.soup) q.0 j i.core.mid_log.history.packets q.1 in
+    i.done.mid.at p v right
+
+back_told : {B : Type 0} (c : Config B) (w : World B) (t : Tier) (place : ℕ) (from to : End) (p : ℕ) (v : AnyValue) → WorldOk c w → same_tier t MidTier ≡ false → is_in t from ≡ true → slice_get w.soup place ≡ Some (record { from = from; to = to; message = msgs.Log (Learn p v) }) → slice_get (w.logs t) p ≡ Some v
+back_told c w t place from to p v i n b e =
+    let q = back_place t w.soup place from to (Learn p v) n b e in
+    let j : LogPacket AnyValue = record { from = index_of from; to = index_of to; msg = Learn p v } in
+    let right : PacketOk c.u (i.k t) (back_soup t w.soup) j = every-get (PacketOk c.u (i.k t) (back_soup t w.soup)) (back_soup t w.soup) q.0 j (i.core.back_log t).history.packets q.1 in
+    (i.done.back t).at p v right
+
+pub learn_told : {B : Type 0} (c : Config B) (w : World B) (t : Tier) (place : ℕ) (k : Packet) (p : ℕ) (v : AnyValue) → WorldOk c w → is_in t k.from ≡ true → slice_get w.soup place ≡ Some k → k.message ≡ msgs.Log (Learn p v) → slice_get (chosen_log w t) p ≡ Some v
+learn_told {B} c w t place k p v i b e f = by t b
+  where
+    g : slice_get w.soup place ≡ Some (record { from = k.from; to = k.to; message = msgs.Log (Learn p v) })
+    g = e ∙ (λ j. Some (record { from = k.from; to = k.to; message = f j }))
+
+    by : (t : Tier) → is_in t k.from ≡ true → slice_get (chosen_log w t) p ≡ Some v
+    by MidTier b = mid_told c w place k.from k.to p v i b g
+    by Inv b = back_told c w Inv place k.from k.to p v i refl b g
+    by Pay b = back_told c w Pay place k.from k.to p v i refl b g
+
+-- what a disk has learned was chosen
+mid_disk : {B : Type 0} (c : Config B) (w : World B) (i : WorldOk c w) (x p : ℕ) (v : AnyValue) (records : List (List Fact)) (m : Mode Mid) → x < 2 * c.u + 1 → MidMode c (past c w i.codes) i.h (mid_soup w.soup) x (w.mids x) m → StandsFor (w.mids x) m records → slice_get (learned_from c.u records) p ≡ Some v → slice_get w.log p ≡ Some v
+mid_disk {B} c w i x p v R m l k s e = by m k s
+  where
+    from_facts : (F : List (LogFact AnyValue)) → ((p : ℕ) (v : AnyValue) → slice_get (learned_in F) p ≡ Some v → Meets c.u (mid_soup w.soup) p v) → log_facts (newest R) ≡ F → slice_get w.log p ≡ Some v
+    from_facts F g q = i.done.mid.at p v (g p v (subst (λ z. slice_get (learned_in z) p ≡ Some v) q e))
+
+    own : (Q : List (List Fact)) → Q ≡ R → log_facts (newest Q) ≡ i.h x → slice_get w.log p ≡ Some v
+    own Q q f = from_facts (i.h x) (λ p v e. i.core.mid_log.history.learned x l p v e) (ap (λ z. log_facts (newest z)) (sym q) ∙ f)
+
+    left : MidPending c (past c w i.codes) i.h (mid_soup w.soup) x R → slice_get w.log p ≡ Some v
+    left q = from_facts (onto q.turn.facts (i.h x)) (λ p v e. (q.ok.rest (put i.h x (onto q.turn.facts (i.h x))) (put_same i.h x (onto q.turn.facts (i.h x))) (grown i.h x q.turn.facts q.ok.orderly)).learned p v e) q.is_log
+
+    by : (m : Mode Mid) → MidMode c (past c w i.codes) i.h (mid_soup w.soup) x (w.mids x) m → StandsFor (w.mids x) m R → slice_get w.log p ≡ Some v
+    by (Up σ) k s = own (w.mids x).records s k.is_log
+    by Down k (inl s) = own (w.mids x).records s k.is_log
+    by Down k (inr s) = left (k.pending s.0 R s.1)
+    by Gone k s = absurd s
+
+back_disk : {B : Type 0} (c : Config B) (w : World B) (i : WorldOk c w) (t : Tier) (x p : ℕ) (v : AnyValue) (records : List (List Fact)) (m : Mode (Back B)) → x < 2 * c.u + 1 → BackMode c (past c w i.codes) t (i.k t) (back_soup t w.soup) x (w.backs t x) m → StandsFor (w.backs t x) m records → slice_get (learned_from c.u records) p ≡ Some v → slice_get (w.logs t) p ≡ Some v
+back_disk {B} c w i t x p v R m l k s e = by m k s
+  where
+    from_facts : (F : List (LogFact AnyValue)) → ((p : ℕ) (v : AnyValue) → slice_get (learned_in F) p ≡ Some v → Meets c.u (back_soup t w.soup) p v) → log_facts (newest R) ≡ F → slice_get (w.logs t) p ≡ Some v
+    from_facts F g q = (i.done.back t).at p v (g p v (subst (λ z. slice_get (learned_in z) p ≡ Some v) q e))
+
+    own : (Q : List (List Fact)) → Q ≡ R → log_facts (newest Q) ≡ i.k t x → slice_get (w.logs t) p ≡ Some v
+    own Q q f = from_facts (i.k t x) (λ p v e. (i.core.back_log t).history.learned x l p v e) (ap (λ z. log_facts (newest z)) (sym q) ∙ f)
+
+    left : BackPending c (past c w i.codes) t (i.k t) (back_soup t w.soup) x R → slice_get (w.logs t) p ≡ Some v
+    left q = from_facts (onto q.turn.facts (i.k t x)) (λ p v e. (q.ok.rest (put (i.k t) x (onto q.turn.facts (i.k t x))) (put_same (i.k t) x (onto q.turn.facts (i.k t x))) (grown (i.k t) x q.turn.facts q.ok.orderly)).learned p v e) q.is_log
+
+    by : (m : Mode (Back B)) → BackMode c (past c w i.codes) t (i.k t) (back_soup t w.soup) x (w.backs t x) m → StandsFor (w.backs t x) m R → slice_get (w.logs t) p ≡ Some v
+    by (Up σ) k s = own (w.backs t x).records s k.is_log
+    by Down k (inl s) = own (w.backs t x).records s k.is_log
+    by Down k (inr s) = left (k.pending s.0 R s.1)
+    by Gone k s = absurd s
+
+pub disk_learned : {B : Type 0} (c : Config B) (w : World B) (t : Tier) (x p : ℕ) (v : AnyValue) (records : List (List Fact)) → WorldOk c w → x < 2 * c.u + 1 → DiskStandsFor w t x records → slice_get (learned_from c.u records) p ≡ Some v → slice_get (chosen_log w t) p ≡ Some v
+disk_learned c w MidTier x p v R i l s e = mid_disk c w i x p v R (w.mids x).mode l (i.core.mids x l) s e
+disk_learned c w Inv x p v R i l s e = back_disk c w i Inv x p v R (w.backs Inv x).mode l (i.core.backs Inv x l) s e
+disk_learned c w Pay x p v R i l s e = back_disk c w i Pay x p v R (w.backs Pay x).mode l (i.core.backs Pay x l) s e
+
+-- STATES
+
+served_now : {B : Type 0} (c : Config B) (w : World B) (i : WorldOk c w) → served_of c w ≡ (server c.service w.hist).served
+served_now c w i = served_same c w i.codes i.h i.k i.core
+
+mid_applied : {B : Type 0} (c : Config B) (w : World B) (i : WorldOk c w) (x : ℕ) (m : Mode Mid) → MidMode c (past c w i.codes) i.h (mid_soup w.soup) x (w.mids x) m → MidApplied c w m
+mid_applied c w i x (Up σ) k = subst (λ A. after c.service c.depth w.log A σ.applied ≡ Some σ.tables) (sym (served_now c w i)) k.other.is_after
+mid_applied c w i x Down k = tt
+mid_applied c w i x Gone k = tt
+
+pub applied : {B : Type 0} (c : Config B) (w : World B) (x : ℕ) → WorldOk c w → x < 2 * c.u + 1 → MidApplied c w (w.mids x).mode
+applied c w x i l = mid_applied c w i x (w.mids x).mode (i.core.mids x l)
+
+back_applied : {B : Type 0} (c : Config B) (w : World B) (i : WorldOk c w) (t : Tier) (x : ℕ) (m : Mode (Back B)) → BackMode c (past c w i.codes) t (i.k t) (back_soup t w.soup) x (w.backs t x) m → BackServes c t m
+back_applied c w i t x (Up σ) k = record { state = k.tied.state; codes = k.tied.codes; kept = k.tied.kept; above = k.tied.above; below = k.tied.floor; floor = k.tied.greatest }
+back_applied c w i t x Down k = tt
+back_applied c w i t x Gone k = tt
+
+pub served_state : {B : Type 0} (c : Config B) (w : World B) (t : Tier) (x : ℕ) → WorldOk c w → x < 2 * c.u + 1 → BackServes c t (w.backs t x).mode
+served_state c w t x i l = back_applied c w i t x (w.backs t x).mode (i.core.backs t x l)
+
+-- VERDICTS HAVE CAUSES
+
+by_caused : {B : Type 0} (c : Config B) (w : World B) (codes : ℕ → List Code) (r : ℕ) (R : Round) (v : Verdict) → VerdictBy c (past c w codes) r R v → Caused c w r v
+by_caused c w codes r R (Commit token order) k = ((k.2.2.0, omega (arith, k.2.1, k.2.2.1), λ y e. let q = k.2.2.2 y e in (q.0, q.1, q.2, q.3, (bytes_eq-Decides q.0.token token).0 q.4)), k.3)
+by_caused c w codes r R Serial k =
+    (k.0, k.1, k.2, k.3, k.4, k.5, (λ e. let f = (bytes_eq-Decides k.0.token k.1.token).1 e in let g = k.6 in cc), k.7 ((bytes_eq-Decides k.1.token k.1.token).1 refl))
+
+pub at_round : {B : Type 0} (c : Config B) (P : Past B) (r : ℕ) (v : Verdict) → MidOk c P (2 * r + 1) (OfMid (Decided v)) → VerdictOk c P r v
+at_round c P r v k = subst (λ z. VerdictOk c P z v) (half-odd r) k.1
+
+pub caused : {B : Type 0} (c : Config B) (w : World B) (r : ℕ) (v : Verdict) → WorldOk c w → slice_get w.log (2 * r + 1) ≡ Some (OfMid (Decided v)) → Caused c w r v
+caused c w r v i e =
+    let k : VerdictOk c (past c w i.codes) r v = at_round c (past c w i.codes) r v (values c w i.codes i.h i.k i.core (2 * r + 1) (OfMid (Decided v)) e) in
+    by_caused c w i.codes r k.made v k.by
+
+-- DURABILITY
+
+some_code : {A : Type 0} (o : Option A) → is_some o ≡ true → (a : A) × (o ≡ Some a)
+some_code None e = absurd (cc)
+some_code (Some a) e = (a, refl)
+
+code_right : {B : Type 0} (c : Config B) (w : World B) (i : WorldOk c w) (x : ℕ) (t : Tier) (n code : ℕ) → code_of (i.codes x) t n ≡ Some code → (server c.service w.hist).served t n ≡ Some code
+code_right c w i x t n code e =
+    let q = code_at (i.codes x) t n code e in
+    let s = i.core.right x q.0 q.1 q.2 in
+    subst (λ z. (server c.service w.hist).served z n ≡ Some code) q.3 (subst (λ z. (server c.service w.hist).served q.1.tier z ≡ Some code) q.4 (s ∙ ap Some q.5))
+
+code-left : (cs ds : List Code) (t : Tier) (n code : ℕ) → code_of cs t n ≡ Some code → code_of (cs ++ ds) t n ≡ Some code
+code-left [] ds t n code e = absurd (cc)
+code-left (c ∷ cs) ds t n code e = go _ e (code-left cs ds t n code)
+  where
+    go : (b : Bool) → cond b (Some c.code) (code_of cs t n) ≡ Some code → (code_of cs t n ≡ Some code → code_of (cs ++ ds) t n ≡ Some code) → cond b (Some c.code) (code_of (cs ++ ds) t n) ≡ Some code
+    go true f r = f
+    go false f r = r f
+
+held_for : {B : Type 0} (c : Config B) (w : World B) (i : WorldOk c w) (x : ℕ) (t : Tier) (n code : ℕ) (m : Mode Mid) → MidMode c (past c w i.codes) i.h (mid_soup w.soup) x (w.mids x) m → code_of (i.codes x) t n ≡ Some code
+    → (R : List (List Fact)) → StandsFor (w.mids x) m R → code_of (held_in (newest R)) t n ≡ Some code
+held_for c w i x t n code (Up σ) k e R s = subst (λ z. code_of (held_in (newest z)) t n ≡ Some code) s (ap (λ z. code_of z t n) k.is_held ∙ e)
+held_for c w i x t n code Down k e R (inl s) = subst (λ z. code_of (held_in (newest z)) t n ≡ Some code) s (ap (λ z. code_of z t n) k.is_held ∙ e)
+held_for c w i x t n code Down k e R (inr s) = let p = k.pending s.0 R s.1 in ap (λ z. code_of z t n) p.is_held ∙ code-left (i.codes x) p.codes t n code e
+held_for c w i x t n code Gone k e R s = absurd s
+
+pub durable : {B : Type 0} (c : Config B) (w : World B) (t : Tier) (n : ℕ) (i : WorldOk c w) → ManyHold c (past c w i.codes) t n → FewGone c w → Durable c w t n
+durable {B} c w t n i many few =
+    let z = count-gap (2 * c.u + 1) (λ x. is_gone (w.mids x).mode) (holds (past c w i.codes) t n) (omega arith) in
+    let a = some_code (code_of (i.codes z.0) t n) z.2 in
+    record {
+      node = z.0;
+      inside = z.1;
+      here = z.3;
+      code = a.0;
+      is_served = has_answer c w t n a.0 i (code_right c w i z.0 t n a.0 a.1);
+      is_held = held_for c w i z.0 t n a.0 (w.mids z.0).mode (i.core.mids z.0 z.1) a.1;
+    }
+
+-- each call below a floor that was sent is durable
+pub floor_durable : {B : Type 0} (c : Config B) (w : World B) (place : ℕ) (k : Packet) (g n : ℕ) → WorldOk c w → slice_get w.soup place ≡ Some k → k.message ≡ msgs.Settle g → 0 < n → n < g → FewGone c w → Durable c w (tier_of k.to) n
+floor_durable c w place k g n i e f a b few = durable c w (tier_of k.to) n i ((sent c w place k (msgs.Settle g) i e f).many n a b) few
+
+-- each call whose answer a decided round used is durable
+pub used_durable : {B : Type 0} (c : Config B) (w : World B) (r : ℕ) (v : Verdict) (R : Round) (j : ℕ) (q : Want) (k : Number) → WorldOk c w → slice_get w.log (2 * r + 1) ≡ Some (OfMid (Decided v)) → round c.service c.depth w.log (served_of c w) r ≡ Some R
+    → slice_get R.wants j ≡ Some q → q.call ≡ Some k → FewGone c w → Durable c w k.tier k.num
+used_durable {B} c w r v R j q k i e f g h few =
+    let o : VerdictOk c (past c w i.codes) r v = at_round c (past c w i.codes) r v (values c w i.codes i.h i.k i.core (2 * r + 1) (OfMid (Decided v)) e) in
+    let is = o.is_round in
+    let there : round c.service c.depth w.log (server c.service w.hist).served r ≡ Some R = subst (λ A. round c.service c.depth w.log A r ≡ Some R) (served_now c w i) f in
+    let same : o.made ≡ R = cc in
+    durable c w k.tier k.num i (o.held.at j q k (subst (λ (z : Round). slice_get z.wants j ≡ Some q) (sym same) g) h) few

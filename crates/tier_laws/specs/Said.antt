@@ -1,0 +1,178 @@
+-- The words of the laws.
+use Rattle.std.specs.Prelude.{◌≡◌, ◌⊎◌, ◌<◌, ◌≤◌, ◌^◌, ◌+◌, ◌*◌, ℕ, Bool, true, false, List, length, Some, slice_get}
+use Rattle.aeg_base.specs.Store.{Store, value_at}
+use Rattle.aeg_base.specs.declared.names.Key.{Key}
+use Rattle.svc_api.specs.Plan.{IsKey}
+use Rattle.aeg_base.specs.declared.names.ReqId.{ReqId}
+use Rattle.svc_api.specs.Segment.{GoesOn}
+use Rattle.svc_api.specs.Requests.{IsRequest}
+use Rattle.exec_model.specs.declared.job.Seg.{Seg}
+use Rattle.exec_model.specs.Jobs.{run_job}
+use Rattle.exec_model.specs.Outcomes as changes
+use Rattle.aeg_base.specs.declared.names.Tier.{Tier}
+use Rattle.aeg_base.specs.declared.names.Tier.TheVariants.{Mid as InMid, Inv, Pay}
+use Rattle.server_model.specs.Server.{found_in}
+use Rattle.server_model.specs.History.{replies, calls, served}
+use Rattle.log_model.specs.Log.{count_below}
+use Rattle.log_model.specs.Recover.{newest, recover}
+use Rattle.log_model.specs.World.{Mode, Node}
+use Rattle.log_model.specs.World.Mode.{Up, Down, Gone}
+use Rattle.log_values.specs.declared.any_value.AnyValue.{AnyValue}
+use Rattle.log_values.specs.declared.mid_value.Verdict.{Verdict}
+use Rattle.log_values.specs.declared.mid_value.Verdict.TheVariants.{Commit, Serial}
+use Rattle.log_values.specs.declared.fact.Fact.{Fact}
+use Rattle.round_model.specs.Lists.{tabulate}
+use Rattle.round_model.specs.Service.{Service, serial, serial_end, finish, is_order, token_of}
+use Rattle.round_model.specs.Tables.{Number, Want}
+use Rattle.round_model.specs.After.{Round, round, after}
+use Rattle.round_model.specs.Verdicts.{Vote}
+use Rattle.round_model.specs.Answers.{code_of}
+use Rattle.tier_model.specs.Moves.{log_facts, held_in}
+use Rattle.tier_model.specs.Mid.{Mid}
+use Rattle.tier_model.specs.Back.{Back}
+use Rattle.run_model.specs.World.{Config, World}
+use Rattle.run_model.specs.Histories.{back_run, floor_of}
+use Rattle.run_model.specs.Runs.{served_of}
+
+-- WHAT A SERVICE'S LAWS GIVE
+
+-- keys of a store, with numbers of 64 bits
+pub record IsStore (s : Store) : Type 0 where
+  pub keys : (k : Key) → (value_at s k ≡ 0 → ⊥) → IsKey k
+  pub values : (k : Key) → value_at s k < 2 ^ 64
+
+-- at most 16 segments, each of a request
+pub record IsJob (J : List Seg) : Type 0 where
+  pub short : length J ≤ 16
+  pub asked : (i : ℕ) (j : Seg) → slice_get J i ≡ Some j → IsRequest j.who
+
+-- A run's order of finishing is an order of its job, and its store and ends are those of the segments one after another
+-- in that order. Stores stay stores, and a token is read as the outcome that it spells. A request whose segment calls has
+-- the stage that the call names.
+pub record Laws {B : Type 0} (m : Service B) : Type 0 where
+  pub orders : (J : List Seg) (s : Store) (schedule : List ℕ) → is_order (length J) (run_job m.begins J s schedule).order ≡ true
+  pub store : (J : List Seg) (s : Store) (schedule : List ℕ) → (run_job m.begins J s schedule).store ≡ serial m J (run_job m.begins J s schedule).order s
+  pub ends : (J : List Seg) (s : Store) (schedule : List ℕ) → (run_job m.begins J s schedule).ends ≡ tabulate (length J) (serial_end m J (run_job m.begins J s schedule).order s)
+  pub stores : (J : List Seg) (order : List ℕ) (s : Store) → IsJob J → is_order (length J) order ≡ true → IsStore s → IsStore (serial m J order s)
+  pub reads : (J : List Seg) (order : List ℕ) (s : Store) → IsJob J → is_order (length J) order ≡ true → IsStore s → m.read (token_of m s (finish m J order s)) ≡ Some (changes.outcome s (finish m J order s).store (finish m J order s).ends)
+  pub again : (who : ReqId) (body : List ℕ) (stage : ℕ) → GoesOn (m.meaning.table who body stage) (m.meaning.table who body)
+
+-- THE HISTORY
+
+-- the history has this reply to the request
+abbrev pub HasReply : {B : Type 0} → Config B → World B → ReqId → List ℕ → Type 0
+HasReply c w who text = (j : ℕ) × (slice_get (replies c.service.meaning w.hist) j ≡ Some (who, text))
+
+-- it makes this call
+abbrev pub HasCall : {B : Type 0} → Config B → World B → Tier → ℕ → List ℕ → Type 0
+HasCall c w t n text = found_in (calls c.service.meaning w.hist) t n ≡ Some text
+
+-- it serves the call with this code
+abbrev pub HasAnswer : {B : Type 0} → Config B → World B → Tier → ℕ → ℕ → Type 0
+HasAnswer c w t n code = found_in (served c.service.meaning w.hist) t n ≡ Some code
+
+-- the request was submitted with this text
+abbrev pub WasSubmitted : {B : Type 0} → World B → ReqId → List ℕ → Type 0
+WasSubmitted w who body = (j : ℕ) × (slice_get w.submitted j ≡ Some (record { client = who.client; seq = who.seq; body = body }))
+
+-- LOGS
+
+abbrev pub chosen_log : {B : Type 0} → World B → Tier → List AnyValue
+chosen_log w InMid = w.log
+chosen_log w Inv = w.logs Inv
+chosen_log w Pay = w.logs Pay
+
+abbrev pub MidLearned : Mode Mid → ℕ → AnyValue → Type 0
+MidLearned (Up σ) p v = slice_get σ.log.learned p ≡ Some v
+MidLearned Down p v = ⊥
+MidLearned Gone p v = ⊥
+
+abbrev pub BackLearned : {B : Type 0} → Mode (Back B) → ℕ → AnyValue → Type 0
+BackLearned (Up σ) p v = slice_get σ.log.learned p ≡ Some v
+BackLearned Down p v = ⊥
+BackLearned Gone p v = ⊥
+
+-- the node x of the tier is up and has learned the value at p
+abbrev pub HasLearned : {B : Type 0} → World B → Tier → ℕ → ℕ → AnyValue → Type 0
+HasLearned w InMid x p v = MidLearned (w.mids x).mode p v
+HasLearned w Inv x p v = BackLearned (w.backs Inv x).mode p v
+HasLearned w Pay x p v = BackLearned (w.backs Pay x).mode p v
+
+-- the disk of a node that isn't gone may stand for these records
+abbrev pub StandsFor : {S : Type 0} → Node S Fact → Mode S → List (List Fact) → Type 0
+StandsFor node (Up s) records = node.records ≡ records
+StandsFor node Down records = (node.records ≡ records) ⊎ ((k : ℕ) × (slice_get node.others k ≡ Some records))
+StandsFor node Gone records = ⊥
+
+abbrev pub DiskStandsFor : {B : Type 0} → World B → Tier → ℕ → List (List Fact) → Type 0
+DiskStandsFor w InMid x records = StandsFor (w.mids x) (w.mids x).mode records
+DiskStandsFor w Inv x records = StandsFor (w.backs Inv x) (w.backs Inv x).mode records
+DiskStandsFor w Pay x records = StandsFor (w.backs Pay x) (w.backs Pay x).mode records
+
+-- what a restart learns from these records
+abbrev pub learned_from : ℕ → List (List Fact) → List AnyValue
+learned_from u records = (recover u (log_facts (newest records))).learned
+
+-- STATES
+
+-- a middle node that is up has the store and tables of its applied rounds
+abbrev pub MidApplied : {B : Type 0} → Config B → World B → Mode Mid → Type 0
+MidApplied c w (Up σ) = after c.service c.depth w.log (served_of c w) σ.applied ≡ Some σ.tables
+MidApplied c w Down = Unit {0}
+MidApplied c w Gone = Unit {0}
+
+-- A backend node has the backend of its learned calls, the first of each number. A code of these is kept or below the
+-- floor, a kept code is one of these and not below the floor, and the floor is the greatest that was settled.
+pub record BackApplied {B : Type 0} (m : Service B) (t : Tier) (σ : Back B) : Type 0 where
+  pub state : σ.state ≡ (back_run m t σ.log.learned).state
+  pub codes : (n code : ℕ) → (back_run m t σ.log.learned).code n ≡ Some code → (n < σ.floor) ⊎ (code_of σ.kept t n ≡ Some code)
+  pub kept : (n code : ℕ) → code_of σ.kept t n ≡ Some code → (back_run m t σ.log.learned).code n ≡ Some code
+  pub above : (n code : ℕ) → code_of σ.kept t n ≡ Some code → σ.floor ≤ n
+  pub below : (n : ℕ) → 0 < n → n < σ.floor → (code : ℕ) × ((back_run m t σ.log.learned).code n ≡ Some code)
+  pub floor : σ.floor ≡ floor_of σ.log.learned
+
+abbrev pub BackServes : {B : Type 0} → Config B → Tier → Mode (Back B) → Type 0
+BackServes c t (Up σ) = BackApplied c.service t σ
+BackServes c t Down = Unit {0}
+BackServes c t Gone = Unit {0}
+
+-- VERDICTS AND DURABILITY
+
+-- the run is one of the world's
+abbrev pub DidRun : {B : Type 0} → World B → Vote → Type 0
+DidRun w v = (i : ℕ) × (slice_get w.runs i ≡ Some v)
+
+-- The node y ran the round to this token.
+abbrev pub RanTo : {B : Type 0} → World B → ℕ → List ℕ → ℕ → Type 0
+RanTo w r token y = (v : Vote) × DidRun w v × (v.round ≡ r) × (v.from ≡ y) × (v.token ≡ token)
+
+-- More than u nodes ran the round to the token of a Commit, and one run to it had its order. Two nodes ran the round of a
+-- Serial to different tokens.
+abbrev pub Caused : {B : Type 0} → Config B → World B → ℕ → Verdict → Type 0
+Caused c w r (Commit token order) = ((ys : ℕ → Bool) × (c.u < count_below (2 * c.u + 1) ys) × ((y : ℕ) → ys y ≡ true → RanTo w r token y))
+    × ((v : Vote) × DidRun w v × (v.round ≡ r) × (v.token ≡ token) × (v.order ≡ order))
+Caused c w r Serial = (v : Vote) × (u : Vote) × DidRun w v × DidRun w u × (v.round ≡ r) × (u.round ≡ r) × (v.token ≡ u.token → ⊥) × (v.from ≡ u.from → ⊥)
+
+abbrev pub is_gone : {S : Type 0} → Mode S → Bool
+is_gone (Up s) = false
+is_gone Down = false
+is_gone Gone = true
+
+-- at most u of the middle nodes are gone
+abbrev pub FewGone : {B : Type 0} → Config B → World B → Type 0
+FewGone c w = count_below (2 * c.u + 1) (λ x. is_gone (w.mids x).mode) ≤ c.u
+
+-- a middle node that isn't gone has the answer in each list that its disk stands for
+pub record Durable {B : Type 0} (c : Config B) (w : World B) (t : Tier) (n : ℕ) : Type 0 where
+  pub node : ℕ
+  pub inside : node < 2 * c.u + 1
+  pub here : is_gone (w.mids node).mode ≡ false
+  pub code : ℕ
+  pub is_served : HasAnswer c w t n code
+  pub is_held : (records : List (List Fact)) → StandsFor (w.mids node) (w.mids node).mode records → code_of (held_in (newest records)) t n ≡ Some code
+
+-- the round stands at the world, and each call that it waits for is durable there
+pub record UsedBefore {B : Type 0} (c : Config B) (w : World B) (r : ℕ) : Type 0 where
+  pub made : Round
+  pub is_round : round c.service c.depth w.log (served_of c w) r ≡ Some made
+  pub held : (j : ℕ) (q : Want) (k : Number) → slice_get made.wants j ≡ Some q → q.call ≡ Some k → Durable c w k.tier k.num

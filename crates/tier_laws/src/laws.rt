@@ -1,0 +1,77 @@
+// The laws of the three tiers, for every list of events: whatever is delivered, lost, repeated, reordered, cut short,
+// crashed, cut, faulted, wiped and restarted.
+ghost use Rattle.std.specs.Prelude.{◌≡◌, ℕ, ◌+◌, ◌*◌, ◌<◌, ◌≤◌, List, [], ◌∷◌, ◌++◌, length, Some, slice_get, true};
+ghost use Rattle.aeg_base.specs.declared.names.ReqId.{ReqId};
+ghost use Rattle.aeg_base.specs.declared.names.Tier.{Tier};
+ghost use Rattle.aeg_base.specs.declared.names.End.TheVariants.{Client};
+ghost use Rattle.server_model.specs.History.{Legal};
+ghost use Rattle.server_model.specs.declared.history.Hist.TheVariants.{Start};
+ghost use Rattle.log_model.specs.declared.message.PaxMsg.TheVariants.{Learn};
+ghost use Rattle.log_model.specs.Chosen.{Meets};
+ghost use Rattle.log_values.specs.declared.any_value.AnyValue.{AnyValue};
+ghost use Rattle.log_values.specs.declared.any_value.AnyValue.TheVariants.{Mid};
+ghost use Rattle.log_values.specs.declared.mid_value.MidValue.TheVariants as values;
+ghost use Rattle.log_values.specs.declared.mid_value.Verdict.{Verdict};
+ghost use Rattle.log_values.specs.declared.entry.Entry.{Entry};
+ghost use Rattle.log_values.specs.declared.fact.Fact.{Fact};
+ghost use Rattle.frames.specs.declared.message.Msg.TheVariants as messages;
+ghost use Rattle.round_model.specs.Tables.{Number, Want, who_of};
+ghost use Rattle.round_model.specs.After.{Round, round};
+ghost use Rattle.tier_model.specs.Moves.{Packet, tier_of};
+ghost use Rattle.run_model.specs.declared.trace.TraceEvent.{TraceEvent};
+ghost use Rattle.run_model.specs.World.{Config};
+ghost use Rattle.run_model.specs.Histories.{HistoryStep};
+ghost use Rattle.run_model.specs.Runs.{world, is_in, log_soup, served_of};
+ghost use Rattle.tier_laws.specs.Said.{Laws, HasReply, HasCall, HasAnswer, WasSubmitted, chosen_log, HasLearned, DiskStandsFor, learned_from, MidApplied, BackServes, Caused, FewGone, Durable, UsedBefore};
+
+/// The history is legal on one server. Each reply, call and answer that was sent is one of this history, a reply goes to
+/// its own client, and so is each reply that a client took. What starts in it was submitted with that text.
+pub fn headline<B>()
+    ensures legal { (c : Config B) (es : List TraceEvent) → c.u ≤ 2 → Laws c.service → Legal c.service.meaning (world c es).hist }
+    ensures replies { (c : Config B) (es : List TraceEvent) (i : ℕ) (k : Packet) (who : ReqId) (text : List ℕ) → c.u ≤ 2 → Laws c.service → slice_get (world c es).soup i ≡ Some k → k.message ≡ messages.Reply who text → (k.to ≡ Client who.client) × HasReply c (world c es) who text }
+    ensures calls { (c : Config B) (es : List TraceEvent) (i n : ℕ) (k : Packet) (text : List ℕ) → c.u ≤ 2 → Laws c.service → slice_get (world c es).soup i ≡ Some k → k.message ≡ messages.Call n text → HasCall c (world c es) (tier_of k.to) n text }
+    ensures answers { (c : Config B) (es : List TraceEvent) (i n code : ℕ) (k : Packet) → c.u ≤ 2 → Laws c.service → slice_get (world c es).soup i ≡ Some k → k.message ≡ messages.Answer n code → HasAnswer c (world c es) (tier_of k.from) n code }
+    ensures haves { (c : Config B) (es : List TraceEvent) (i n code : ℕ) (t : Tier) (k : Packet) → c.u ≤ 2 → Laws c.service → slice_get (world c es).soup i ≡ Some k → k.message ≡ messages.Have t n code → HasAnswer c (world c es) t n code }
+    ensures starts { (c : Config B) (es : List TraceEvent) (i n : ℕ) (who : ReqId) (body : List ℕ) → c.u ≤ 2 → Laws c.service → slice_get (world c es).hist i ≡ Some (Start who n, body) → WasSubmitted (world c es) who body }
+    ensures told { (c : Config B) (es : List TraceEvent) (i : ℕ) (e : Entry) → c.u ≤ 2 → Laws c.service → slice_get (world c es).told i ≡ Some e → HasReply c (world c es) (who_of e) e.body }
+{}
+
+/// No two values at one position of a tier: what meets the condition of being chosen stands in the tier's chosen log, and
+/// so does what a node has learned, what a message tells as learned, and what a disk has learned, whichever list it
+/// stands for.
+pub fn agreement<B>()
+    ensures chosen { (c : Config B) (es : List TraceEvent) (t : Tier) (p : ℕ) (v : AnyValue) → c.u ≤ 2 → Laws c.service → Meets c.u (log_soup t (world c es).soup) p v → slice_get (chosen_log (world c es) t) p ≡ Some v }
+    ensures learned { (c : Config B) (es : List TraceEvent) (t : Tier) (x p : ℕ) (v : AnyValue) → c.u ≤ 2 → Laws c.service → x < 2 * c.u + 1 → HasLearned (world c es) t x p v → slice_get (chosen_log (world c es) t) p ≡ Some v }
+    ensures told { (c : Config B) (es : List TraceEvent) (t : Tier) (i p : ℕ) (k : Packet) (v : AnyValue) → c.u ≤ 2 → Laws c.service → is_in t k.from ≡ true → slice_get (world c es).soup i ≡ Some k → k.message ≡ messages.Log (Learn p v) → slice_get (chosen_log (world c es) t) p ≡ Some v }
+    ensures on_disk { (c : Config B) (es : List TraceEvent) (t : Tier) (x p : ℕ) (v : AnyValue) (records : List (List Fact)) → c.u ≤ 2 → Laws c.service → x < 2 * c.u + 1 → DiskStandsFor (world c es) t x records → slice_get (learned_from c.u records) p ≡ Some v → slice_get (chosen_log (world c es) t) p ≡ Some v }
+{}
+
+/// A middle node that is up has the store and tables that the chosen log and the served answers come to at its number of
+/// applied rounds. A backend node has the backend, the kept answers and the floor of its learned positions.
+pub fn applied<B>()
+    ensures middle { (c : Config B) (es : List TraceEvent) (x : ℕ) → c.u ≤ 2 → Laws c.service → x < 2 * c.u + 1 → MidApplied c (world c es) ((world c es).mids x).mode }
+    ensures backend { (c : Config B) (es : List TraceEvent) (t : Tier) (x : ℕ) → c.u ≤ 2 → Laws c.service → x < 2 * c.u + 1 → BackServes c t ((world c es).backs t x).mode }
+{}
+
+/// What is submitted later starts later, past all that the history had before; and the history only grows at its end.
+pub fn real_order<B>()
+    ensures starts { (c : Config B) (es fs : List TraceEvent) (i n : ℕ) (who : ReqId) (body : List ℕ) → c.u ≤ 2 → Laws c.service → slice_get (world c (es ++ fs)).hist i ≡ Some (Start who n, body)
+        → ((text : List ℕ) → WasSubmitted (world c es) who text → ⊥) → length (world c es).hist ≤ i }
+    ensures grows { (c : Config B) (es fs : List TraceEvent) (i : ℕ) (k : HistoryStep) → slice_get (world c es).hist i ≡ Some k → slice_get (world c (es ++ fs)).hist i ≡ Some k }
+{}
+
+/// A chosen Commit has more than u nodes that ran its round to its token, one of them with its order. A chosen Serial has
+/// two nodes that ran it to different tokens.
+pub fn causes<B>()
+    ensures causes { (c : Config B) (es : List TraceEvent) (r : ℕ) (v : Verdict) → c.u ≤ 2 → Laws c.service → slice_get (world c es).log (2 * r + 1) ≡ Some (Mid (values.Verdict v)) → Caused c (world c es) r v }
+{}
+
+/// Where at most u middle nodes are gone, each call whose answer a decided round used, and each call below a floor that
+/// was sent, is held by a node that isn't gone, in each list that its disk stands for. For a round's calls this holds
+/// before the event that chooses its verdict.
+pub fn durability<B>()
+    ensures used { (c : Config B) (es : List TraceEvent) (r j : ℕ) (v : Verdict) (made : Round) (q : Want) (k : Number) → c.u ≤ 2 → Laws c.service → slice_get (world c es).log (2 * r + 1) ≡ Some (Mid (values.Verdict v))
+        → round c.service c.depth (world c es).log (served_of c (world c es)) r ≡ Some made → slice_get made.wants j ≡ Some q → q.call ≡ Some k → FewGone c (world c es) → Durable c (world c es) k.tier k.num }
+    ensures before { (c : Config B) (es : List TraceEvent) (e : TraceEvent) (r : ℕ) (v : Verdict) → c.u ≤ 2 → Laws c.service → length (world c es).log ≤ 2 * r + 1 → slice_get (world c (es ++ e ∷ [])).log (2 * r + 1) ≡ Some (Mid (values.Verdict v)) → FewGone c (world c es) → UsedBefore c (world c es) r }
+    ensures floors { (c : Config B) (es : List TraceEvent) (i g n : ℕ) (k : Packet) → c.u ≤ 2 → Laws c.service → slice_get (world c es).soup i ≡ Some k → k.message ≡ messages.Settle g → 0 < n → n < g → FewGone c (world c es) → Durable c (world c es) (tier_of k.to) n }
+{}

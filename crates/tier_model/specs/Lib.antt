@@ -1,0 +1,5 @@
+pub mod Moves
+pub mod Mid
+pub mod MidRows
+pub mod Back
+pub mod BackRows

@@ -1,0 +1,135 @@
+-- A middle node: its state, and how a round is applied at it.
+use Rattle.std.specs.Prelude.{ℕ, suc, ◌+◌, ◌*◌, Bool, true, false, ◌&&◌, ◌==◌, nat_lt, List, [], ◌∷◌, ◌++◌, length, map, Option, Some, None, if◌then◌else◌}
+use Rattle.aeg_base.specs.declared.names.Tier.{Tier}
+use Rattle.aeg_base.specs.declared.names.Tier.TheVariants as tiers
+use Rattle.aeg_base.specs.declared.names.End.TheVariants.{Client}
+use Rattle.svc_api.specs.declared.action.Ending.{Ending}
+use Rattle.svc_api.specs.declared.action.Ending.TheVariants.{Reply, Call}
+use Rattle.log_model.specs.Log.{LogState, Turn, nobody}
+use Rattle.log_values.specs.declared.any_value.AnyValue.{AnyValue}
+use Rattle.log_values.specs.declared.entry.Entry.{Entry}
+use Rattle.log_values.specs.declared.mid_value.Verdict.{Verdict}
+use Rattle.log_values.specs.declared.mid_value.Verdict.TheVariants.{Commit, Serial}
+use Rattle.frames.specs.declared.message.Msg.TheVariants as msgs
+use Rattle.frames.specs.declared.turn.Idle.{Idle}
+use Rattle.frames.specs.declared.turn.Idle.TheVariants.{Nothing, NoAnswer}
+use Rattle.round_model.specs.Lists.{and_then, below, each, OfTiers, of_tier}
+use Rattle.round_model.specs.Service.{Service, has_stage, Finish, finish, finish_by}
+use Rattle.round_model.specs.Tables.{Tables, Number, Want, wants, Codes, job_of, first_missing, bump, settled, drop_done}
+use Rattle.round_model.specs.After.{batch_at, verdict_at}
+use Rattle.round_model.specs.Verdicts.{Vote, without_round}
+use Rattle.round_model.specs.Answers.{Code, code_of, Noted}
+use Rattle.tier_model.specs.Moves.{node, Packet, Move, idles, says, log_packets, as_fact, log_answer}
+
+-- The log; how many rounds are applied, and the tables that they came to; the pending entry of each client; the tokens of
+-- the rounds to come; the run of the next round, where it ran; the answers that are held, and who else holds some.
+pub record Mid : Type 0 where
+  pub log : LogState AnyValue
+  pub applied : ℕ
+  pub tables : Tables
+  pub pending : List (Option Entry)
+  pub tally : List Vote
+  pub spec : Option Vote
+  pub held : List Code
+  pub noted : List Noted
+
+abbrev pub with_log : Mid → LogState AnyValue → Mid
+with_log σ log = record σ { log = log }
+
+-- APPLYING A ROUND
+
+-- a call among the ends has a stage at which its request goes on
+abbrev pub fit : {B : Type 0} → Service B → Want → Ending → Bool
+fit m w (Reply text) = true
+fit m w (Call t stage text) = has_stage m (record { client = w.client; seq = w.seq }) w.body stage
+
+-- there is one end for each segment, and each call fits
+abbrev pub fits : {B : Type 0} → Service B → List Want → List Ending → Bool
+fits m [] [] = true
+fits m [] (e ∷ es) = false
+fits m (w ∷ ws) [] = false
+fits m (w ∷ ws) (e ∷ es) = fit m w e && fits m ws es
+
+-- A Commit is applied by writing its token's pairs to the store, where it fits. A Serial is applied by running the job in
+-- its order, where each answer is held.
+abbrev pub finish_of : {B : Type 0} → Service B → Codes → List Want → Tables → Verdict → Option Finish
+finish_of m held ws T (Commit token order) = and_then (m.read token) (λ o. if fits m ws o.ends then Some (finish_by T.store o) else None)
+finish_of m held ws T Serial = and_then (job_of held ws) (λ J. Some (finish m J (below (length J)) T.store))
+
+-- what the segments of the next round want, and what its verdict makes of them
+pub record Ready : Type 0 where
+  pub wants : List Want
+  pub finish : Finish
+
+-- the next round, where it can be applied
+abbrev pub ready : {B : Type 0} → Service B → Mid → Option Ready
+ready m σ = and_then (batch_at σ.log.learned σ.applied) (λ es. and_then (verdict_at σ.log.learned σ.applied) (λ v.
+    and_then (finish_of m (code_of σ.held) (wants m σ.tables es) σ.tables v) (λ o. Some (record { wants = wants m σ.tables es; finish = o }))))
+
+-- the state after the round is applied
+abbrev pub apply : Mid → Ready → Mid
+apply σ R = record σ {
+  applied = suc σ.applied;
+  tables = settled σ.tables R.wants R.finish;
+  pending = drop_done (settled σ.tables R.wants R.finish).last σ.pending;
+  tally = without_round σ.applied σ.tally;
+  spec = None;
+}
+
+abbrev pub reply_to : ℕ → ℕ → ℕ → List ℕ → Packet
+reply_to x client seq text = record { from = node tiers.Mid x; to = Client client; message = msgs.Reply (record { client = client; seq = seq }) text }
+
+abbrev pub call_to : ℕ → Tier → ℕ → List ℕ → ℕ → Packet
+call_to x t num text y = record { from = node tiers.Mid x; to = node t y; message = msgs.Call num text }
+
+-- the call goes to all nodes of its tier
+abbrev pub calls_to : ℕ → ℕ → Tier → ℕ → List ℕ → List Packet
+calls_to u x t num text = each (2 * u + 1) nobody (call_to x t num text)
+
+-- the replies and the calls of a round, in job order
+abbrev pub tells : ℕ → ℕ → OfTiers ℕ → List Want → List Ending → List Packet
+tells u x next [] es = []
+tells u x next (w ∷ ws) [] = []
+tells u x next (w ∷ ws) (Reply text ∷ es) = reply_to x w.client w.seq text ∷ tells u x next ws es
+tells u x next (w ∷ ws) (Call t stage text ∷ es) = calls_to u x t (of_tier next t) text ++ tells u x (bump next t) ws es
+
+abbrev pub apply_state : Mid → Option Ready → Mid
+apply_state σ None = σ
+apply_state σ (Some R) = apply σ R
+
+abbrev pub apply_sends : ℕ → ℕ → Mid → Option Ready → List Packet
+apply_sends u x σ None = []
+apply_sends u x σ (Some R) = tells u x σ.tables.next R.wants R.finish.ends
+
+-- A TURN OF THE LOG
+
+-- the log learns the verdict of the next round
+abbrev pub is_due : Mid → LogState AnyValue → Bool
+is_due σ log = nat_lt (length σ.log.learned) (length log.learned) && (length log.learned == 2 * σ.applied + 2)
+
+abbrev pub due_round : {B : Type 0} → Service B → Mid → LogState AnyValue → Option Ready
+due_round m σ log = if is_due σ log then ready m (with_log σ log) else None
+
+-- where the log learns the verdict of the next round, that round is applied if it can be, after the log's own packets
+abbrev pub in_log : {B : Type 0} → ℕ → Service B → ℕ → Mid → Turn AnyValue → Move Mid
+in_log u m x σ t = record {
+  state = apply_state (with_log σ t.state) (due_round m σ t.state);
+  facts = map as_fact t.facts;
+  sends = log_packets tiers.Mid x t.sends ++ apply_sends u x (with_log σ t.state) (due_round m σ t.state);
+  answer = log_answer t.idle;
+}
+
+-- WHY A ROUND IS NOT APPLIED
+
+abbrev pub missing : Option Number → Idle
+missing None = Nothing
+missing (Some k) = NoAnswer k.tier k.num
+
+abbrev pub unready : {B : Type 0} → Service B → Mid → Option (List Entry) → Option Verdict → Idle
+unready m σ (Some es) (Some Serial) = missing (first_missing (code_of σ.held) (wants m σ.tables es))
+unready m σ es v = Nothing
+
+-- the next round is applied, or it is told why not: a Commit doesn't fit, or an answer isn't held
+abbrev pub applies : {B : Type 0} → ℕ → Service B → ℕ → Mid → Option Ready → Move Mid
+applies u m x σ None = idles σ (unready m σ (batch_at σ.log.learned σ.applied) (verdict_at σ.log.learned σ.applied))
+applies u m x σ (Some R) = says (apply σ R) (apply_sends u x σ (Some R))
