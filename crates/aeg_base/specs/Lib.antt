@@ -3,3 +3,4 @@ pub mod Codes
 pub mod Locks
 pub mod Numbers
 pub mod Store
+pub mod Changes

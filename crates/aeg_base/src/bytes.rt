@@ -1,5 +1,6 @@
 // A list of bytes that contracts see as a list.
 ghost use Rattle.std.specs.Prelude.{◌≡◌, List, ℕ, [], ◌∷◌, ◌++◌, OnOk, OnErr, IfOk};
+ghost use Rattle.std.specs.declared.alloc.Global.{Global};
 
 use crate::Memory;
 use std::alloc::Global;
@@ -59,6 +60,13 @@ impl Bytes {
         ensures { result.items ≡ self }
     {
         self.items
+    }
+
+    /// What the list takes its memory from: the one heap of the process.
+    pub fn allocator(&self) -> Global
+        ensures { (heap : Global) → result ≡ heap }
+    {
+        *self.items.allocator()
     }
 
     /// The same list again.

@@ -1,4 +1,6 @@
 // Names of keys, tiers, nodes, requests and calls.
+ghost use Rattle.std.specs.Prelude.{◌≡◌};
+ghost use Rattle.aeg_base.specs.Ballots.{same_ballot, is_below, is_at_most};
 
 /// The key of a number in a store: its class is below 8.
 #[derive(Clone, Copy, Debug, PartialEq, Eq, PartialOrd, Ord, Hash)]
@@ -34,6 +36,29 @@ pub enum End {
 pub struct Ballot {
     pub counter: u32,
     pub node: u8,
+}
+
+impl Ballot {
+    /// Whether it is lower than the other.
+    pub fn is_below(self, other: Ballot) -> bool
+        ensures { result ≡ is_below self other }
+    {
+        self.counter < other.counter || self.counter == other.counter && self.node < other.node
+    }
+
+    /// Whether it is at most the other.
+    pub fn is_at_most(self, other: Ballot) -> bool
+        ensures { result ≡ is_at_most self other }
+    {
+        !other.is_below(self)
+    }
+
+    /// Whether the two are one ballot.
+    pub fn is_same(self, other: Ballot) -> bool
+        ensures { result ≡ same_ballot self other }
+    {
+        self.counter == other.counter && self.node == other.node
+    }
 }
 
 /// A request: its client, and its number among the client's, both from 1.

@@ -1,6 +1,7 @@
 // A list of values that contracts see as a list.
 ghost use Rattle.std.specs.Prelude.{◌≡◌, List, [], ◌∷◌, ◌++◌, OnOk, OnErr};
 ghost use Rattle.std.specs.Coded.{coded_list};
+ghost use Rattle.std.specs.declared.alloc.Global.{Global};
 
 use crate::Memory;
 use std::alloc::Global;
@@ -48,6 +49,13 @@ impl<T> Seq<T> {
         ensures { result.items ≡ self }
     {
         self.items
+    }
+
+    /// What the list takes its memory from: the one heap of the process.
+    pub fn allocator(&self) -> Global
+        ensures { (heap : Global) → result ≡ heap }
+    {
+        *self.items.allocator()
     }
 
     /// Adds a value at the end.

@@ -1,15 +1,16 @@
 -- What a loop that finishes a group keeps: what is left to finish comes to the same state.
-use Rattle.std.proofs.Common.{◌≡◌, ℕ, ◌+◌, ◌==◌, Bool, true, false, ◌||◌, List, [], ◌∷◌, ◌++◌, refl, sym, ap, ◌∙◌, cond, arith}
+use Rattle.std.proofs.Common.{◌≡◌, ℕ, zero, suc, ◌+◌, ◌==◌, Bool, true, false, ◌||◌, List, [], ◌∷◌, ◌++◌, refl, sym, ap, ◌∙◌, cond, arith}
 use Rattle.std.proofs.lemmas.Bool.Decides.{nat_tests}
 use Rattle.aeg_base.specs.declared.names.Key.{Key}
 use Rattle.aeg_base.specs.Store.{Store, value_at, written}
 use Rattle.svc_api.specs.Plan.{Plan, Reads, Writes, Ends}
 use Rattle.aeg_base.specs.Locks.{lock_number}
 use Rattle.exec_model.specs.Serial.{serial_end}
-use Rattle.exec_model.specs.Machine.{next, State, mem, is_running, concat, Progress, Running, Ended, touch, leave, again, act, update, turn, go_on, finish_one, finish, complete}
-use Rattle.exec_model.proofs.Finish.{turn-reads, turn-writes, turn-ends, update-less, again-less, settle-progress}
+use Rattle.exec_model.specs.Machine.{next, State, mem, is_running, concat, Progress, Running, Ended, touch, leave, again, act, update, turn, turns, go_on, finish_one, finish, complete}
+use Rattle.exec_model.specs.Spell.{repeat}
+use Rattle.exec_model.proofs.Finish.{turn_is, turn-reads, turn-writes, turn-ends, update-less, again-less, settle-progress}
 
-ended-stays : (plan : ℕ → Plan) (i : ℕ) (x : Progress) (t : State) → is_running x ≡ false → finish_one plan i x t ≡ t
+pub ended-stays : (plan : ℕ → Plan) (i : ℕ) (x : Progress) (t : State) → is_running x ≡ false → finish_one plan i x t ≡ t
 ended-stays plan i (Running p) t h = cc
 ended-stays plan i (Ended e) t h = refl
 
@@ -39,6 +40,23 @@ finish-turn plan i is t m r = at (t.progress i) refl
     at : (x : Progress) → t.progress i ≡ x → finish plan is (finish_one plan i (t.progress i) t) ≡ finish plan is (finish_one plan i ((turn plan t i).progress i) (turn plan t i))
     at (Running p) e = ap (finish plan is) (ap (λ x. finish_one plan i x t) e ∙ finish_one-turn plan i p t m e)
     at (Ended x) e = let z : true ≡ false = sym r ∙ ap is_running e in cc
+
+-- entries of the segment that goes on are steps that it makes anyway
+finish-entry : (plan : ℕ → Plan) (i : ℕ) (is : List ℕ) (t : State) → finish plan (i ∷ is) t ≡ finish plan (i ∷ is) (turn plan t i)
+finish-entry plan i is t = at (mem i t.group) (is_running (t.progress i)) refl refl
+  where
+    still : (x : Progress) → t.progress i ≡ x → is_running x ≡ false → mem i t.group ≡ true → turn plan t i ≡ t
+    still (Running p) e r m = let z : true ≡ false = r in cc
+    still (Ended y) e r m = turn_is plan t i (Ended y) m e
+
+    at : (c d : Bool) → mem i t.group ≡ c → is_running (t.progress i) ≡ d → finish plan (i ∷ is) t ≡ finish plan (i ∷ is) (turn plan t i)
+    at true true m r = finish-turn plan i is t m r
+    at true false m r = ap (finish plan (i ∷ is)) (sym (still (t.progress i) refl r m))
+    at false d m r = ap (finish plan (i ∷ is)) (sym (ap (λ c. cond c (act plan t i (t.progress i)) t) m))
+
+pub finish-entries : (plan : ℕ → Plan) (i : ℕ) (is : List ℕ) (n : ℕ) (t : State) → finish plan (i ∷ is) t ≡ finish plan (i ∷ is) (turns plan t (repeat n i))
+finish-entries plan i is zero t = refl
+finish-entries plan i is (suc n) t = finish-entry plan i is t ∙ finish-entries plan i is n (turn plan t i)
 
 -- segments that have ended are passed over
 pub finish-ended : (plan : ℕ → Plan) (xs ys : List ℕ) (t : State) → ((j : ℕ) → mem j xs ≡ true → is_running (t.progress j) ≡ false) → finish plan (xs ++ ys) t ≡ finish plan ys t

@@ -91,7 +91,7 @@ run-again plan groups s schedule f one =
     let e = run-ended plan groups s schedule f one in
     ap (complete plan) there ∙ complete-ended plan r e.0 e.1
 
-map-same : {A : Type 0} (f g : ℕ → A) (xs : List ℕ) → ((i : ℕ) → f i ≡ g i) → map f xs ≡ map g xs
+pub map-same : {A : Type 0} (f g : ℕ → A) (xs : List ℕ) → ((i : ℕ) → f i ≡ g i) → map f xs ≡ map g xs
 map-same f g [] h = refl
 map-same f g (x ∷ xs) h = λ i. h x i ∷ map-same f g xs h i
 
@@ -155,6 +155,24 @@ run-spelled plan groups os s f one m once =
       redo = z.redo;
       steps = z.steps;
     })
+
+-- without a schedule the segments go whole, in the order of the groups
+pub run-idle : (plan : ℕ → Plan) (groups : List (List ℕ)) (s : Store) → AreFull groups → ((i : ℕ) → times i (concat groups) ≤ 1) → Whole plan s (concat groups) (run plan groups s [])
+run-idle plan groups s f one =
+    let u = start plan groups s in
+    let xs = concat groups in
+    let v = turns plan u (spell plan s xs) in
+    let z = spelled plan s xs xs u one (start-ready plan groups s f) (start-covers plan groups groups s (AreSame-refl groups)) (λ l. refl) (λ j r. refl) one in
+    let w = run-spelled plan groups groups s f one (AreSame-refl groups) one in
+    let ready = turns-keeps plan (Ready plan s xs) (λ t i h. turn-ready plan s xs t i h one) (spell plan s xs) u (start-ready plan groups s f) in
+    let e = finish-ends plan s xs [] v one ready z.done in
+    let same : run plan groups s [] ≡ run plan groups s (spell plan s xs) =
+    ap (λ is. finish plan is u) (sym (split groups)) ∙ z.finishes ∙ sym (complete-ended plan v e.0 e.1) in
+    subst (Whole plan s xs) (sym same) w
+  where
+    split : (os : List (List ℕ)) → concat os ≡ elim os [ [] ↦ [] | g ∷ gs ↦ g ] ++ concat (elim os [ [] ↦ [] | g ∷ gs ↦ gs ])
+    split [] = refl
+    split (o ∷ os) = refl
 
 -- a schedule that spells an order of whole segments, each group's in any order, gives just that order
 pub run_job-spelled : (begins : Beginnings) (segs : List Seg) (s : Store) (os : List (List ℕ)) → AreSame os (mix (locks_at begins segs) (length segs)) → IsOrder (length segs) (concat os) →

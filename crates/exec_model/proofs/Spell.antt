@@ -7,11 +7,12 @@ use Rattle.aeg_base.specs.Locks.{lock_number}
 use Rattle.svc_api.specs.declared.action.Ending.{Ending}
 use Rattle.svc_api.specs.Plan.{Plan, Reads, Writes, Ends, store_after}
 use Rattle.exec_model.specs.Serial.{serial}
-use Rattle.exec_model.specs.Machine.{next, State, mem, update, any_running, is_running, Progress, Running, Ended, settle, again, touch, leave, turn, turns}
+use Rattle.exec_model.specs.Machine.{next, State, mem, update, any_running, is_running, Progress, Running, Ended, settle, again, touch, leave, turn, turns, finish}
 use Rattle.exec_model.specs.Spell.{repeat, steps_of, spell}
 use Rattle.exec_model.proofs.Inv.{any_running-true}
 use Rattle.exec_model.specs.Groups.{times}
 use Rattle.exec_model.proofs.Ready.{Ready, turns-ready}
+use Rattle.exec_model.proofs.Executor.{ended-stays, finish-entries}
 use Rattle.exec_model.proofs.Finish.{turn_is, turns-append, update-own, turns-keeps, turn-covers, CoversAt, Covers-head, Covers-drop}
 
 -- no segment but i is half way
@@ -137,6 +138,7 @@ pub record Spelled (plan : ℕ → Plan) (u v : State) (xs : List ℕ) : Type 0 
   pub steps : v.steps ≡ u.steps ++ spell plan u.store xs
   pub done : CoversAt [] v
   pub ended : (j : ℕ) → is_running (v.progress j) ≡ true → is_running (u.progress j) ≡ true
+  pub finishes : finish plan xs u ≡ v
 
 pub append_nil : (xs : List ℕ) → xs ++ [] ≡ xs
 append_nil [] = refl
@@ -147,7 +149,7 @@ pub spelled : (plan : ℕ → Plan) (s0 : Store) (all : List ℕ) (xs : List ℕ
     → ((l : ℕ) → u.owner l ≡ 0) → ((j : ℕ) → is_running (u.progress j) ≡ true → u.progress j ≡ Running (plan j))
     → ((j : ℕ) → times j xs ≤ cond (is_running (u.progress j)) 1 0)
     → Spelled plan u (turns plan u (spell plan u.store xs)) xs
-spelled plan s0 all [] u one h c free whole runs = record { order = sym (append_nil _); redo = refl; store = refl; steps = sym (append_nil _); done = c; ended = λ j r. r }
+spelled plan s0 all [] u one h c free whole runs = record { order = sym (append_nil _); redo = refl; store = refl; steps = sym (append_nil _); done = c; ended = λ j r. r; finishes = refl }
 spelled plan s0 all (i ∷ xs) u one h c free whole runs =
     let n = steps_of (plan i) u.store in
     let v = turns plan u (repeat n i) in
@@ -164,6 +166,7 @@ spelled plan s0 all (i ∷ xs) u one h c free whole runs =
       steps = rec.steps ∙ ap (λ s. v.steps ++ spell plan s xs) z.store ∙ ap (λ x. x ++ spell plan s xs) z.steps ∙ append_assoc u.steps (repeat n i) (spell plan s xs);
       done = rec.done;
       ended = λ j r. before v z.still z.ended j (i == j) (eqb_tells i j) (rec.ended j r);
+      finishes = finish-entries plan i xs n u ∙ ap (finish plan xs) (ended-stays plan i (v.progress i) v z.ended) ∙ rec.finishes;
     })
   where
     self : ◌≡◌ {A = ℕ} (cond (i == i) 1 0) 1

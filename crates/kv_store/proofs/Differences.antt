@@ -11,7 +11,8 @@ use Rattle.aeg_base.specs.Store.{Store, key_cmp, same_key, value_at, empty, pair
 use Rattle.aeg_base.proofs.NumberLaws.{number_at-entries}
 use Rattle.aeg_base.proofs.StoreLaws.{key_cmp_total, key_cmp-IsAntisymmetric, value_at-written, value_at-empty}
 use Rattle.kv_store.specs.Stores.{unwound, touched}
-use Rattle.kv_store.specs.Changes.{changed_among, changes, picked}
+use Rattle.aeg_base.specs.Changes.{changed_among, changes}
+use Rattle.kv_store.specs.Changes.{picked}
 use Rattle.kv_store.proofs.Flat.{both}
 
 ties_same_key : Tied same_key key_cmp
@@ -115,6 +116,9 @@ sorted_among s t (e ∷ es) pairs h = sorted_among s t es _ (at (value_at s e.0 
     at : (c : Bool) → T (is_sorted key_cmp (cond c pairs (put key_cmp e.0 (value_at t e.0) pairs)))
     at true = h
     at false = is_sorted-put key_cmp key_cmp_total e.0 (value_at t e.0) pairs h
+
+pub sorted_changes : (s t : Store) → T (is_sorted key_cmp (changes s t))
+sorted_changes s t = sorted_among s t (pairs_of t) _ (sorted_among s t (pairs_of s) [] tt)
 
 -- WHAT IS PICKED
 

@@ -1,9 +1,10 @@
 // Pairs and copies of a store, as it is and as it was at an undo list's start.
 ghost use Rattle.std.specs.Prelude.{◌≡◌, ◌++◌, IfOk, OnOk, length};
 ghost use Rattle.aeg_base.specs.Store.{pairs_of, empty};
+ghost use Rattle.aeg_base.specs.Changes.{changes};
 ghost use Rattle.kv_store.specs.Stores.{unwound, touched, AreKeys};
 ghost use Rattle.kv_store.specs.Columns.{keyed, all_pairs, lists_of, AreEmpty};
-ghost use Rattle.kv_store.specs.Changes.{changes, picked};
+ghost use Rattle.kv_store.specs.Changes.{picked};
 
 use crate::{Store, UndoList};
 use aeg_base::{Cells, Key, Memory};
