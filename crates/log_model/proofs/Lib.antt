@@ -13,3 +13,4 @@ pub mod Origin
 mod Example
 pub mod Said
 pub mod Tier
+pub mod Ranged

@@ -3,3 +3,4 @@ pub mod Rows
 pub mod Recover
 pub mod World
 pub mod Chosen
+pub mod Ranges

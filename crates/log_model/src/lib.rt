@@ -4,9 +4,11 @@
 mod fact;
 mod laws;
 mod message;
+mod ranges;
 mod turn;
 
 pub use fact::Fact;
 pub use laws::{agreement, packets};
-pub use message::PaxMsg;
+pub use message::{PaxMsg, copy_report};
+pub use ranges::keeps_ranges;
 pub use turn::{LogIdle, LogTurn, Offering};
