@@ -35,6 +35,13 @@ unfoldable pub text_at : List ℕ → Read (List ℕ)
 text_at [] = None
 text_at (len ∷ rest) = if nat_lt TEXT_BYTES len then None else bytes_at len rest
 
+-- What a write leaves that was broken off: what stood there, and a front of what was to be written.
+pub record IsBegun (old new spelling : List ℕ) : Type 0 where
+  pub written : List ℕ
+  pub left : List ℕ
+  pub appended : new ≡ old ++ written
+  pub parts : spelling ≡ written ++ left
+
 -- What was taken, seen by view, is what stands at the front, and the cursor is after it. Where nothing was taken, the
 -- cursor is where it was.
 abbrev pub Took : {X A : Type 0} → (X → A) → Option X → List ℕ → List ℕ → Read A → Type 0

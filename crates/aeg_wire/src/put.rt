@@ -1,7 +1,7 @@
 // Writing fields at the end of bytes.
 ghost use Rattle.std.specs.Prelude.{◌≡◌, ◌≤◌, ◌++◌, ◌∷◌, [], length, OnOk, OnErr};
 ghost use Rattle.std.specs.Int.{w16, w32, w64, to_be_bytes};
-ghost use Rattle.aeg_wire.specs.Fields.{text};
+ghost use Rattle.aeg_wire.specs.Fields.{text, IsBegun};
 
 use aeg_base::limits::TEXT_BYTES;
 use aeg_base::{Bytes, Memory};
@@ -41,10 +41,11 @@ pub fn put_bytes(out: &mut Bytes, bytes: &[u8]) -> Result<(), Memory>
     out.extend(bytes)
 }
 
-/// A text: its length in a byte, and its bytes. After an error its length alone may have been written.
+/// A text: its length in a byte, and its bytes.
 pub fn put_text(out: &mut Bytes, bytes: &[u8]) -> Result<(), Memory>
     requires { length bytes.now ≤ TEXT_BYTES }
-    ensures { OnOk result (out.new ≡ out.old ++ text bytes.now) }
+    ensures ok { OnOk result (out.new ≡ out.old ++ text bytes.now) }
+    ensures err { OnErr result (IsBegun out.old out.new (text bytes.now)) }
 {
     out.push(bytes.len() as u8)?;
     out.extend(bytes)

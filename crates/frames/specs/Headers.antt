@@ -9,7 +9,7 @@ use Rattle.aeg_base.specs.declared.names.Tier.{Tier}
 use Rattle.aeg_base.specs.declared.names.Tier.TheVariants.{Mid, Inv, Pay}
 use Rattle.aeg_wire.specs.Fields.{Read, ◌>>=◌, byte_at, number_at}
 use Rattle.aeg_wire.specs.Formats.{made, both}
-use Rattle.log_values.specs.declared.format.TheConstants.{FRAME_VERSION, LAST_KIND, LAST_INDEX}
+use Rattle.log_values.specs.declared.format.TheConstants.{FRAME_VERSION, LAST_KIND, LAST_INDEX, MID_TIER, INV_TIER, PAY_TIER, CLIENT_SENDER, REQUEST_KIND, REPLY_KIND, PREPARE_KIND, LEARN_KIND, ANSWER_KIND, BEHIND_KIND}
 use Rattle.log_values.specs.Fields.{tier_number}
 use Rattle.frames.specs.declared.header.Header.{Header}
 use Rattle.frames.specs.declared.header.Lead.{Lead}
@@ -22,7 +22,7 @@ node_of tier index = Node (record { tier = tier; index = index })
 -- the byte of a sender's tier: 3 is a client
 abbrev pub end_number : End → ℕ
 end_number (Node n) = tier_number n.tier
-end_number (Client client) = 3
+end_number (Client client) = CLIENT_SENDER
 
 -- the byte of a sender's index: a client's is its number
 abbrev pub end_index : End → ℕ
@@ -32,23 +32,23 @@ end_index (Client client) = client
 -- who sends by these two bytes
 unfoldable pub sender_of : ℕ → ℕ → Option End
 sender_of tier index =
-    if tier == 3 then (if nat_le 1 index && nat_le index CLIENTS then Some (Client index) else None)
+    if tier == CLIENT_SENDER then (if nat_le 1 index && nat_le index CLIENTS then Some (Client index) else None)
     else if nat_lt LAST_INDEX index then None
-    else if tier == 0 then Some (node_of Mid index)
-    else if tier == 1 then Some (node_of Inv index)
-    else if tier == 2 then Some (node_of Pay index)
+    else if tier == MID_TIER then Some (node_of Mid index)
+    else if tier == INV_TIER then Some (node_of Inv index)
+    else if tier == PAY_TIER then Some (node_of Pay index)
     else None
 
 -- a middle node sends all but Requests and Answers
 abbrev pub is_sent_by_tier : Tier → ℕ → Bool
-is_sent_by_tier Mid kind = nat_le 2 kind && not (kind == 11)
-is_sent_by_tier Inv kind = (nat_le 3 kind && nat_le kind 8) || (kind == 11 || kind == 14)
-is_sent_by_tier Pay kind = (nat_le 3 kind && nat_le kind 8) || (kind == 11 || kind == 14)
+is_sent_by_tier Mid kind = nat_le REPLY_KIND kind && not (kind == ANSWER_KIND)
+is_sent_by_tier Inv kind = (nat_le PREPARE_KIND kind && nat_le kind LEARN_KIND) || (kind == ANSWER_KIND || kind == BEHIND_KIND)
+is_sent_by_tier Pay kind = (nat_le PREPARE_KIND kind && nat_le kind LEARN_KIND) || (kind == ANSWER_KIND || kind == BEHIND_KIND)
 
 -- a client sends Requests; a backend node sends messages of its log and Answers
 abbrev pub is_sent_by : End → ℕ → Bool
 is_sent_by (Node n) kind = is_sent_by_tier n.tier kind
-is_sent_by (Client client) kind = kind == 1
+is_sent_by (Client client) kind = kind == REQUEST_KIND
 
 -- the fields as they stand
 unfoldable pub lead_at : List ℕ → Read Lead
@@ -67,7 +67,7 @@ from_sender (Some from) lead =
 unfoldable pub judged : Lead → Result Header Refused
 judged lead =
     if not (lead.version == FRAME_VERSION) then Err (refused.Row 1)
-    else if nat_lt lead.kind 1 then Err (refused.Row 2)
+    else if nat_lt lead.kind REQUEST_KIND then Err (refused.Row 2)
     else if nat_lt LAST_KIND lead.kind then Err (refused.Row 2)
     else from_sender (sender_of lead.tier lead.index) lead
 

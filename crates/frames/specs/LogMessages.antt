@@ -13,6 +13,7 @@ use Rattle.log_values.specs.declared.any_value.AnyValue.{AnyValue}
 use Rattle.log_values.specs.declared.any_value.AnyValue.TheVariants as values
 use Rattle.log_values.specs.declared.mid_value.MidValue.{MidValue}
 use Rattle.log_values.specs.declared.mid_value.MidValue.TheVariants as mids
+use Rattle.log_values.specs.declared.format.TheConstants.{PREPARE_KIND, PROMISE_KIND, ACCEPT_KIND, ACCEPTED_KIND, ASK_KIND, LEARN_KIND, BEHIND_KIND, NO_REPORT, REPORT}
 use Rattle.log_values.specs.Fields.{ballot, ballot_at, position_at, FitsBallot}
 use Rattle.log_values.specs.Values.{any_value, any_value_at, FitsAny}
 
@@ -49,8 +50,8 @@ open_at bytes = kept (λ n. nat_le n POSITIONS) (number_at w16 bytes)
 
 -- 0, or 1 and the ballot and value accepted
 abbrev pub report : Option (Ballot × AnyValue) → List ℕ
-report None = 0 ∷ []
-report (Some r) = 1 ∷ (ballot r.0 ++ any_value r.1)
+report None = NO_REPORT ∷ []
+report (Some r) = REPORT ∷ (ballot r.0 ++ any_value r.1)
 
 -- what is reported was accepted at a position that has a value
 abbrev pub FitsReport : Tier → ℕ → Option (Ballot × AnyValue) → Type 0
@@ -59,21 +60,21 @@ FitsReport tier pos (Some r) = (pos < POSITIONS) × (FitsBallot r.0 × IsCarried
 
 unfoldable pub report_at : Tier → ℕ → List ℕ → Read (Option (Ballot × AnyValue))
 report_at tier pos bytes = byte_at bytes >>= λ flag.
-    if flag.0 == 0 then Some (None, flag.1)
-    else if flag.0 == 1 then (if nat_lt pos POSITIONS then made (λ r. Some r) (both ballot_at (λ _. carried_at tier pos) flag.1) else None)
+    if flag.0 == NO_REPORT then Some (None, flag.1)
+    else if flag.0 == REPORT then (if nat_lt pos POSITIONS then made (λ r. Some r) (both ballot_at (λ _. carried_at tier pos) flag.1) else None)
     else None
 
 -- ---- bodies
 
 -- the kind of a message of a log
 abbrev pub log_kind : PaxMsg AnyValue → ℕ
-log_kind (Prepare b pos) = 3
-log_kind (Promise b pos reported) = 4
-log_kind (Accept b pos v) = 5
-log_kind (Accepted b pos v) = 6
-log_kind (Ask pos) = 7
-log_kind (Learn pos v) = 8
-log_kind (Behind pos) = 14
+log_kind (Prepare b pos) = PREPARE_KIND
+log_kind (Promise b pos reported) = PROMISE_KIND
+log_kind (Accept b pos v) = ACCEPT_KIND
+log_kind (Accepted b pos v) = ACCEPTED_KIND
+log_kind (Ask pos) = ASK_KIND
+log_kind (Learn pos v) = LEARN_KIND
+log_kind (Behind pos) = BEHIND_KIND
 
 abbrev pub log_body : PaxMsg AnyValue → List ℕ
 log_body (Prepare b pos) = ballot b ++ to_be_bytes w16 pos
@@ -99,11 +100,11 @@ vote_at tier = both ballot_at (λ _. both position_at (λ pos. carried_at tier p
 
 unfoldable pub log_body_at : Tier → ℕ → List ℕ → Read (PaxMsg AnyValue)
 log_body_at tier kind bytes =
-    if kind == 3 then made (λ p. Prepare p.0 p.1) (both ballot_at (λ _. open_at) bytes)
-    else if kind == 4 then made (λ p. Promise p.0 p.1.0 p.1.1) (both ballot_at (λ _. both open_at (λ pos. report_at tier pos)) bytes)
-    else if kind == 5 then made (λ p. Accept p.0 p.1.0 p.1.1) (vote_at tier bytes)
-    else if kind == 6 then made (λ p. Accepted p.0 p.1.0 p.1.1) (vote_at tier bytes)
-    else if kind == 7 then made (λ p. Ask p) (open_at bytes)
-    else if kind == 8 then made (λ p. Learn p.0 p.1) (both position_at (λ pos. carried_at tier pos) bytes)
-    else if kind == 14 then made (λ p. Behind p) (open_at bytes)
+    if kind == PREPARE_KIND then made (λ p. Prepare p.0 p.1) (both ballot_at (λ _. open_at) bytes)
+    else if kind == PROMISE_KIND then made (λ p. Promise p.0 p.1.0 p.1.1) (both ballot_at (λ _. both open_at (λ pos. report_at tier pos)) bytes)
+    else if kind == ACCEPT_KIND then made (λ p. Accept p.0 p.1.0 p.1.1) (vote_at tier bytes)
+    else if kind == ACCEPTED_KIND then made (λ p. Accepted p.0 p.1.0 p.1.1) (vote_at tier bytes)
+    else if kind == ASK_KIND then made (λ p. Ask p) (open_at bytes)
+    else if kind == LEARN_KIND then made (λ p. Learn p.0 p.1) (both position_at (λ pos. carried_at tier pos) bytes)
+    else if kind == BEHIND_KIND then made (λ p. Behind p) (open_at bytes)
     else None

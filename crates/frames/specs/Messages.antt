@@ -6,6 +6,7 @@ use Rattle.aeg_base.specs.declared.names.Tier.{Tier}
 use Rattle.svc_api.specs.Plan.{IsBackend}
 use Rattle.aeg_wire.specs.Fields.{Read, byte_at, number_at, text, text_at}
 use Rattle.aeg_wire.specs.Formats.{made, kept, both}
+use Rattle.log_values.specs.declared.format.TheConstants.{REQUEST_KIND, REPLY_KIND, PREPARE_KIND, LEARN_KIND, TOKEN_KIND, CALL_KIND, ANSWER_KIND, HAVE_KIND, SETTLE_KIND, BEHIND_KIND}
 use Rattle.log_values.specs.Fields.{tier_number, backend_at, client_at, seq_at, call_number_at, floor_at, IsClient, IsSeq, IsCallNumber, IsFloor, IsText}
 use Rattle.log_values.specs.Outcomes.{commit, commit_at, IsCommit}
 use Rattle.frames.specs.declared.message.Msg.{Msg}
@@ -14,13 +15,13 @@ use Rattle.frames.specs.LogMessages.{log_kind, log_body, log_body_at, FitsLog}
 
 abbrev pub kind_of : Msg → ℕ
 kind_of (msgs.Log msg) = log_kind msg
-kind_of (msgs.Request seq request) = 1
-kind_of (msgs.Reply who reply) = 2
-kind_of (msgs.Token round token order) = 9
-kind_of (msgs.Call number call) = 10
-kind_of (msgs.Answer number code) = 11
-kind_of (msgs.Have tier number code) = 12
-kind_of (msgs.Settle floor) = 13
+kind_of (msgs.Request seq request) = REQUEST_KIND
+kind_of (msgs.Reply who reply) = REPLY_KIND
+kind_of (msgs.Token round token order) = TOKEN_KIND
+kind_of (msgs.Call number call) = CALL_KIND
+kind_of (msgs.Answer number code) = ANSWER_KIND
+kind_of (msgs.Have tier number code) = HAVE_KIND
+kind_of (msgs.Settle floor) = SETTLE_KIND
 
 abbrev pub body : Msg → List ℕ
 body (msgs.Log msg) = log_body msg
@@ -45,20 +46,20 @@ FitsMsg tier (msgs.Settle floor) = IsFloor floor
 
 -- the kinds of a log's messages
 abbrev pub is_of_log : ℕ → Bool
-is_of_log kind = (nat_le 3 kind && nat_le kind 8) || (kind == 14)
+is_of_log kind = (nat_le PREPARE_KIND kind && nat_le kind LEARN_KIND) || (kind == BEHIND_KIND)
 
 unfoldable pub round_at : List ℕ → Read ℕ
 round_at bytes = kept (λ n. nat_lt n ROUNDS) (number_at w16 bytes)
 
 unfoldable pub other_body_at : ℕ → List ℕ → Read Msg
 other_body_at kind bytes =
-    if kind == 1 then made (λ p. msgs.Request p.0 p.1) (both seq_at (λ _. text_at) bytes)
-    else if kind == 2 then made (λ p. msgs.Reply (record { client = p.0; seq = p.1.0 }) p.1.1) (both client_at (λ _. both seq_at (λ _. text_at)) bytes)
-    else if kind == 9 then made (λ p. msgs.Token p.0 p.1.0 p.1.1) (both round_at (λ _. commit_at) bytes)
-    else if kind == 10 then made (λ p. msgs.Call p.0 p.1) (both call_number_at (λ _. text_at) bytes)
-    else if kind == 11 then made (λ p. msgs.Answer p.0 p.1) (both call_number_at (λ _. byte_at) bytes)
-    else if kind == 12 then made (λ p. msgs.Have p.0 p.1.0 p.1.1) (both backend_at (λ _. both call_number_at (λ _. byte_at)) bytes)
-    else if kind == 13 then made (λ p. msgs.Settle p) (floor_at bytes)
+    if kind == REQUEST_KIND then made (λ p. msgs.Request p.0 p.1) (both seq_at (λ _. text_at) bytes)
+    else if kind == REPLY_KIND then made (λ p. msgs.Reply (record { client = p.0; seq = p.1.0 }) p.1.1) (both client_at (λ _. both seq_at (λ _. text_at)) bytes)
+    else if kind == TOKEN_KIND then made (λ p. msgs.Token p.0 p.1.0 p.1.1) (both round_at (λ _. commit_at) bytes)
+    else if kind == CALL_KIND then made (λ p. msgs.Call p.0 p.1) (both call_number_at (λ _. text_at) bytes)
+    else if kind == ANSWER_KIND then made (λ p. msgs.Answer p.0 p.1) (both call_number_at (λ _. byte_at) bytes)
+    else if kind == HAVE_KIND then made (λ p. msgs.Have p.0 p.1.0 p.1.1) (both backend_at (λ _. both call_number_at (λ _. byte_at)) bytes)
+    else if kind == SETTLE_KIND then made (λ p. msgs.Settle p) (floor_at bytes)
     else None
 
 -- the body of a message of this kind from this tier

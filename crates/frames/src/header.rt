@@ -6,7 +6,10 @@ ghost use Rattle.log_values.specs.Reading.{Found};
 use aeg_base::limits::CLIENTS;
 use aeg_base::{End, NodeId, Tier};
 use aeg_wire::Cursor;
-use log_values::format::{BODY_BYTES, FRAME_VERSION, LAST_INDEX, LAST_KIND};
+use log_values::format::{
+    ANSWER_KIND, BEHIND_KIND, BODY_BYTES, CLIENT_SENDER, FRAME_VERSION, INV_TIER, LAST_INDEX,
+    LAST_KIND, LEARN_KIND, MID_TIER, PAY_TIER, PREPARE_KIND, REPLY_KIND, REQUEST_KIND,
+};
 use log_values::tier_byte;
 
 /// Why a frame is refused: it is too short, or a row of the list of refusals holds, which are tried in order.
@@ -72,7 +75,7 @@ fn node(tier: Tier, index: u8) -> End
 fn sender(tier: u8, index: u8) -> Option<End>
     ensures { result ≡ sender_of tier index }
 {
-    if tier == 3 {
+    if tier == CLIENT_SENDER {
         if 1 <= index && index <= CLIENTS {
             return Some(End::Client(index));
         }
@@ -82,9 +85,9 @@ fn sender(tier: u8, index: u8) -> Option<End>
         return None;
     }
     match tier {
-        0 => Some(node(Tier::Mid, index)),
-        1 => Some(node(Tier::Inv, index)),
-        2 => Some(node(Tier::Pay, index)),
+        MID_TIER => Some(node(Tier::Mid, index)),
+        INV_TIER => Some(node(Tier::Inv, index)),
+        PAY_TIER => Some(node(Tier::Pay, index)),
         _ => None,
     }
 }
@@ -94,10 +97,14 @@ fn sends(from: End, kind: u8) -> bool
     ensures { result ≡ is_sent_by from kind }
 {
     match from {
-        End::Client(_) => kind == 1,
+        End::Client(_) => kind == REQUEST_KIND,
         End::Node(node) => match node.tier {
-            Tier::Mid => 2 <= kind && kind != 11,
-            Tier::Inv | Tier::Pay => { 3 <= kind && kind <= 8 || kind == 11 || kind == 14 }
+            Tier::Mid => REPLY_KIND <= kind && kind != ANSWER_KIND,
+            Tier::Inv | Tier::Pay => {
+                PREPARE_KIND <= kind && kind <= LEARN_KIND
+                    || kind == ANSWER_KIND
+                    || kind == BEHIND_KIND
+            }
         },
     }
 }
@@ -108,7 +115,7 @@ pub fn end_byte(from: End) -> u8
 {
     match from {
         End::Node(node) => tier_byte(node.tier),
-        End::Client(_) => 3,
+        End::Client(_) => CLIENT_SENDER,
     }
 }
 
@@ -129,7 +136,7 @@ fn judge(lead: Lead) -> Result<Header, Refused>
     if lead.version != FRAME_VERSION {
         return Err(Refused::Row(1));
     }
-    if lead.kind < 1 {
+    if lead.kind < REQUEST_KIND {
         return Err(Refused::Row(2));
     }
     if lead.kind > LAST_KIND {

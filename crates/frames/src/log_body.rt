@@ -9,6 +9,10 @@ use aeg_base::limits::POSITIONS;
 use aeg_base::{Ballot, Bytes, Memory, Pos, Tier};
 use aeg_wire::{Cursor, put_u8, put_u16};
 use log_model::PaxMsg;
+use log_values::format::{
+    ACCEPT_KIND, ACCEPTED_KIND, ASK_KIND, BEHIND_KIND, LEARN_KIND, NO_REPORT, PREPARE_KIND,
+    PROMISE_KIND, REPORT,
+};
 use log_values::{AnyValue, MidValue, Misread, put_ballot, take_ballot, take_position, take_value};
 use std::alloc::Global;
 
@@ -75,8 +79,8 @@ fn take_report(
     ensures { Gives (λ r. r) result from.new (report_at tier pos from.old) }
 {
     match from.take_u8().ok_or(Misread::Outside)? {
-        0 => Ok(None),
-        1 => {
+        NO_REPORT => Ok(None),
+        REPORT => {
             if pos >= POSITIONS {
                 return Err(Misread::Outside);
             }
@@ -112,35 +116,35 @@ pub fn take_log(
     ensures { Gives (λ m. m) result from.new (log_body_at tier kind from.old) }
 {
     match kind {
-        3 => {
+        PREPARE_KIND => {
             let ballot = take_ballot(from).ok_or(Misread::Outside)?;
             let pos = take_open(from).ok_or(Misread::Outside)?;
             Ok(PaxMsg::Prepare(ballot, pos))
         }
-        4 => {
+        PROMISE_KIND => {
             let ballot = take_ballot(from).ok_or(Misread::Outside)?;
             let pos = take_open(from).ok_or(Misread::Outside)?;
             let reported = take_report(alloc, tier, pos, from)?;
             Ok(PaxMsg::Promise(ballot, pos, reported))
         }
-        5 => {
+        ACCEPT_KIND => {
             let (ballot, (pos, value)) = take_vote(alloc, tier, from)?;
             Ok(PaxMsg::Accept(ballot, pos, value))
         }
-        6 => {
+        ACCEPTED_KIND => {
             let (ballot, (pos, value)) = take_vote(alloc, tier, from)?;
             Ok(PaxMsg::Accepted(ballot, pos, value))
         }
-        7 => {
+        ASK_KIND => {
             let pos = take_open(from).ok_or(Misread::Outside)?;
             Ok(PaxMsg::Ask(pos))
         }
-        8 => {
+        LEARN_KIND => {
             let pos = take_position(from).ok_or(Misread::Outside)?;
             let value = take_carried(alloc, tier, pos, from)?;
             Ok(PaxMsg::Learn(pos, value))
         }
-        14 => {
+        BEHIND_KIND => {
             let pos = take_open(from).ok_or(Misread::Outside)?;
             Ok(PaxMsg::Behind(pos))
         }
@@ -153,13 +157,13 @@ pub fn kind_of_log(msg: &PaxMsg<AnyValue>) -> u8
     ensures { result ≡ log_kind msg.now }
 {
     match msg {
-        PaxMsg::Prepare(_, _) => 3,
-        PaxMsg::Promise(_, _, _) => 4,
-        PaxMsg::Accept(_, _, _) => 5,
-        PaxMsg::Accepted(_, _, _) => 6,
-        PaxMsg::Ask(_) => 7,
-        PaxMsg::Learn(_, _) => 8,
-        PaxMsg::Behind(_) => 14,
+        PaxMsg::Prepare(_, _) => PREPARE_KIND,
+        PaxMsg::Promise(_, _, _) => PROMISE_KIND,
+        PaxMsg::Accept(_, _, _) => ACCEPT_KIND,
+        PaxMsg::Accepted(_, _, _) => ACCEPTED_KIND,
+        PaxMsg::Ask(_) => ASK_KIND,
+        PaxMsg::Learn(_, _) => LEARN_KIND,
+        PaxMsg::Behind(_) => BEHIND_KIND,
     }
 }
 
@@ -173,9 +177,9 @@ fn put_report(
     ensures { OnOk result (out.new ≡ out.old ++ report reported.now) }
 {
     match reported {
-        None => put_u8(out, 0)?,
+        None => put_u8(out, NO_REPORT)?,
         Some((ballot, value)) => {
-            put_u8(out, 1)?;
+            put_u8(out, REPORT)?;
             put_ballot(out, *ballot)?;
             value.encode(out)?;
         }

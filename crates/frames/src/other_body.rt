@@ -8,6 +8,10 @@ use crate::log_body::{kind_of_log, put_log, take_log};
 use aeg_base::limits::ROUNDS;
 use aeg_base::{Bytes, Memory, ReqId, Round, Tier};
 use aeg_wire::{Cursor, put_text, put_u8, put_u16, put_u32};
+use log_values::format::{
+    ANSWER_KIND, BEHIND_KIND, CALL_KIND, HAVE_KIND, LEARN_KIND, PREPARE_KIND, REPLY_KIND,
+    REQUEST_KIND, SETTLE_KIND, TOKEN_KIND,
+};
 use log_values::{
     Misread, put_commit, take_backend, take_client, take_commit, take_floor, take_number, take_seq,
     take_text, tier_byte,
@@ -30,19 +34,19 @@ fn take_other(alloc: Global, kind: u8, from: &mut Cursor<'_>) -> Result<Msg, Mis
     ensures { Gives (λ m. m) result from.new (other_body_at kind from.old) }
 {
     match kind {
-        1 => {
+        REQUEST_KIND => {
             let seq = take_seq(from).ok_or(Misread::Outside)?;
             let body = take_text(alloc, from)?;
             Ok(Msg::Request { seq, body })
         }
-        2 => {
+        REPLY_KIND => {
             let client = take_client(from).ok_or(Misread::Outside)?;
             let seq = take_seq(from).ok_or(Misread::Outside)?;
             let body = take_text(alloc, from)?;
             let who = ReqId { client, seq };
             Ok(Msg::Reply { who, body })
         }
-        9 => {
+        TOKEN_KIND => {
             let round = take_round(from).ok_or(Misread::Outside)?;
             let (token, order) = take_commit(alloc, from)?;
             Ok(Msg::Token {
@@ -51,23 +55,23 @@ fn take_other(alloc: Global, kind: u8, from: &mut Cursor<'_>) -> Result<Msg, Mis
                 order,
             })
         }
-        10 => {
+        CALL_KIND => {
             let no = take_number(from).ok_or(Misread::Outside)?;
             let body = take_text(alloc, from)?;
             Ok(Msg::Call { no, body })
         }
-        11 => {
+        ANSWER_KIND => {
             let no = take_number(from).ok_or(Misread::Outside)?;
             let code = from.take_u8().ok_or(Misread::Outside)?;
             Ok(Msg::Answer { no, code })
         }
-        12 => {
+        HAVE_KIND => {
             let tier = take_backend(from).ok_or(Misread::Outside)?;
             let no = take_number(from).ok_or(Misread::Outside)?;
             let code = from.take_u8().ok_or(Misread::Outside)?;
             Ok(Msg::Have { tier, no, code })
         }
-        13 => {
+        SETTLE_KIND => {
             let floor = take_floor(from).ok_or(Misread::Outside)?;
             Ok(Msg::Settle { floor })
         }
@@ -78,7 +82,7 @@ fn take_other(alloc: Global, kind: u8, from: &mut Cursor<'_>) -> Result<Msg, Mis
 fn is_log_kind(kind: u8) -> bool
     ensures { result ≡ is_of_log kind }
 {
-    3 <= kind && kind <= 8 || kind == 14
+    PREPARE_KIND <= kind && kind <= LEARN_KIND || kind == BEHIND_KIND
 }
 
 /// The body of a message of this kind from this tier.
@@ -100,13 +104,13 @@ pub fn kind_byte(msg: &Msg) -> u8
 {
     match msg {
         Msg::Log(log) => kind_of_log(log),
-        Msg::Request { .. } => 1,
-        Msg::Reply { .. } => 2,
-        Msg::Token { .. } => 9,
-        Msg::Call { .. } => 10,
-        Msg::Answer { .. } => 11,
-        Msg::Have { .. } => 12,
-        Msg::Settle { .. } => 13,
+        Msg::Request { .. } => REQUEST_KIND,
+        Msg::Reply { .. } => REPLY_KIND,
+        Msg::Token { .. } => TOKEN_KIND,
+        Msg::Call { .. } => CALL_KIND,
+        Msg::Answer { .. } => ANSWER_KIND,
+        Msg::Have { .. } => HAVE_KIND,
+        Msg::Settle { .. } => SETTLE_KIND,
     }
 }
 

@@ -43,4 +43,11 @@ impl Outbox {
     {
         self.packets.items()
     }
+
+    /// Gives the packets out.
+    pub fn into_vec(self) -> Vec<(End, Bytes)>
+        ensures { result.items ≡ self }
+    {
+        self.packets.into_vec()
+    }
 }

@@ -1,6 +1,6 @@
 // What a node answers to a packet or a command.
 use crate::Refused;
-use aeg_base::{Ballot, CallNo, Pos, Round, Seq, Tier};
+use aeg_base::{Ballot, CallNo, Memory, Pos, Round, Seq, Tier};
 
 /// How a job ran: its round, the steps of its segments, their order, and how often a group was run again.
 #[derive(Debug, Drop)]
@@ -44,4 +44,15 @@ pub enum Fault {
     JournalFull { len: u64 },
     BadRecord { at: u64 },
     Memory,
+}
+
+impl From<Memory> for Fault {
+    ghost use Rattle.std.specs.Prelude.{◌≡◌};
+    ghost use Rattle.frames.specs.declared.turn.Fault.TheVariants as faults;
+
+    ghost from_gives = { λ _ e. e ≡ faults.Memory };
+
+    fn from(_: Memory) -> Self {
+        Fault::Memory
+    }
 }

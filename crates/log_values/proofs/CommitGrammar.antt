@@ -1,11 +1,11 @@
 -- The grammar of a token with an order of its segments.
-use Rattle.std.proofs.Common.{◌≡◌, ℕ, ◌<◌, ◌≤◌, Bool, true, false, eqb, List, [], ◌∷◌, ◌++◌, length, Option, Some, None, refl, sym, ap, subst, ◌∙◌, append_assoc, arith}
+use Rattle.std.proofs.Common.{◌≡◌, ℕ, ◌<◌, true, eqb, List, [], ◌∷◌, ◌++◌, length, Some, refl, sym, ap, subst, ◌∙◌, append_assoc, arith}
 use Rattle.std.specs.Prelude.{◌&&◌, ◌==◌}
 use Rattle.std.proofs.lemmas.Bool.{eqb-true}
 use Rattle.svc_api.specs.declared.outcome.Outcome.{Outcome}
-use Rattle.aeg_wire.specs.Fields.{Read, ◌>>=◌, byte_at, bytes_at}
-use Rattle.aeg_wire.specs.Formats.{made, kept}
-use Rattle.aeg_wire.proofs.Grammar.{IsBytes, Takes, Takes-then, IsGrammar, some_is, bind_some, made_some, kept_grammar}
+use Rattle.aeg_wire.specs.Fields.{◌>>=◌, byte_at, bytes_at}
+use Rattle.aeg_wire.specs.Formats.{made}
+use Rattle.aeg_wire.proofs.Grammar.{IsBytes, Takes, Takes-then, IsGrammar, bind_some, made_some, kept_grammar}
 use Rattle.aeg_wire.proofs.Numbers.{one_byte, bytes_take, bytes_again}
 use Rattle.log_values.specs.Outcomes.{outcome, outcome_at, token_at, is_order, order_text, order_at, commit, commit_at, FitsOutcome, IsCommit}
 use Rattle.log_values.proofs.OutcomeGrammar.{outcome_grammar}

@@ -1,16 +1,15 @@
 -- The grammars of fields within their ranges.
-use Rattle.std.proofs.Common.{◌≡◌, ℕ, ◌<◌, ◌≤◌, ◌^◌, Bool, true, false, cond, eqb, inl, inr, List, [], ◌∷◌, ◌++◌, length, Option, Some, None, refl, sym, ap, subst, ◌∙◌, arith}
+use Rattle.std.proofs.Common.{◌≡◌, ℕ, ◌<◌, ◌≤◌, ◌^◌, true, cond, eqb, inl, inr, List, [], ◌∷◌, ◌++◌, Some, None, refl, subst, arith}
 use Rattle.std.specs.Prelude.{nat_le, nat_lt, ◌&&◌}
 use Rattle.std.specs.Int.{w16, w32, to_be_bytes}
 use Rattle.std.proofs.lemmas.Bool.{eqb-true}
 use Rattle.aeg_base.specs.declared.limits.TheConstants.{CLIENTS, LAST_SEQ, POSITIONS}
-use Rattle.aeg_base.specs.declared.names.Ballot.{Ballot}
 use Rattle.aeg_base.specs.declared.names.Tier.{Tier}
 use Rattle.aeg_base.specs.declared.names.Tier.TheVariants.{Mid, Inv, Pay}
 use Rattle.svc_api.specs.Plan.{IsBackend}
 use Rattle.aeg_wire.specs.Fields.{Read, byte_at, number_at}
-use Rattle.aeg_wire.specs.Formats.{made, kept, both}
-use Rattle.aeg_wire.proofs.Grammar.{IsBytes, IsBytes-rest, Takes, IsGrammar, some_is, bind_some, refit, kept_grammar, made_grammar, both_grammar}
+use Rattle.aeg_wire.specs.Formats.{kept, both}
+use Rattle.aeg_wire.proofs.Grammar.{IsBytes, Takes, IsGrammar, some_is, bind_some, refit, kept_grammar, made_grammar, both_grammar}
 use Rattle.aeg_wire.proofs.Numbers.{one_byte, two_bytes, four_bytes}
 use Rattle.log_values.specs.declared.format.TheConstants.{LAST_INDEX, LAST_STAGE}
 use Rattle.log_values.specs.Fields.{tier_number, backend_at, client_at, seq_at, call_number_at, floor_at, position_at, stage_at, ballot, ballot_at, FitsBallot, IsClient, IsSeq, IsCallNumber, IsFloor}

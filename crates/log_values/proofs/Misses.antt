@@ -1,5 +1,5 @@
 -- A loop over fields that meets want of memory, or a field that isn't there.
-use Rattle.std.proofs.Common.{◌≡◌, ℕ, ◌-◌, ◌<◌, List, Option, Some, None}
+use Rattle.std.proofs.Common.{◌≡◌, ℕ, ◌-◌, ◌<◌, List}
 use Rattle.aeg_wire.specs.Fields.{Read}
 use Rattle.aeg_wire.specs.Formats.{list_at}
 use Rattle.aeg_wire.proofs.Lists.{with_front, ends}

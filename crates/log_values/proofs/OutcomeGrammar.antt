@@ -1,5 +1,5 @@
 -- The grammar of ends and outcomes.
-use Rattle.std.proofs.Common.{◌≡◌, ℕ, ◌<◌, ◌≤◌, ◌^◌, Bool, true, false, cond, eqb, inl, inr, List, [], ◌∷◌, ◌++◌, length, Option, Some, None, refl, sym, ap, subst, ◌∙◌, append_assoc, arith}
+use Rattle.std.proofs.Common.{◌≡◌, ℕ, ◌<◌, ◌≤◌, ◌^◌, true, cond, eqb, inl, inr, List, [], ◌∷◌, ◌++◌, length, Some, None, refl, sym, ap, subst, ◌∙◌, append_assoc, arith}
 use Rattle.std.specs.Prelude.{nat_le}
 use Rattle.std.specs.List.{flat_map, AllByRecursion}
 use Rattle.std.specs.Int.{w16, to_be_bytes}
@@ -12,7 +12,7 @@ use Rattle.svc_api.specs.declared.outcome.Outcome.{Outcome}
 use Rattle.svc_api.specs.Plan.{IsEnding, IsBackend}
 use Rattle.aeg_wire.specs.Fields.{Read, ◌>>=◌, byte_at, number_at, text, text_at}
 use Rattle.aeg_wire.specs.Formats.{made, kept, both}
-use Rattle.aeg_wire.proofs.Grammar.{IsBytes, Takes, Takes-then, IsGrammar, some_is, bind_some, kept_some, refit, made_grammar, both_grammar}
+use Rattle.aeg_wire.proofs.Grammar.{IsBytes, Takes, Takes-then, IsGrammar, bind_some, kept_some, refit, made_grammar, both_grammar}
 use Rattle.aeg_wire.proofs.Numbers.{one_byte, two_bytes, text_grammar}
 use Rattle.aeg_wire.proofs.Lists.{counted_grammar}
 use Rattle.log_values.specs.declared.format.TheConstants.{TOKEN_PAIRS, TOKEN_ENDS, REPLY_END, CALL_END, LAST_STAGE}

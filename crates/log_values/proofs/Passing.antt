@@ -1,6 +1,6 @@
 -- A loop that passes over so many fields of one kind.
 use Rattle.std.proofs.Common.{◌≡◌, ℕ, zero, suc, ◌+◌, ◌-◌, ◌<◌, ◌≤◌, List, [], ◌∷◌, length, Option, Some, None, refl, sym, ap, ◌∙◌, arith}
-use Rattle.aeg_wire.specs.Fields.{Read, ◌>>=◌}
+use Rattle.aeg_wire.specs.Fields.{Read}
 use Rattle.aeg_wire.specs.Formats.{made, list_at}
 use Rattle.aeg_wire.proofs.Grammar.{some_is, bind_some, made_some}
 use Rattle.log_values.specs.Reading.{left_after}

@@ -1,9 +1,9 @@
 -- Passing over a token.
-use Rattle.std.proofs.Common.{◌≡◌, ℕ, ◌+◌, ◌-◌, ◌≤◌, List, [], ◌∷◌, ◌++◌, length, take, Option, Some, None, refl, sym, ap, subst, ◌∙◌, arith}
+use Rattle.std.proofs.Common.{◌≡◌, ℕ, ◌-◌, ◌≤◌, List, ◌++◌, length, take, Some, None, refl, ap, subst, ◌∙◌, arith}
 use Rattle.std.proofs.lemmas.List.{take_at, length-append}
 use Rattle.svc_api.specs.declared.outcome.Outcome.{Outcome}
-use Rattle.aeg_wire.specs.Fields.{Read, ◌>>=◌}
-use Rattle.aeg_wire.specs.Formats.{made, both, list_at}
+use Rattle.aeg_wire.specs.Fields.{Read}
+use Rattle.aeg_wire.specs.Formats.{list_at}
 use Rattle.aeg_wire.proofs.Grammar.{IsBytes, some_is}
 use Rattle.log_values.specs.Outcomes.{outcome, outcome_at, all_pairs_at, all_ends_at, token_at}
 use Rattle.log_values.specs.Reading.{left_after, counted, counted_ends}

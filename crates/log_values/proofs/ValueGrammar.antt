@@ -1,9 +1,9 @@
 -- The grammars of the values of logs.
-use Rattle.std.proofs.Common.{◌≡◌, ℕ, ◌<◌, ◌≤◌, Bool, true, false, cond, eqb, ltb, inl, inr, List, [], ◌∷◌, ◌++◌, length, Option, Some, None, refl, sym, ap, subst, ◌∙◌, arith}
+use Rattle.std.proofs.Common.{◌≡◌, ℕ, ◌≤◌, cond, eqb, ltb, inl, inr, List, [], ◌∷◌, ◌++◌, length, Some, None, refl, ap, subst, arith}
 use Rattle.std.specs.List.{flat_map, AllByRecursion}
 use Rattle.std.specs.Int.{w32, to_be_bytes}
 use Rattle.std.proofs.lemmas.Bool.{eqb-true}
-use Rattle.aeg_wire.specs.Fields.{Read, ◌>>=◌, byte_at, text, text_at}
+use Rattle.aeg_wire.specs.Fields.{Read, byte_at, text, text_at}
 use Rattle.aeg_wire.specs.Formats.{made, both, counted_at}
 use Rattle.aeg_wire.proofs.Grammar.{IsBytes, Takes, IsGrammar, some_is, bind_some, made_some, refit, made_grammar, both_grammar}
 use Rattle.aeg_wire.proofs.Numbers.{one_byte, text_grammar}

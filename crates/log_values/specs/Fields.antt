@@ -1,23 +1,23 @@
 -- The fields of values and messages, each within its range.
-use Rattle.std.specs.Prelude.{◌≡◌, ℕ, ◌<◌, ◌≤◌, ◌^◌, List, [], ◌∷◌, ◌++◌, Option, Some, None, Bool, nat_lt, nat_le, ◌&&◌, ◌==◌, if◌then◌else◌, length}
+use Rattle.std.specs.Prelude.{ℕ, ◌<◌, ◌≤◌, ◌^◌, List, [], ◌∷◌, ◌++◌, Some, None, nat_lt, nat_le, ◌&&◌, ◌==◌, if◌then◌else◌, length}
 use Rattle.std.specs.Int.{w16, w32, to_be_bytes}
 use Rattle.aeg_base.specs.declared.limits.TheConstants.{CLIENTS, LAST_SEQ, POSITIONS, TEXT_BYTES}
 use Rattle.aeg_base.specs.declared.names.Ballot.{Ballot}
 use Rattle.aeg_base.specs.declared.names.Tier.{Tier}
 use Rattle.aeg_base.specs.declared.names.Tier.TheVariants.{Mid, Inv, Pay}
-use Rattle.aeg_wire.specs.Fields.{Read, ◌>>=◌, byte_at, number_at, text_at}
+use Rattle.aeg_wire.specs.Fields.{Read, ◌>>=◌, byte_at, number_at}
 use Rattle.aeg_wire.specs.Formats.{made, kept, both}
-use Rattle.log_values.specs.declared.format.TheConstants.{LAST_INDEX, LAST_STAGE}
+use Rattle.log_values.specs.declared.format.TheConstants.{LAST_INDEX, LAST_STAGE, MID_TIER, INV_TIER, PAY_TIER}
 
 -- the number of a tier
 abbrev pub tier_number : Tier → ℕ
-tier_number Mid = 0
-tier_number Inv = 1
-tier_number Pay = 2
+tier_number Mid = MID_TIER
+tier_number Inv = INV_TIER
+tier_number Pay = PAY_TIER
 
 -- a backend tier
 unfoldable pub backend_at : List ℕ → Read Tier
-backend_at bytes = byte_at bytes >>= λ n. if n.0 == 1 then Some (Inv, n.1) else if n.0 == 2 then Some (Pay, n.1) else None
+backend_at bytes = byte_at bytes >>= λ n. if n.0 == INV_TIER then Some (Inv, n.1) else if n.0 == PAY_TIER then Some (Pay, n.1) else None
 
 -- a client, 1 to 16
 unfoldable pub client_at : List ℕ → Read ℕ

@@ -1,11 +1,10 @@
 -- The values of the logs: their spellings, what has one, and what stands at the front of bytes.
-use Rattle.std.specs.Prelude.{◌≡◌, ℕ, ◌<◌, ◌≤◌, List, [], ◌∷◌, ◌++◌, length, Option, Some, None, nat_lt, ◌==◌, if◌then◌else◌}
+use Rattle.std.specs.Prelude.{ℕ, ◌≤◌, List, [], ◌∷◌, ◌++◌, length, Some, None, nat_lt, ◌==◌, if◌then◌else◌}
 use Rattle.std.specs.List.{flat_map, AllByRecursion}
 use Rattle.std.specs.Int.{w32, to_be_bytes}
 use Rattle.aeg_wire.specs.Fields.{Read, ◌>>=◌, byte_at, text, text_at}
 use Rattle.aeg_wire.specs.Formats.{made, both, counted_at}
 use Rattle.log_values.specs.declared.entry.Entry.{Entry}
-use Rattle.log_values.specs.declared.mid_value.Verdict.{Verdict}
 use Rattle.log_values.specs.declared.mid_value.Verdict.TheVariants as verdicts
 use Rattle.log_values.specs.declared.mid_value.MidValue.{MidValue}
 use Rattle.log_values.specs.declared.mid_value.MidValue.TheVariants as mids

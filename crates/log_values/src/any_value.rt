@@ -1,5 +1,6 @@
 // What a log of either kind agrees on.
-ghost use Rattle.std.specs.Prelude.{◌≡◌, ◌++◌, OnOk, IfOk, IfSome, Some};
+ghost use Rattle.std.specs.Prelude.{◌≡◌, ◌++◌, OnOk, OnErr, IfOk, IfSome, Some};
+ghost use Rattle.aeg_wire.specs.Fields.{IsBegun};
 ghost use Rattle.log_values.specs.declared.any_value.AnyValue.{AnyValue};
 ghost use Rattle.log_values.specs.Values.{any_value, any_value_at, FitsAny};
 ghost use Rattle.log_values.specs.Reading.{Gives, Spells, whole};
@@ -9,7 +10,7 @@ use crate::finish::ended;
 use crate::format::CALL;
 use crate::mid_value::take_mid;
 use crate::{BackValue, MidValue, Misread};
-use aeg_base::{Bytes, Memory};
+use aeg_base::{Bytes, Memory, Value};
 use aeg_wire::Cursor;
 use std::alloc::Global;
 
@@ -18,6 +19,34 @@ use std::alloc::Global;
 pub enum AnyValue {
     Mid(MidValue),
     Back(BackValue),
+}
+
+impl Value for AnyValue {
+    fn copy(&self) -> Result<Self, Memory> {
+        match self {
+            AnyValue::Mid(value) => {
+                let value = value.copy()?;
+                Ok(AnyValue::Mid(value))
+            }
+            AnyValue::Back(value) => {
+                let value = value.copy()?;
+                Ok(AnyValue::Back(value))
+            }
+        }
+    }
+
+    fn same(&self, other: &Self) -> bool {
+        match self {
+            AnyValue::Mid(value) => match other {
+                AnyValue::Mid(theirs) => value.same(theirs),
+                AnyValue::Back(_) => false,
+            },
+            AnyValue::Back(value) => match other {
+                AnyValue::Mid(_) => false,
+                AnyValue::Back(theirs) => value.same(theirs),
+            },
+        }
+    }
 }
 
 /// A value at the front of what is left.
@@ -43,10 +72,11 @@ fn value_in(alloc: Global, bytes: &[u8]) -> Result<Option<AnyValue>, Memory>
 }
 
 impl AnyValue {
-    /// Writes the one spelling of the value.
+    /// Writes the one spelling of the value. After an error a front of it may have been written.
     pub fn encode(&self, out: &mut Bytes) -> Result<(), Memory>
         requires { FitsAny self.now }
-        ensures { OnOk result (out.new ≡ out.old ++ any_value self.now) }
+        ensures ok { OnOk result (out.new ≡ out.old ++ any_value self.now) }
+        ensures err { OnErr result (IsBegun out.old out.new (any_value self.now)) }
     {
         match self {
             AnyValue::Mid(value) => value.encode(out),

@@ -1,5 +1,6 @@
 // What the log of a backend tier agrees on.
-ghost use Rattle.std.specs.Prelude.{◌≡◌, ◌++◌, OnOk, IfOk, IfSome, Some};
+ghost use Rattle.std.specs.Prelude.{◌≡◌, ◌↔◌, ◌++◌, OnOk, OnErr, IfOk, IfSome, Some, IsTrue};
+ghost use Rattle.aeg_wire.specs.Fields.{IsBegun};
 ghost use Rattle.log_values.specs.declared.back_value.BackValue.{BackValue};
 ghost use Rattle.log_values.specs.Values.{back_value, back_value_at, back_body_at, FitsBack};
 ghost use Rattle.log_values.specs.Reading.{Gives, Spells, whole};
@@ -56,10 +57,43 @@ fn value_in(alloc: Global, bytes: &[u8]) -> Result<Option<BackValue>, Memory>
 }
 
 impl BackValue {
-    /// Writes the one spelling of the value.
+    /// The same value again.
+    pub fn copy(&self) -> Result<Self, Memory>
+        ensures { IfOk result (λ copy. copy ≡ self.now) }
+    {
+        match self {
+            BackValue::Call { no, body } => {
+                let body = body.copy()?;
+                Ok(BackValue::Call { no: *no, body })
+            }
+            BackValue::Settle { floor } => Ok(BackValue::Settle { floor: *floor }),
+        }
+    }
+
+    /// Whether the two are one value.
+    pub fn same(&self, other: &BackValue) -> bool
+        ensures { IsTrue result ↔ (self.now ≡ other.now) }
+    {
+        match self {
+            BackValue::Call { no, body } => match other {
+                BackValue::Call {
+                    no: their_no,
+                    body: their_body,
+                } => no == their_no && body == their_body,
+                BackValue::Settle { .. } => false,
+            },
+            BackValue::Settle { floor } => match other {
+                BackValue::Call { .. } => false,
+                BackValue::Settle { floor: their_floor } => floor == their_floor,
+            },
+        }
+    }
+
+    /// Writes the one spelling of the value. After an error a front of it may have been written.
     pub fn encode(&self, out: &mut Bytes) -> Result<(), Memory>
         requires { FitsBack self.now }
-        ensures { OnOk result (out.new ≡ out.old ++ back_value self.now) }
+        ensures ok { OnOk result (out.new ≡ out.old ++ back_value self.now) }
+        ensures err { OnErr result (IsBegun out.old out.new (back_value self.now)) }
     {
         match self {
             BackValue::Call { no, body } => {

@@ -1,6 +1,7 @@
 // An entry of a batch.
-ghost use Rattle.std.specs.Prelude.{◌≡◌, ◌++◌, OnOk, IfOk};
+ghost use Rattle.std.specs.Prelude.{◌≡◌, ◌↔◌, ◌++◌, OnOk, OnErr, IfOk, IsTrue};
 ghost use Rattle.std.specs.List.{flat_map, AllByRecursion};
+ghost use Rattle.aeg_wire.specs.Fields.{IsBegun};
 ghost use Rattle.aeg_wire.specs.Formats.{list_at, counted_at};
 ghost use Rattle.log_values.specs.Values.{entry, entry_at, FitsEntry};
 ghost use Rattle.log_values.specs.Reading.{Gives};
@@ -18,6 +19,54 @@ pub struct Entry {
     pub client: u8,
     pub seq: u32,
     pub body: Bytes,
+}
+
+impl Entry {
+    /// The same entry again.
+    pub fn copy(&self) -> Result<Self, Memory>
+        ensures { IfOk result (λ copy. copy ≡ self.now) }
+    {
+        let body = self.body.copy()?;
+        Ok(Entry {
+            client: self.client,
+            seq: self.seq,
+            body,
+        })
+    }
+
+    /// Whether the two are one entry.
+    pub fn same(&self, other: &Entry) -> bool
+        ensures { IsTrue result ↔ (self.now ≡ other.now) }
+    {
+        self.client == other.client && self.seq == other.seq && self.body == other.body
+    }
+}
+
+/// The entries of a batch again.
+pub fn copy_entries(entries: &Seq<Entry>) -> Result<Seq<Entry>, Memory>
+    ensures { IfOk result (λ copy. copy ≡ entries.now) }
+{
+    let mut copy = Seq::new(entries.allocator());
+    for e in entries.items() {
+        let again = e.copy()?;
+        copy.push(again)?;
+    }
+    Ok(copy)
+}
+
+/// Whether the two are the same entries, in one order.
+pub fn same_entries(a: &[Entry], b: &[Entry]) -> bool
+    ensures { IsTrue result ↔ (a.now ≡ b.now) }
+{
+    if a.len() != b.len() {
+        return false;
+    }
+    for i in 0..a.len() {
+        if !a[i].same(&b[i]) {
+            return false;
+        }
+    }
+    true
 }
 
 #[tactic(auto, unfolding(crate::specs::Values::entry_at))]
@@ -55,7 +104,8 @@ pub fn take_entries(alloc: Global, from: &mut Cursor<'_>) -> Result<Seq<Entry>, 
 
 fn put_entry(out: &mut Bytes, e: &Entry) -> Result<(), Memory>
     requires { FitsEntry e.now }
-    ensures { OnOk result (out.new ≡ out.old ++ entry e.now) }
+    ensures ok { OnOk result (out.new ≡ out.old ++ entry e.now) }
+    ensures err { OnErr result (IsBegun out.old out.new (entry e.now)) }
 {
     put_u8(out, e.client)?;
     put_u32(out, e.seq)?;
@@ -65,7 +115,8 @@ fn put_entry(out: &mut Bytes, e: &Entry) -> Result<(), Memory>
 
 pub fn put_entries(out: &mut Bytes, entries: &[Entry]) -> Result<(), Memory>
     requires { AllByRecursion FitsEntry entries.now }
-    ensures { OnOk result (out.new ≡ out.old ++ flat_map entry entries.now) }
+    ensures ok { OnOk result (out.new ≡ out.old ++ flat_map entry entries.now) }
+    ensures err { OnErr result (IsBegun out.old out.new (flat_map entry entries.now)) }
 {
     for e in entries {
         put_entry(out, e)?;

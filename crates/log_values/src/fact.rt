@@ -1,5 +1,6 @@
 // What a node writes down before it tells others.
-ghost use Rattle.std.specs.Prelude.{◌≡◌, ◌++◌, OnOk, IfOk, IfSome, Some};
+ghost use Rattle.std.specs.Prelude.{◌≡◌, ◌++◌, OnOk, OnErr, IfOk, IfSome, Some};
+ghost use Rattle.aeg_wire.specs.Fields.{IsBegun};
 ghost use Rattle.log_values.specs.declared.fact.Fact.{Fact};
 ghost use Rattle.log_values.specs.Records.{fact, fact_at, FitsFact};
 ghost use Rattle.log_values.specs.Reading.{Gives, Spells, whole};
@@ -62,10 +63,11 @@ fn fact_in(alloc: Global, bytes: &[u8]) -> Result<Option<Fact>, Memory>
 }
 
 impl Fact {
-    /// Writes the one spelling of the fact.
+    /// Writes the one spelling of the fact. After an error a front of it may have been written.
     pub fn encode(&self, out: &mut Bytes) -> Result<(), Memory>
         requires { FitsFact self.now }
-        ensures { OnOk result (out.new ≡ out.old ++ fact self.now) }
+        ensures ok { OnOk result (out.new ≡ out.old ++ fact self.now) }
+        ensures err { OnErr result (IsBegun out.old out.new (fact self.now)) }
     {
         match self {
             Fact::Promised(ballot) => {

@@ -1,11 +1,11 @@
 // The fields of values and messages, each within its range.
-ghost use Rattle.std.specs.Prelude.{◌≡◌, ◌++◌, OnOk};
-ghost use Rattle.aeg_wire.specs.Fields.{text_at};
+ghost use Rattle.std.specs.Prelude.{◌≡◌, ◌++◌, OnOk, OnErr};
+ghost use Rattle.aeg_wire.specs.Fields.{text_at, IsBegun};
 ghost use Rattle.log_values.specs.Fields.{tier_number, backend_at, client_at, seq_at, call_number_at, floor_at, position_at, stage_at, ballot, ballot_at};
 ghost use Rattle.log_values.specs.Reading.{Found, Gives};
 
 use crate::Misread;
-use crate::format::{LAST_INDEX, LAST_STAGE};
+use crate::format::{INV_TIER, LAST_INDEX, LAST_STAGE, MID_TIER, PAY_TIER};
 use aeg_base::limits::{CLIENTS, LAST_SEQ, POSITIONS};
 use aeg_base::{Ballot, Bytes, CallNo, Memory, Pos, Tier};
 use aeg_wire::{Cursor, put_u8, put_u32};
@@ -16,9 +16,9 @@ pub fn tier_byte(tier: Tier) -> u8
     ensures { result ≡ tier_number tier }
 {
     match tier {
-        Tier::Mid => 0,
-        Tier::Inv => 1,
-        Tier::Pay => 2,
+        Tier::Mid => MID_TIER,
+        Tier::Inv => INV_TIER,
+        Tier::Pay => PAY_TIER,
     }
 }
 
@@ -28,8 +28,8 @@ pub fn take_backend(from: &mut Cursor<'_>) -> Option<Tier>
     ensures { Found (λ t. t) result from.new (backend_at from.old) }
 {
     match from.take_u8()? {
-        1 => Some(Tier::Inv),
-        2 => Some(Tier::Pay),
+        INV_TIER => Some(Tier::Inv),
+        PAY_TIER => Some(Tier::Pay),
         _ => None,
     }
 }
@@ -123,7 +123,8 @@ pub fn take_ballot(from: &mut Cursor<'_>) -> Option<Ballot>
 }
 
 pub fn put_ballot(out: &mut Bytes, b: Ballot) -> Result<(), Memory>
-    ensures { OnOk result (out.new ≡ out.old ++ ballot b) }
+    ensures ok { OnOk result (out.new ≡ out.old ++ ballot b) }
+    ensures err { OnErr result (IsBegun out.old out.new (ballot b)) }
 {
     put_u32(out, b.counter)?;
     put_u8(out, b.node)

@@ -5,8 +5,51 @@ pub use aeg_base::limits::BODY_BYTES;
 /// The first byte of each frame.
 pub const FRAME_VERSION: u8 = 1;
 
-/// The kinds of frames are numbered from 1 to this.
+// The kinds of frames.
+pub const REQUEST_KIND: u8 = 1;
+
+pub const REPLY_KIND: u8 = 2;
+
+pub const PREPARE_KIND: u8 = 3;
+
+pub const PROMISE_KIND: u8 = 4;
+
+pub const ACCEPT_KIND: u8 = 5;
+
+pub const ACCEPTED_KIND: u8 = 6;
+
+pub const ASK_KIND: u8 = 7;
+
+pub const LEARN_KIND: u8 = 8;
+
+pub const TOKEN_KIND: u8 = 9;
+
+pub const CALL_KIND: u8 = 10;
+
+pub const ANSWER_KIND: u8 = 11;
+
+pub const HAVE_KIND: u8 = 12;
+
+pub const SETTLE_KIND: u8 = 13;
+
+pub const BEHIND_KIND: u8 = 14;
+
+/// The kinds are numbered from 1 to this.
 pub const LAST_KIND: u8 = 14;
+
+// The numbers of the tiers, and of a client as a sender.
+pub const MID_TIER: u8 = 0;
+
+pub const INV_TIER: u8 = 1;
+
+pub const PAY_TIER: u8 = 2;
+
+pub const CLIENT_SENDER: u8 = 3;
+
+// Whether a promise reports a value.
+pub const NO_REPORT: u8 = 0;
+
+pub const REPORT: u8 = 1;
 
 /// The greatest index of a replica: a tier has 2u+1 of them, with u at most 2.
 pub const LAST_INDEX: u8 = 4;

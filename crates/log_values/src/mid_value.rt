@@ -1,10 +1,11 @@
 // What the log of the middle tier agrees on.
-ghost use Rattle.std.specs.Prelude.{◌≡◌, ◌++◌, OnOk, IfOk, IfSome, Some};
+ghost use Rattle.std.specs.Prelude.{◌≡◌, ◌↔◌, ◌++◌, OnOk, OnErr, IfOk, IfSome, Some, IsTrue};
+ghost use Rattle.aeg_wire.specs.Fields.{IsBegun};
 ghost use Rattle.log_values.specs.declared.mid_value.MidValue.{MidValue};
 ghost use Rattle.log_values.specs.Values.{mid_value, mid_value_at, mid_body_at, FitsMid};
 ghost use Rattle.log_values.specs.Reading.{Gives, Spells, whole};
 
-use crate::entry::{put_entries, take_entries};
+use crate::entry::{copy_entries, put_entries, same_entries, take_entries};
 use crate::finish::ended;
 use crate::format::{BATCH, COMMIT, SERIAL};
 use crate::order::{put_commit, take_commit};
@@ -18,6 +19,41 @@ use std::alloc::Global;
 pub enum Verdict {
     Commit { token: Token, order: Seq<u8> },
     Serial,
+}
+
+impl Verdict {
+    /// The same verdict again.
+    pub fn copy(&self) -> Result<Self, Memory>
+        ensures { IfOk result (λ copy. copy ≡ self.now) }
+    {
+        match self {
+            Verdict::Commit { token, order } => {
+                let token = token.copy()?;
+                let numbers = Vec::from_slice(order.allocator(), order.items())?;
+                Ok(Verdict::Commit {
+                    token,
+                    order: Seq::of(numbers),
+                })
+            }
+            Verdict::Serial => Ok(Verdict::Serial),
+        }
+    }
+
+    /// Whether the two are one verdict.
+    pub fn same(&self, other: &Verdict) -> bool
+        ensures { IsTrue result ↔ (self.now ≡ other.now) }
+    {
+        match self {
+            Verdict::Commit { token, order } => match other {
+                Verdict::Commit {
+                    token: their_token,
+                    order: their_order,
+                } => token.same(their_token) && order.items() == their_order.items(),
+                Verdict::Serial => false,
+            },
+            Verdict::Serial => matches!(other, Verdict::Serial),
+        }
+    }
 }
 
 /// A value of the middle log: a round's batch, and then its verdict.
@@ -64,10 +100,43 @@ fn value_in(alloc: Global, bytes: &[u8]) -> Result<Option<MidValue>, Memory>
 }
 
 impl MidValue {
-    /// Writes the one spelling of the value.
+    /// The same value again.
+    pub fn copy(&self) -> Result<Self, Memory>
+        ensures { IfOk result (λ copy. copy ≡ self.now) }
+    {
+        match self {
+            MidValue::Batch(entries) => {
+                let entries = copy_entries(entries)?;
+                Ok(MidValue::Batch(entries))
+            }
+            MidValue::Verdict(verdict) => {
+                let verdict = verdict.copy()?;
+                Ok(MidValue::Verdict(verdict))
+            }
+        }
+    }
+
+    /// Whether the two are one value.
+    pub fn same(&self, other: &MidValue) -> bool
+        ensures { IsTrue result ↔ (self.now ≡ other.now) }
+    {
+        match self {
+            MidValue::Batch(entries) => match other {
+                MidValue::Batch(others) => same_entries(entries.items(), others.items()),
+                MidValue::Verdict(_) => false,
+            },
+            MidValue::Verdict(verdict) => match other {
+                MidValue::Batch(_) => false,
+                MidValue::Verdict(theirs) => verdict.same(theirs),
+            },
+        }
+    }
+
+    /// Writes the one spelling of the value. After an error a front of it may have been written.
     pub fn encode(&self, out: &mut Bytes) -> Result<(), Memory>
         requires { FitsMid self.now }
-        ensures { OnOk result (out.new ≡ out.old ++ mid_value self.now) }
+        ensures ok { OnOk result (out.new ≡ out.old ++ mid_value self.now) }
+        ensures err { OnErr result (IsBegun out.old out.new (mid_value self.now)) }
     {
         match self {
             MidValue::Batch(entries) => {

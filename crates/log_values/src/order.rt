@@ -1,5 +1,6 @@
 // Orders of a job's segments.
-ghost use Rattle.std.specs.Prelude.{◌≡◌, ◌++◌, OnOk, ◌≤◌, length};
+ghost use Rattle.std.specs.Prelude.{◌≡◌, ◌++◌, OnOk, OnErr, ◌≤◌, length};
+ghost use Rattle.aeg_wire.specs.Fields.{IsBegun};
 ghost use Rattle.log_values.specs.Outcomes.{is_in, is_order, order_at, order_text, commit, commit_at};
 ghost use Rattle.log_values.specs.Reading.{Found, Gives};
 
@@ -63,7 +64,8 @@ pub fn take_commit(alloc: Global, from: &mut Cursor<'_>) -> Result<(Token, Seq<u
 /// A token with an order of its segments.
 pub fn put_commit(out: &mut Bytes, token: &Token, order: &[u8]) -> Result<(), Memory>
     requires { length order.now ≤ 255 }
-    ensures { OnOk result (out.new ≡ out.old ++ commit (token.now, order.now)) }
+    ensures ok { OnOk result (out.new ≡ out.old ++ commit (token.now, order.now)) }
+    ensures err { OnErr result (IsBegun out.old out.new (commit (token.now, order.now))) }
 {
     put_bytes(out, token.bytes())?;
     put_u8(out, order.len() as u8)?;

@@ -1,5 +1,6 @@
 // A record of a journal.
-ghost use Rattle.std.specs.Prelude.{◌≡◌, ◌++◌, List, length, OnOk, IfOk, IfSome, Some};
+ghost use Rattle.std.specs.Prelude.{◌≡◌, ◌++◌, List, length, OnOk, OnErr, IfOk, IfSome, Some};
+ghost use Rattle.aeg_wire.specs.Fields.{IsBegun};
 ghost use Rattle.log_values.specs.declared.fact.Fact.{Fact};
 ghost use Rattle.log_values.specs.Records.{record_text, record_at, facts_at, FitsRecord};
 ghost use Rattle.log_values.specs.Reading.{Gives, Spells, whole};
@@ -83,10 +84,11 @@ impl Record {
         self.facts.items()
     }
 
-    /// Writes the one spelling of the record.
+    /// Writes the one spelling of the record. After an error a front of it may have been written.
     pub fn encode(&self, out: &mut Bytes) -> Result<(), Memory>
         requires { FitsRecord self.now }
-        ensures { OnOk result (out.new ≡ out.old ++ record_text self.now) }
+        ensures ok { OnOk result (out.new ≡ out.old ++ record_text self.now) }
+        ensures err { OnErr result (IsBegun out.old out.new (record_text self.now)) }
     {
         for fact in self.facts.items() {
             fact.encode(out)?;

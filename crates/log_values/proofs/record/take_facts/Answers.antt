@@ -1,4 +1,4 @@
-use Rattle.std.proofs.Common.{◌≡◌, ◌-◌, length, ap, sym, [], rules}
+use Rattle.std.proofs.Common.{◌≡◌, ◌-◌, length, ap, rules}
 use Rattle.std.proofs.lemmas.Result.{err_from_is_err_and}
 use Rattle.log_values.specs.Records.{facts_at}
 use Rattle.log_values.proofs.RecordGrammar.{facts_go_on, facts_miss, facts_done, facts_over}

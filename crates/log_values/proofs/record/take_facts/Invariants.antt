@@ -1,4 +1,4 @@
-use Rattle.std.proofs.Common.{◌≡◌, ◌-◌, length}
+use Rattle.std.proofs.Common.{◌≡◌, ◌-◌}
 use Rattle.aeg_wire.proofs.Lists.{with_front}
 use Rattle.log_values.specs.Records.{facts_at}
 use Rattle.log_values.proofs.record.take_facts.Given as goal

@@ -1,4 +1,4 @@
-use Rattle.std.proofs.Common.{arith, subst, ◌≤◌, length}
+use Rattle.std.proofs.Common.{arith, subst}
 use Rattle.aeg_wire.proofs.Grammar.{IsBytes}
 use Rattle.log_values.proofs.Tokens.{no_token, token_is}
 use Rattle.log_values.proofs.token.pass_from.Goals as goal
