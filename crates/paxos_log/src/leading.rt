@@ -7,7 +7,8 @@ ghost use Rattle.paxos_log.specs.TierLog.{as_leader, kept, sent};
 
 use aeg_base::limits::MAX_FAULTS;
 use aeg_base::{Ballot, Memory, Pos, Value};
-use paxos_parts::{Members, is_below, is_same};
+use log_model::copy_report;
+use paxos_parts::Members;
 
 /// A leader's ballot, the first open position as it began to lead, who has promised, the best report there, and the
 /// last position at which it sent a value.
@@ -51,21 +52,8 @@ pub fn is_better<V>(report: &Option<(Ballot, V)>, best: &Option<(Ballot, V)>) ->
         None => false,
         Some((ballot, _)) => match best {
             None => true,
-            Some((highest, _)) => is_below(*highest, *ballot),
+            Some((highest, _)) => highest.is_below(*ballot),
         },
-    }
-}
-
-/// The report again.
-pub fn copy_report<V: Value>(report: &Option<(Ballot, V)>) -> Result<Option<(Ballot, V)>, Memory>
-    ensures { IfOk result (λ copy. copy ≡ report.now) }
-{
-    match report {
-        None => Ok(None),
-        Some((ballot, value)) => {
-            let copy = value.copy()?;
-            Ok(Some((*ballot, copy)))
-        }
     }
 }
 
@@ -74,7 +62,7 @@ pub fn keep_of_ballot<V: Value>(leader: &mut Option<Leading<V>>, b: Ballot)
     ensures { leader.new ≡ kept leader.old b }
 {
     let stops = match leader {
-        Some(leader) => !is_same(leader.ballot, b),
+        Some(leader) => !leader.ballot.is_same(b),
         None => false,
     };
     if stops {
@@ -144,7 +132,7 @@ impl<V: Value> Leading<V> {
         ensures after { IfOk result (λ _. Some (as_leader self.new) ≡ after_promise (Some (as_leader self.old)) from b p report.now) }
         ensures memory { OnErr result (self.new ≡ self.old) }
     {
-        if is_same(self.ballot, b) && self.last.is_none() && !self.promisers.has(from) {
+        if self.ballot.is_same(b) && self.last.is_none() && !self.promisers.has(from) {
             self.join(from, p, report)?;
             return Ok(true);
         }

@@ -8,14 +8,14 @@ ghost use Rattle.paxos_log.specs.TierLog.{after_fact, IsNext, AreInOrder, newest
 use aeg_base::limits::{MAX_FAULTS, POSITIONS};
 use aeg_base::{Ballot, Memory, Pos, Value};
 use log_model::Fact;
-use paxos_parts::{Acceptor, Learner, Vote, is_below};
+use paxos_parts::{Acceptor, Learner, Vote};
 use std::alloc::Global;
 
 /// The higher one.
 fn higher(a: Ballot, b: Ballot) -> Ballot
     ensures { result ≡ higher_of a b }
 {
-    if is_below(a, b) { b } else { a }
+    if a.is_below(b) { b } else { a }
 }
 
 /// The highest ballot, after one more fact.

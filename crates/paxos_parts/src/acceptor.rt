@@ -3,7 +3,7 @@ ghost use Rattle.std.specs.Prelude.{◌≡◌, OnErr, IfOk, None};
 ghost use Rattle.log_model.specs.Log.{has_ballot};
 ghost use Rattle.paxos_parts.specs.Acceptor.{AcceptorState, no_promise, voted_at, prepared, raised, after_prepare, weighed, voted, after_accept};
 
-use crate::{Acceptance, Prepared, Vote, is_at_most, is_below, is_same};
+use crate::{Acceptance, Prepared, Vote};
 use aeg_base::{Ballot, Memory, Pos, Value};
 use std::marker::Model;
 
@@ -65,7 +65,7 @@ impl<V: Value> Acceptor<V> {
     pub fn answer(&self, b: Ballot, p: Pos) -> Result<Prepared<V>, Memory>
         ensures { IfOk result (λ answer. answer ≡ prepared self.now b p) }
     {
-        if is_at_most(b, self.promised) {
+        if b.is_at_most(self.promised) {
             return Ok(Prepared::Stale(self.promised));
         }
         let report = self.report(p)?;
@@ -85,7 +85,7 @@ impl<V: Value> Acceptor<V> {
         ensures memory { OnErr result (self.new ≡ self.old) }
     {
         let answer = self.answer(b, p)?;
-        if !is_at_most(b, self.promised) {
+        if !b.is_at_most(self.promised) {
             self.raise(b);
         }
         Ok(answer)
@@ -96,7 +96,7 @@ impl<V: Value> Acceptor<V> {
         ensures { result ≡ has_ballot b (voted_at self.now.vote p) }
     {
         match &self.vote {
-            Some(vote) if vote.at == p => is_same(vote.ballot, b),
+            Some(vote) if vote.at == p => vote.ballot.is_same(b),
             _ => false,
         }
     }
@@ -105,7 +105,7 @@ impl<V: Value> Acceptor<V> {
     pub fn weigh(&self, b: Ballot, p: Pos) -> Acceptance
         ensures { result ≡ weighed self.now b p }
     {
-        if is_below(b, self.promised) {
+        if b.is_below(self.promised) {
             return Acceptance::Stale(self.promised);
         }
         if self.has_voted(b, p) {

@@ -3,7 +3,7 @@ ghost use Rattle.std.specs.Prelude.{◌≡◌, ◌↔◌, ℕ, ◌+◌, ◌*◌,
 ghost use Rattle.log_model.specs.Log.{is_from, seen_at};
 ghost use Rattle.paxos_parts.specs.Learner.{LearnerState, no_news, completes, notes, learns, hears};
 
-use crate::{Seen, is_at_most};
+use crate::Seen;
 use aeg_base::limits::{MAX_FAULTS, POSITIONS};
 use aeg_base::{Ballot, Memory, Pos, Value};
 use std::alloc::Global;
@@ -69,7 +69,7 @@ impl<V: Value> Learner<V> {
         ensures { result ≡ is_from b (seen_at self.now.seen from) }
     {
         match self.seen.at(from) {
-            Some(seen) => is_at_most(b, seen),
+            Some(seen) => b.is_at_most(seen),
             None => false,
         }
     }

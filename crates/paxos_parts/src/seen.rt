@@ -2,7 +2,6 @@
 ghost use Rattle.std.specs.Prelude.{◌≡◌, ℕ, ◌<◌, ◌≤◌, List, Option, Some, None, length, replicate, slice_set};
 ghost use Rattle.log_model.specs.Log.{seen_at, count_below, is_ballot};
 
-use crate::is_same;
 use aeg_base::Ballot;
 use std::marker::Model;
 
@@ -63,7 +62,7 @@ impl Seen {
         let mut count = 0;
         for node in 0..self.nodes {
             if let Some(seen) = self.ballots[node as usize] {
-                if is_same(seen, ballot) {
+                if seen.is_same(ballot) {
                     count += 1;
                 }
             }

@@ -10,7 +10,6 @@ use crate::messages::send_each;
 use crate::turns::{idle, one, turn};
 use aeg_base::{Ballot, Memory, Pos, Value};
 use log_model::{Fact, LogIdle, LogTurn, PaxMsg};
-use paxos_parts::is_below;
 
 impl<V: Value> TierLog<V> {
     pub(crate) fn on_accept(
@@ -33,7 +32,7 @@ impl<V: Value> TierLog<V> {
             return Ok(turn(Vec::new(self.alloc), sends, None));
         }
         let promised = self.acceptor.promised();
-        if is_below(b, promised) {
+        if b.is_below(promised) {
             return Ok(idle(self.alloc, LogIdle::Stale { promised }));
         }
         if self.acceptor.has_voted(b, open) {

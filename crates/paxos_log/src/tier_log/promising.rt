@@ -12,7 +12,6 @@ use crate::turns::{idle, one, turn};
 use aeg_base::limits::MAX_FAULTS;
 use aeg_base::{Ballot, Memory, Pos, Value};
 use log_model::{Fact, LogIdle, LogTurn, PaxMsg};
-use paxos_parts::is_at_most;
 use std::alloc::Global;
 
 impl<V: Value> TierLog<V> {
@@ -59,7 +58,7 @@ impl<V: Value> TierLog<V> {
             return self.tell(from, p);
         }
         let promised = self.acceptor.promised();
-        if is_at_most(b, promised) {
+        if b.is_at_most(promised) {
             return Ok(idle(self.alloc, LogIdle::Stale { promised }));
         }
         self.promise(from, b, p)
