@@ -37,6 +37,10 @@ empty_input : answered (judgement (codes "")) ≡ record { text = codes ""; refu
 unfolding digits checked number_at with_number
 empty_input = refl
 
+linked_to_a_full_trip : answered (judgement (codes "start 1.1 0 open 2 1 10 0\nstart 1.2 0 open 1 5 10 2\nstart 2.1 1 book 2 1\nstart 1.3 0 book 1 1\n")) ≡ record { text = codes "reply 1.1 opened 2\nreply 1.2 opened 1\ncall inv 1 reserve 2 1\nreply 1.3 refused 5 LinkFull\n"; refused = None }
+unfolding digits checked number_at with_number
+linked_to_a_full_trip = refl
+
 number_given_twice : answered (judgement (codes "start 1.1 0 open 1 5 10 0\nstart 1.2 1 book 1 2\nstart 2.1 1 book 1 1\n")) ≡ record { text = codes "reply 1.1 opened 1\ncall inv 1 reserve 1 2\n"; refused = Some (3, 8) }
 unfolding digits checked number_at with_number
 number_given_twice = refl

@@ -7,3 +7,4 @@ pub mod Server
 pub mod Codes
 pub mod History
 pub mod Single
+pub mod Rests
