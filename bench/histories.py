@@ -3,9 +3,12 @@
 
   looks LINES      16 clients open trips and look at bookings that aren't there
   bookings LINES   16 clients open a trip each, then book and cancel, with their nested calls, taking turns
+  mixed LINES      16 clients open, book, cancel and look as it is drawn, and are refused at times
 """
 
 import sys
+
+from mixed import mixed
 
 CLIENTS = 16
 
@@ -75,7 +78,7 @@ def bookings(lines):
         yield next(clients[k % CLIENTS])
 
 
-HISTORIES = {"looks": looks, "bookings": bookings}
+HISTORIES = {"looks": looks, "bookings": bookings, "mixed": mixed}
 
 
 def main():

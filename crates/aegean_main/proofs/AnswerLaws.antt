@@ -61,15 +61,11 @@ run_lines-judged [] number steps s e = let none : [] ≡ steps = cc in ap (λ (z
 run_lines-judged (l ∷ ls) number steps s e =
     one_line (line_of l) number (judge (number + 1) ls) (run_lines (number + 1) ls) steps s (λ zs t h. run_lines-judged ls (number + 1) zs t h) e
 
-by_judgement : (lines : List (List ℕ)) (j : Judged) (count : ℕ) → judge 1 lines ≡ j → steps_in j ≡ Ok count
+-- an input that is all steps is answered by them
+pub by_judgement : (lines : List (List ℕ)) (j : Judged) (count : ℕ) → judge 1 lines ≡ j → steps_in j ≡ Ok count
     → answer_judged j ≡ answer_run (run_lines 1 lines (opening_server booking_meaning)) count
 by_judgement lines (Fails line row) count e c = absurd (cc)
 by_judgement lines (Reads steps) count e c =
     let same : length steps ≡ count = cc in
     ap (λ (o : Outcome). answer_run o (length steps)) (sym (run_lines-judged lines 1 steps (opening_server booking_meaning) e))
     ∙ ap (answer_run (run_lines 1 lines (opening_server booking_meaning))) same
-
--- an input that is all steps
-pub answer_of-steps : (input : List ℕ) (count : ℕ) → length input ≤ INPUT_BYTES → length (lines_of input) ≤ INPUT_LINES → steps_in (judgement input) ≡ Ok count
-    → answer_of input ≡ answer_run (run_lines 1 (lines_of input) (opening_server booking_meaning)) count
-answer_of-steps input count bytes lines e = answer_of-judged input bytes lines ∙ by_judgement (lines_of input) (judgement input) count refl e

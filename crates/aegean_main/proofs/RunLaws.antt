@@ -1,117 +1,124 @@
--- What a sink took, and what is left to write.
-use Rattle.std.proofs.Common.{◌≡◌, ℕ, ◌+◌, ◌≤◌, List, [], ◌∷◌, ◌++◌, Option, None, Some, Result, Ok, Err, refl, sym, ap, subst, ◌∙◌, append_assoc, append-nil, arith}
-use Rattle.aeg_io.specs.Bytes.{Gains, GainsFront}
-use Rattle.aeg_io.specs.Causes.{Rose}
-use Rattle.aeg_io.proofs.Gained.{Gains-nil, Gains-append, GainsFront-first, GainsFront-behind, GainsFront-whole}
-use Rattle.server_model.specs.Single.{Outcome, line_of, steps_line}
-use Rattle.aegean_main.specs.Answer.{ended_with}
-use Rattle.aegean_main.specs.Running.{Owing, Runs, RunsLine, run_lines}
+-- What was told of an input so far, and what is left of it.
+use Rattle.std.proofs.Common.{◌≡◌, ℕ, ◌+◌, List, [], ◌∷◌, ◌++◌, Option, None, Some, Result, Ok, Err, IfOk, IfErr, refl, sym, ap, subst, ◌∙◌, append-nil, arith}
 use Rattle.server_model.specs.Backends.{Amounts}
-use Rattle.server_model.specs.Server.{Server}
-use Rattle.one_server.specs.declared.refusal.StepErr.{StepErr}
-use Rattle.one_server.specs.declared.refusal.StepErr.TheVariants as errs
-use Rattle.aegean_main.specs.declared.status.Status.TheVariants.{Illegal}
+use Rattle.server_model.specs.Server.{Server, opening_server}
+use Rattle.server_model.specs.Single.{booking_meaning, Line, Bad, line_of, lines_of, Judged, Reads, Fails, judge, judged, judgement, Outcome, steps_line}
+use Rattle.aegean_main.specs.Answer.{ended_with, answer_judged}
+use Rattle.aegean_main.specs.Counting.{steps_in, counted}
+use Rattle.aegean_main.specs.Running.{run_lines, IsSteps, GoesOn, IsRefused, TakesLine, told_with, IsBadLine, Stops}
+use Rattle.aegean_main.specs.declared.run.LineErr.{LineErr}
+use Rattle.aegean_main.specs.declared.run.LineErr.TheVariants as errs
 use Rattle.aegean_main.specs.declared.run.RunErr.{RunErr}
 use Rattle.aegean_main.specs.declared.run.RunErr.TheVariants as runs
+use Rattle.aegean_main.specs.declared.run.Telling.{Telling}
+use Rattle.aegean_main.proofs.AnswerLaws.{by_judgement}
 
-pub Owing-none : (a : Option (List ℕ)) (whole : List ℕ) → Owing a a whole whole
-Owing-none a whole = ([], (Gains-nil a, refl))
+-- so many steps were made and told this text, and these lines are left to a server
+pub record Stands (input : List ℕ) (lines : List (List ℕ)) (number count : ℕ) (s : Server Amounts) (text : List ℕ) : Type 0 where
+  pub counts : steps_in (judgement input) ≡ counted count (steps_in (judge number lines))
+  pub told : (run_lines 1 (lines_of input) (opening_server booking_meaning)).text ≡ text ++ (run_lines number lines s).text
+  pub stopped : (run_lines 1 (lines_of input) (opening_server booking_meaning)).refused ≡ (run_lines number lines s).refused
 
--- the same text is left
-pub Owing-same : (a b : Option (List ℕ)) (x y whole : List ℕ) → Owing a b x whole → x ≡ y → Owing a b y whole
-Owing-same a b x y whole o e = (o.0, (o.1.0, ap (λ (z : List ℕ). o.0 ++ z) (sym e) ∙ o.1.1))
+counted-none : (r : Result ℕ (ℕ × ℕ)) → r ≡ counted 0 r
+counted-none (Ok more) = ap (λ (n : ℕ). Ok n) (omega arith)
+counted-none (Err bad) = refl
 
--- a part of the text that is left went out
-pub Owing-sent : (a b c : Option (List ℕ)) (old new rest whole : List ℕ) → Owing a b (old ++ rest) whole → Owing b c new old → Owing a c (new ++ rest) whole
-Owing-sent a b c old new rest whole o s = (
-  o.0 ++ s.0,
-  (
-    Gains-append a b c o.0 s.0 o.1.0 s.1.0,
-    append_assoc o.0 s.0 (new ++ rest)
-        ∙ ap (λ (z : List ℕ). o.0 ++ z) (sym (append_assoc s.0 new rest) ∙ ap (λ (z : List ℕ). z ++ rest) s.1.1)
-        ∙ o.1.1,
-  ),
-)
+counted-more : (a b : ℕ) (r : Result ℕ (ℕ × ℕ)) → counted a (counted b r) ≡ counted (a + b) r
+counted-more a b (Ok more) = ap (λ (n : ℕ). Ok n) (omega arith)
+counted-more a b (Err bad) = refl
 
--- nothing more is to be written than this text
-pub Owing-last : (a b c : Option (List ℕ)) (x whole : List ℕ) → Owing a b x whole → Gains b c x → Gains a c whole
-Owing-last a b c x whole o g = let P : List ℕ → Type 0 = λ z. Gains a c z in subst P o.1.1 (Gains-append a b c o.0 x o.1.0 g)
+-- before the first line
+pub stands_first : (input : List ℕ) → Stands input (lines_of input) 1 0 (opening_server booking_meaning) []
+stands_first input = record { counts = counted-none (steps_in (judgement input)); told = refl; stopped = refl }
 
-pub Owing-last-same : (a b c : Option (List ℕ)) (x y whole : List ℕ) → Owing a b x whole → y ≡ x → Gains b c y → Gains a c whole
-Owing-last-same a b c x y whole o e g = let P : List ℕ → Type 0 = λ z. Gains b c z in Owing-last a b c x whole o (subst P e g)
+-- a line is so many steps
+counts_on : (total : Result ℕ (ℕ × ℕ)) (lines : List (List ℕ)) (line : List ℕ) (more : List (List ℕ)) (number count steps : ℕ)
+    → lines ≡ line ∷ more → IsSteps steps (line_of line) → total ≡ counted count (steps_in (judge number lines)) → total ≡ counted (count + steps) (steps_in (judge (number + 1) more))
+counts_on total lines line more number count steps e is_steps c =
+    c ∙ ap (λ (z : List (List ℕ)). counted count (steps_in (judge number z))) e ∙ ap (counted count) (is_steps number (judge (number + 1) more))
+    ∙ counted-more count steps (steps_in (judge (number + 1) more))
 
--- a front of what is left went out
-pub Owing-front : (a b c : Option (List ℕ)) (x whole : List ℕ) → Owing a b x whole → GainsFront b c x → GainsFront a c whole
-Owing-front a b c x whole o g = let P : List ℕ → Type 0 = λ z. GainsFront a c z in subst P o.1.1 (GainsFront-behind a b c o.0 x o.1.0 g)
+-- a line was run
+pub stands_on : (input : List ℕ) (lines : List (List ℕ)) (line : List ℕ) (more : List (List ℕ)) (number count steps : ℕ) (s t : Server Amounts) (old new : List ℕ)
+    → lines ≡ line ∷ more → IsSteps steps (line_of line) → GoesOn (line_of line) s t old new → Stands input lines number count s old → Stands input more (number + 1) (count + steps) t new
+stands_on input lines line more number count steps s t old new e is_steps on stands = record {
+  counts = counts_on (steps_in (judgement input)) lines line more number count steps e is_steps stands.counts;
+  told = stands.told ∙ ap (λ (z : List (List ℕ)). old ++ (run_lines number z s).text) e ∙ (on number (run_lines (number + 1) more)).0;
+  stopped = stands.stopped ∙ ap (λ (z : List (List ℕ)). (run_lines number z s).refused) e ∙ (on number (run_lines (number + 1) more)).1;
+}
 
-pub Owing-front-same : (a b c : Option (List ℕ)) (x y whole : List ℕ) → Owing a b x whole → y ≡ x → GainsFront b c y → GainsFront a c whole
-Owing-front-same a b c x y whole o e g = let P : List ℕ → Type 0 = λ z. GainsFront b c z in Owing-front a b c x whole o (subst P e g)
-
-pub Owing-stop : (a b : Option (List ℕ)) (x whole : List ℕ) → Owing a b x whole → GainsFront a b whole
-Owing-stop a b x whole o = let P : List ℕ → Type 0 = λ z. GainsFront a b z in subst P o.1.1 (GainsFront-first a b o.0 x (GainsFront-whole a b o.0 o.1.0))
-
--- what was told is a front of all that is written
-pub GainsFront-ended : (a b : Option (List ℕ)) (text : List ℕ) (refused : Option (ℕ × ℕ)) (count : ℕ) → GainsFront a b text → GainsFront a b (ended_with text refused count).text
-GainsFront-ended a b text None count g = GainsFront-first a b text (steps_line count) g
-GainsFront-ended a b text (Some at) count g = g
-
-pub Rose-later : (a b c : ℕ) → a ≤ b → Rose b c → Rose a c
-Rose-later a b c first later = omega arith
-
--- the same text more on both sides
-pub Owing-more : (a b : Option (List ℕ)) (x y whole : List ℕ) → Owing a b x whole → Owing a b (x ++ y) (whole ++ y)
-Owing-more a b x y whole o = (o.0, (o.1.0, sym (append_assoc o.0 x y) ∙ ap (λ (z : List ℕ). z ++ y) o.1.1))
-
--- after the last line
-pub Runs-last : {A : Type 0} (a b c : Option (List ℕ)) (x whole : List ℕ) (refused : Option (ℕ × ℕ)) (count : ℕ) (r : Result A RunErr)
-    → Owing a b x whole → refused ≡ None → Runs (ended_with x None count) b c r → Runs (ended_with whole refused count) a c r
-Runs-last a b c x whole None count (Ok u) o e w = (refl, Owing-last a b c (x ++ steps_line count) (whole ++ steps_line count) (Owing-more a b x (steps_line count) whole o) w.1)
-Runs-last a b c x whole None count (Err (runs.Illegal line row)) o e w = absurd (let h = w.0 in cc)
-Runs-last a b c x whole None count (Err runs.Write) o e w = Owing-front a b c (x ++ steps_line count) (whole ++ steps_line count) (Owing-more a b x (steps_line count) whole o) w
-Runs-last a b c x whole None count (Err runs.Memory) o e w = Owing-front a b c (x ++ steps_line count) (whole ++ steps_line count) (Owing-more a b x (steps_line count) whole o) w
-Runs-last a b c x whole (Some at) count r o e w = absurd (cc)
-
--- a line was run, and the lines behind it are left
-pub went_on : {A : Type 0} (a b : Option (List ℕ)) (lines : List (List ℕ)) (line : List ℕ) (more : List (List ℕ)) (number : ℕ) (s t : Server Amounts) (old new whole : List ℕ) (u : A)
-    → lines ≡ line ∷ more → RunsLine (line_of line) s t old new (Ok u) → Owing a b (old ++ (run_lines number lines s).text) whole
-    → Owing a b (new ++ (run_lines (number + 1) more t).text) whole
-went_on a b lines line more number s t old new whole u e h o =
-    Owing-same a b _ _ whole o (ap (λ (z : List (List ℕ)). old ++ (run_lines number z s).text) e ∙ (h number (run_lines (number + 1) more)).0)
-
-pub went_on-refused : {A : Type 0} (lines : List (List ℕ)) (line : List ℕ) (more : List (List ℕ)) (number : ℕ) (s t : Server Amounts) (old new : List ℕ) (u : A)
-    → lines ≡ line ∷ more → RunsLine (line_of line) s t old new (Ok u) → (run_lines number lines s).refused ≡ (run_lines (number + 1) more t).refused
-went_on-refused lines line more number s t old new u e h =
-    ap (λ (z : List (List ℕ)). (run_lines number z s).refused) e ∙ (h number (run_lines (number + 1) more)).1
-
--- a line was refused: all that was told is left to write
-pub stopped : (A : Type 0) (a b : Option (List ℕ)) (lines : List (List ℕ)) (line : List ℕ) (more : List (List ℕ)) (number row : ℕ) (s t : Server Amounts) (old new whole : List ℕ) (error : StepErr)
-    → lines ≡ line ∷ more → error ≡ errs.Illegal row → RunsLine {A = A} (line_of line) s t old new (Err error) → Owing a b (old ++ (run_lines number lines s).text) whole
-    → Owing a b new whole
-stopped A a b lines line more number row s t old new whole (errs.Illegal at) e is h o =
-    Owing-same a b _ new whole o
-    (ap (λ (z : List (List ℕ)). old ++ (run_lines number z s).text) e
-    ∙ ap (λ (z : Outcome). old ++ z.text) (h.0 number (run_lines (number + 1) more)) ∙ append-nil old ∙ sym h.1)
-stopped A a b lines line more number row s t old new whole errs.Memory e is h o = absurd (cc)
+-- an input whose lines are all steps is answered by what they tell
+answered : (input : List ℕ) (count : ℕ) (text : List ℕ) (refused : Option (ℕ × ℕ)) → steps_in (judgement input) ≡ Ok count
+    → (run_lines 1 (lines_of input) (opening_server booking_meaning)).text ≡ text → (run_lines 1 (lines_of input) (opening_server booking_meaning)).refused ≡ refused
+    → answer_judged (judgement input) ≡ ended_with text refused count
+answered input count text refused e t r =
+    by_judgement (lines_of input) (judgement input) count refl e
+    ∙ ap (λ (z : List ℕ). ended_with z (run_lines 1 (lines_of input) (opening_server booking_meaning)).refused count) t
+    ∙ ap (λ (z : Option (ℕ × ℕ)). ended_with text z count) r
 
 -- no line is left
-pub all_run : (a b : Option (List ℕ)) (lines : List (List ℕ)) (number : ℕ) (s : Server Amounts) (text whole : List ℕ)
-    → lines ≡ [] → Owing a b (text ++ (run_lines number lines s).text) whole → Owing a b text whole
-all_run a b lines number s text whole e o =
-    Owing-same a b _ text whole o (ap (λ (z : List (List ℕ)). text ++ (run_lines number z s).text) e ∙ append-nil text)
+pub stands_last : (input : List ℕ) (lines : List (List ℕ)) (number count : ℕ) (s : Server Amounts) (text whole : List ℕ)
+    → lines ≡ [] → Stands input lines number count s text → whole ≡ text ++ steps_line count → answer_judged (judgement input) ≡ told_with whole None
+stands_last input lines number count s text whole e stands w =
+    let all : steps_in (judgement input) ≡ Ok count =
+    stands.counts ∙ ap (λ (z : List (List ℕ)). counted count (steps_in (judge number z))) e ∙ ap (λ (n : ℕ). Ok n) (omega arith) in
+    answered input count text None all (stands.told ∙ ap (λ (z : List (List ℕ)). text ++ (run_lines number z s).text) e ∙ append-nil text)
+    (stands.stopped ∙ ap (λ (z : List (List ℕ)). (run_lines number z s).refused) e)
+    ∙ ap (λ (z : List ℕ). told_with z None) (sym w)
 
-pub all_run-refused : (lines : List (List ℕ)) (number : ℕ) (s : Server Amounts) → lines ≡ [] → (run_lines number lines s).refused ≡ None
-all_run-refused lines number s e = ap (λ (z : List (List ℕ)). (run_lines number z s).refused) e
+fails : (j : Judged) (line row : ℕ) → steps_in j ≡ Err (line, row) → j ≡ Fails line row
+fails (Reads steps) line row e = absurd (cc)
+fails (Fails at by) line row e = let same : (at, by) ≡ (line, row) = cc in ap (λ (p : ℕ × ℕ). Fails p.0 p.1) same
 
-pub stopped-refused : (A : Type 0) (lines : List (List ℕ)) (line : List ℕ) (more : List (List ℕ)) (number row : ℕ) (s t : Server Amounts) (old new : List ℕ) (error : StepErr)
-    → lines ≡ line ∷ more → error ≡ errs.Illegal row → RunsLine {A = A} (line_of line) s t old new (Err error) → (run_lines number lines s).refused ≡ Some (number, row)
-stopped-refused A lines line more number row s t old new (errs.Illegal at) e is h =
+-- a line is bad
+pub stands_bad : (input : List ℕ) (lines : List (List ℕ)) (line : List ℕ) (more : List (List ℕ)) (number count row : ℕ) (s : Server Amounts) (text : List ℕ)
+    → lines ≡ line ∷ more → line_of line ≡ Bad row → Stands input lines number count s text → judgement input ≡ Fails number row
+stands_bad input lines line more number count row s text e bad stands =
+    fails (judgement input) number row
+    (stands.counts ∙ ap (λ (z : List (List ℕ)). counted count (steps_in (judge number z))) e
+    ∙ ap (λ (z : Line). counted count (steps_in (judged number z (judge (number + 1) more)))) bad)
+
+-- a step is refused, and the lines behind it are judged
+pub stands_stopped : (input : List ℕ) (lines : List (List ℕ)) (line : List ℕ) (more : List (List ℕ)) (number count row : ℕ) (s : Server Amounts) (old new : List ℕ) (r : Result Telling RunErr)
+    → lines ≡ line ∷ more → IsSteps 1 (line_of line) → IsRefused (line_of line) s row → new ≡ old → Stands input lines number count s old
+    → Stops (judge (number + 1) more) new number row r → IfOk r (λ telling. answer_judged (judgement input) ≡ told_with telling.text.items telling.refused)
+stands_stopped input lines line more number count row s old new (Err error) e is_step is_refused same stands stops = tt
+stands_stopped input lines line more number count row s old new (Ok telling) e is_step is_refused same stands stops =
+    let all : steps_in (judgement input) ≡ Ok ((count + 1) + stops.0) =
+    counts_on (steps_in (judgement input)) lines line more number count 1 e is_step stands.counts ∙ ap (counted (count + 1)) stops.1.0 in
+    answered input ((count + 1) + stops.0) old (Some (number, row)) all
+    (stands.told ∙ ap (λ (z : List (List ℕ)). old ++ (run_lines number z s).text) e ∙ ap (λ (z : Outcome). old ++ z.text) (is_refused number (run_lines (number + 1) more)) ∙ append-nil old)
+    (stands.stopped ∙ ap (λ (z : List (List ℕ)). (run_lines number z s).refused) e ∙ ap (λ (z : Outcome). z.refused) (is_refused number (run_lines (number + 1) more)))
+    ∙ ap (λ (z : List ℕ). told_with z (Some (number, row))) (sym same ∙ sym stops.1.1.0)
+    ∙ ap (λ (z : Option (ℕ × ℕ)). told_with telling.text.items z) (sym stops.1.1.1)
+
+-- and one of them is bad
+pub stands_bad_behind : (input : List ℕ) (lines : List (List ℕ)) (line : List ℕ) (more : List (List ℕ)) (number count row : ℕ) (s : Server Amounts) (old new : List ℕ) (r : Result Telling RunErr)
+    → lines ≡ line ∷ more → IsSteps 1 (line_of line) → Stands input lines number count s old → Stops (judge (number + 1) more) new number row r → IfErr r (IsBadLine (judgement input))
+stands_bad_behind input lines line more number count row s old new (Ok telling) e is_step stands stops = tt
+stands_bad_behind input lines line more number count row s old new (Err runs.Memory) e is_step stands stops = tt
+stands_bad_behind input lines line more number count row s old new (Err (runs.Bad bad)) e is_step stands stops =
+    fails (judgement input) bad.line bad.row
+    (counts_on (steps_in (judgement input)) lines line more number count 1 e is_step stands.counts ∙ ap (λ (j : Judged). counted (count + 1) (steps_in j)) stops)
+
+-- BY WHAT A LINE'S RUN ANSWERED
+
+pub bad_line : (input : List ℕ) (lines : List (List ℕ)) (line : List ℕ) (more : List (List ℕ)) (number count row shown : ℕ) (s t : Server Amounts) (old new : List ℕ) (error : LineErr)
+    → lines ≡ line ∷ more → error ≡ errs.Bad row → row ≡ shown → TakesLine (line_of line) s t old new (Err error) → Stands input lines number count s old → judgement input ≡ Fails number shown
+bad_line input lines line more number count row shown s t old new (errs.Bad at) e is r takes stands =
     let same : at ≡ row = cc in
-    ap (λ (z : List (List ℕ)). (run_lines number z s).refused) e
-    ∙ ap (λ (z : Outcome). z.refused) (h.0 number (run_lines (number + 1) more)) ∙ ap (λ (z : ℕ). Some (number, z)) same
-stopped-refused A lines line more number row s t old new errs.Memory e is h = absurd (cc)
+    stands_bad input lines line more number count at s old e takes stands ∙ ap (λ (z : ℕ). Fails number z) (same ∙ r)
+bad_line input lines line more number count row shown s t old new (errs.Illegal at) e is r takes stands = absurd (cc)
+bad_line input lines line more number count row shown s t old new errs.Memory e is r takes stands = absurd (cc)
 
--- the answer after a step that was refused
-pub Runs-stopped : (a c : Option (List ℕ)) (text : List ℕ) (refused : Option (ℕ × ℕ)) (count number row shown : ℕ) → refused ≡ Some (number, row) → row ≡ shown → Gains a c text
-    → ((ended_with text refused count).status ≡ Illegal number shown) × Gains a c (ended_with text refused count).text
-Runs-stopped a c text None count number row shown e r g = absurd (cc)
-Runs-stopped a c text (Some at) count number row shown e r g = let same : at ≡ (number, row) = cc in (ap (λ (p : ℕ × ℕ). Illegal p.0 p.1) same ∙ ap (λ (z : ℕ). Illegal number z) r, g)
+-- the step of a line was refused by this row
+abbrev pub WasRefused : List ℕ → Server Amounts → List ℕ → List ℕ → ℕ → Type 0
+WasRefused line s old new row = IsSteps 1 (line_of line) × (IsRefused (line_of line) s row × (new ≡ old))
+
+pub was_refused : (line : List ℕ) (row shown : ℕ) (s t : Server Amounts) (old new : List ℕ) (error : LineErr)
+    → error ≡ errs.Illegal row → row ≡ shown → TakesLine (line_of line) s t old new (Err error) → WasRefused line s old new shown
+was_refused line row shown s t old new (errs.Bad at) is r takes = absurd (cc)
+was_refused line row shown s t old new (errs.Illegal at) is r takes =
+    let same : at ≡ row = cc in
+    subst (λ (z : ℕ). WasRefused line s old new z) (same ∙ r) takes
+was_refused line row shown s t old new errs.Memory is r takes = absurd (cc)

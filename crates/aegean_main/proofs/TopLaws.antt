@@ -1,5 +1,5 @@
 -- What the statuses say, case by case.
-use Rattle.std.proofs.Common.{◌≡◌, ℕ, ◌<◌, ◌≤◌, ◌⊎◌, inl, inr, List, [], ◌∷◌, ◌++◌, Option, None, Some, IfSome, Ok, Err, refl, sym, ap, subst, ◌∙◌, length, length-append, Bool, true, false, cond, nat_lt, get_or, map, IsTrue, arith}
+use Rattle.std.proofs.Common.{◌≡◌, ℕ, ◌<◌, ◌≤◌, ◌⊎◌, inl, inr, List, [], ◌∷◌, ◌++◌, Option, None, Some, IfSome, refl, sym, ap, subst, ◌∙◌, length, length-append, Bool, true, false, cond, nat_lt, get_or, map, IsTrue, arith}
 use Rattle.std.specs.Str.{bytes_eq}
 use Rattle.std.proofs.lemmas.Slice.Eq.{bytes_eq-Decides}
 use Rattle.std.specs.Io.KnownBytes.{Consumes}
@@ -13,40 +13,17 @@ use Rattle.server_model.specs.Single.{booking_meaning, lines_of, Judged, Reads, 
 use Rattle.server_model.specs.declared.history.Numbered.{Numbered}
 use Rattle.server_model.specs.declared.history.Told.{Told}
 use Rattle.aegean_main.specs.Answer.{Answer, refused_with, ended_with, answer_judged, answer_of}
-use Rattle.aegean_main.specs.Running.{Runs}
 use Rattle.aegean_main.specs.Top.{Follows, TellsHistory, told_lines}
 use Rattle.aegean_main.proofs.AnswerLaws.{answer_of-bytes}
-use Rattle.aegean_main.specs.declared.run.RunErr.{RunErr}
-use Rattle.aegean_main.specs.declared.run.RunErr.TheVariants as runs
 use Rattle.aegean_main.specs.declared.status.LimitKind.TheVariants as limits
 use Rattle.aegean_main.specs.declared.status.Status.{Status}
 use Rattle.aegean_main.specs.declared.status.Status.TheVariants.{Done, Usage, Script, Plan, ReadFault, WriteFault, Limit, Illegal, Memory}
 
 -- FROM THE RUN
 
-pub followed-done : (A : Type 0) (a b : Answer) (old new : Option (List ℕ)) (u : A) → a ≡ b → Runs {A = A} b old new (Ok u) → Follows a old new Done
-followed-done A a b old new u e w = let Q : Answer → Type 0 = λ z. Follows z old new Done in subst Q (sym e) w
-
-pub followed-illegal : (A : Type 0) (a b : Answer) (old new : Option (List ℕ)) (error : RunErr) (line row : ℕ) → a ≡ b → error ≡ runs.Illegal line row
-    → Runs {A = A} b old new (Err error) → Follows a old new (Illegal line row)
-followed-illegal A a b old new error line row e is w =
-    let P : RunErr → Type 0 = λ z. Runs {A = A} b old new (Err z) in
-    let Q : Answer → Type 0 = λ z. Follows z old new (Illegal line row) in
-    subst Q (sym e) (subst P is w)
-
-pub followed-write : (A : Type 0) (a b : Answer) (old new : Option (List ℕ)) (error : RunErr) → a ≡ b → error ≡ runs.Write
-    → Runs {A = A} b old new (Err error) → Follows a old new WriteFault
-followed-write A a b old new error e is w =
-    let P : RunErr → Type 0 = λ z. Runs {A = A} b old new (Err z) in
-    let Q : Answer → Type 0 = λ z. Follows z old new WriteFault in
-    subst Q (sym e) (subst P is w)
-
-pub followed-memory : (A : Type 0) (a b : Answer) (old new : Option (List ℕ)) (error : RunErr) → a ≡ b → error ≡ runs.Memory
-    → Runs {A = A} b old new (Err error) → Follows a old new Memory
-followed-memory A a b old new error e is w =
-    let P : RunErr → Type 0 = λ z. Runs {A = A} b old new (Err z) in
-    let Q : Answer → Type 0 = λ z. Follows z old new Memory in
-    subst Q (sym e) (subst P is w)
+-- the same answer
+pub follows_same : (a b : Answer) (old new : Option (List ℕ)) (status : Status) → a ≡ b → Follows b old new status → Follows a old new status
+follows_same a b old new status e f = let Q : Answer → Type 0 = λ z. Follows z old new status in subst Q (sym e) f
 
 -- FROM THE SOURCE
 

@@ -2,7 +2,6 @@ pub mod Answer
 pub mod Counting
 pub mod Reading
 pub mod Report
-pub mod Rests
 pub mod Running
 pub mod Status
 pub mod Top

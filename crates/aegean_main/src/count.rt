@@ -1,10 +1,11 @@
-// The first look at an input: each line is judged, and none is kept.
-ghost use Rattle.std.specs.Prelude.{◌≡◌, ◌<◌, ◌-◌, ◌^◌, length, Ok, MatchResult};
-ghost use Rattle.server_model.specs.Single.{lines_of, judgement, Fails};
+// The lines behind a step that is refused are still judged: a bad line among them comes before the refusal.
+ghost use Rattle.std.specs.Prelude.{◌≡◌, ◌+◌, ◌<◌, ◌^◌, length, Ok, MatchResult};
+ghost use Rattle.server_model.specs.Single.{judge, Fails};
 ghost use Rattle.aegean_main.specs.Counting.{steps_in};
+ghost use Rattle.server_model.specs.Rests.{lines_left};
 
-use crate::lines::next_line;
 use crate::reading::{Reading, reading_of};
+use server_model::next_line;
 
 /// A line that a row refuses.
 #[derive(Clone, Copy, Debug, PartialEq, Eq)]
@@ -13,13 +14,12 @@ pub struct BadLine {
     pub row: u8,
 }
 
-/// How many steps the lines are, or the first line that is refused.
-pub fn count_steps(input: &[u8]) -> Result<u32, BadLine>
-    requires { length (lines_of input.now) < 2 ^ 32 - 1 }
-    ensures { MatchResult result (λ count. steps_in (judgement input.now) ≡ Ok count) (λ bad. judgement input.now ≡ Fails bad.line bad.row) }
+/// How many steps the lines from this one on are, or the first of them that is refused.
+pub fn count_steps(mut rest: Option<&[u8]>, first: u32) -> Result<u32, BadLine>
+    requires { first + length (lines_left rest) < 2 ^ 32 }
+    ensures { MatchResult result (λ count. steps_in (judge first (lines_left rest.entry)) ≡ Ok count) (λ bad. judge first (lines_left rest.entry) ≡ Fails bad.line bad.row) }
 {
-    let mut rest = Some(input);
-    let mut line = 1;
+    let mut line = first;
     let mut count = 0;
     'lines: while let Some((text, more)) = next_line(rest) {
         match reading_of(text) {

@@ -1,30 +1,32 @@
-// The second look at an input: each line is read again, its step is made, and what it tells is written.
-ghost use Rattle.std.specs.Prelude.{◌≡◌, ◌<◌, ◌≤◌, ◌-◌, ◌^◌, length, None, OnOk, OnErr, IsErrOf};
-ghost use Rattle.aeg_io.specs.Bytes.{GainsFront};
-ghost use Rattle.aeg_io.specs.Causes.{Rose};
-ghost use Rattle.server_model.specs.Server.{opening_server};
-ghost use Rattle.server_model.specs.Single.{Steps, line_of, lines_of, booking_meaning};
+// One look at an input: each line is read, its step is made, and what it tells is kept until all lines are judged.
+ghost use Rattle.std.specs.Prelude.{◌≡◌, ◌+◌, ◌<◌, ◌≤◌, ◌-◌, ◌^◌, length, None, IfOk, IfErr};
+ghost use Rattle.server_model.specs.Single.{Steps, line_of, lines_of, judge, judgement};
 ghost use Rattle.one_server.specs.Steps.{IsNamed};
-ghost use Rattle.aegean_main.specs.Answer.{answer_run, ended_with};
-ghost use Rattle.aegean_main.specs.Running.{RunsLine, Runs, Owing, run_lines as run_of_lines};
+ghost use Rattle.aegean_main.specs.Answer.{answer_judged};
+ghost use Rattle.server_model.specs.Rests.{lines_left};
+ghost use Rattle.aegean_main.specs.Running.{TakesLine, told_with, IsBadLine, Stops};
 
-use crate::lines::next_line;
+use crate::count::{BadLine, count_steps};
 use crate::reading::{Reading, reading_of};
 use crate::told::{add_steps, add_told};
 use aeg_base::{Bytes, Memory};
-use aeg_io::{Failed, Sink, put_all};
 use one_server::{OneServer, StepErr};
-use server_model::Hist;
+use server_model::{Hist, next_line};
 use std::alloc::Global;
+use std::mem;
 
-/// So many bytes are gathered before they are written, so that a long run makes few calls and takes little memory.
-const SEND_BYTES: usize = 65_536;
+/// What the steps told, up to the first that is refused, and the number of its line and the row. After the last one
+/// comes the line that counts them.
+#[derive(Drop)]
+pub struct Telling {
+    pub text: Vec<u8>,
+    pub refused: Option<(u32, u8)>,
+}
 
-/// Why a run ended early: a step is refused by a row, the sink failed, or there was no memory.
+/// Why an input has no text: a line is bad, or there was no memory.
 #[derive(Clone, Copy, Debug, PartialEq, Eq)]
 pub enum RunErr {
-    Illegal { line: u32, row: u8 },
-    Write,
+    Bad(BadLine),
     Memory,
 }
 
@@ -39,108 +41,101 @@ impl From<Memory> for RunErr {
     }
 }
 
-impl From<Failed> for RunErr {
-    ghost use Rattle.std.specs.Prelude.{◌≡◌};
-    ghost use Rattle.aegean_main.specs.declared.run.RunErr.TheVariants as errs;
-
-    ghost from_gives = { λ _ e. e ≡ errs.Write };
-
-    fn from(_: Failed) -> Self {
-        RunErr::Write
-    }
+/// Why a line isn't run: a row refuses the line or its step, or there was no memory.
+#[derive(Clone, Copy, Debug, PartialEq, Eq)]
+pub enum LineErr {
+    Bad { row: u8 },
+    Illegal { row: u8 },
+    Memory,
 }
 
-/// Makes a step and adds what it tells.
+/// Makes a step and adds what it tells. `words` is room for the text of a request, kept from line to line.
 fn run_step(
-    alloc: Global,
     server: &mut OneServer,
     hist: &Hist,
     body: &[u8],
+    words: &mut Vec<u8>,
     text: &mut Vec<u8>,
-) -> Result<(), StepErr>
+) -> Result<u32, LineErr>
     requires { IsNamed hist.now }
-    ensures { RunsLine (Steps hist.now body.now) server.old server.new text.old.items text.new.items result }
+    ensures takes { TakesLine (Steps hist.now body.now) server.old server.new text.old.items text.new.items result }
+    ensures one { IfOk result (λ count. count ≤ 1) }
 {
-    let body = Bytes::of(Vec::from_slice(alloc, body)?);
-    let told = server.step(hist, &body)?;
-    add_told(text, &told)?;
-    Ok(())
+    words.clear();
+    let Ok(()) = words.extend_from_slice(body) else {
+        return Err(LineErr::Memory);
+    };
+    let empty = Vec::new(*words.allocator());
+    let request = Bytes::of(mem::replace(words, empty));
+    let made = server.step(hist, &request);
+    *words = request.into_vec();
+    match made {
+        Ok(told) => match add_told(text, &told) {
+            Ok(()) => Ok(1),
+            Err(_) => Err(LineErr::Memory),
+        },
+        Err(StepErr::Illegal { row }) => Err(LineErr::Illegal { row }),
+        Err(StepErr::Memory) => Err(LineErr::Memory),
+    }
 }
 
-/// Makes the step of a line, if it is one.
+/// Makes the step of a line, and answers how many steps it is: one or none.
 fn run_line(
-    alloc: Global,
     server: &mut OneServer,
     line: &[u8],
+    words: &mut Vec<u8>,
     text: &mut Vec<u8>,
-) -> Result<(), StepErr>
-    ensures { RunsLine (line_of line.now) server.old server.new text.old.items text.new.items result }
+) -> Result<u32, LineErr>
+    ensures takes { TakesLine (line_of line.now) server.old server.new text.old.items text.new.items result }
+    ensures one { IfOk result (λ count. count ≤ 1) }
 {
     match reading_of(line) {
-        Reading::Skips => Ok(()),
-        Reading::Bad(row) => Err(StepErr::Illegal { row }),
-        Reading::Steps(hist, body) => run_step(alloc, server, &hist, body, text),
+        Reading::Skips => Ok(0),
+        Reading::Bad(row) => Err(LineErr::Bad { row }),
+        Reading::Steps(hist, body) => run_step(server, &hist, body, words, text),
     }
 }
 
-/// Writes the text out where it has grown long, and then it is empty.
-fn send_long<K: Sink>(out: &mut K, text: &mut Vec<u8>) -> Result<(), Failed>
-    ensures ok { OnOk result (Owing (K.taken out.old) (K.taken out.new) text.new.items text.old.items) }
-    ensures front { OnErr result (GainsFront (K.taken out.old) (K.taken out.new) text.old.items) }
-    ensures failed { OnErr result (Rose (K.faults out.old) (K.faults out.new)) }
-    ensures later { K.faults out.old ≤ K.faults out.new }
+/// A step is refused: what was told before it is told, where all lines behind it can be read.
+fn refused(text: Vec<u8>, more: Option<&[u8]>, line: u32, row: u8) -> Result<Telling, RunErr>
+    requires { line + 1 + length (lines_left more) < 2 ^ 32 }
+    ensures { Stops (judge (line + 1) (lines_left more.entry)) text.items line row result }
 {
-    if text.len() < SEND_BYTES {
-        return Ok(());
+    match count_steps(more, line + 1) {
+        Ok(_) => Ok(Telling {
+            text,
+            refused: Some((line, row)),
+        }),
+        Err(bad) => Err(RunErr::Bad(bad)),
     }
-    put_all(out, text)?;
-    text.clear();
-    Ok(())
 }
 
-/// Writes the rest of the text, and the line that counts the steps.
-fn send_last<K: Sink>(out: &mut K, mut text: Vec<u8>, count: u32) -> Result<(), RunErr>
-    ensures writes { Runs (ended_with text.items None count) (K.taken out.old) (K.taken out.new) result }
-    ensures failed { IsErrOf result RunErr.Write → Rose (K.faults out.old) (K.faults out.new) }
-    ensures later { K.faults out.old ≤ K.faults out.new }
-{
-    add_steps(&mut text, count)?;
-    put_all(out, &text)?;
-    Ok(())
-}
-
-/// Makes the steps of the lines on an opening server, up to the first that is refused, and writes what they tell; after
-/// the last one also the line that counts them.
-pub fn run_lines<K: Sink>(
-    alloc: Global,
-    input: &[u8],
-    count: u32,
-    out: &mut K,
-) -> Result<(), RunErr>
+/// Makes the steps of an input's lines on an opening server, up to the first that is refused. Where a line can't be
+/// read nothing of it is told.
+pub fn run_lines(alloc: Global, input: &[u8]) -> Result<Telling, RunErr>
     requires { length (lines_of input.now) < 2 ^ 32 - 1 }
-    ensures writes { Runs (answer_run (run_of_lines 1 (lines_of input.now) (opening_server booking_meaning)) count) (K.taken out.old) (K.taken out.new) result }
-    ensures failed { IsErrOf result RunErr.Write → Rose (K.faults out.old) (K.faults out.new) }
-    ensures later { K.faults out.old ≤ K.faults out.new }
+    ensures tells { IfOk result (λ telling. answer_judged (judgement input.now) ≡ told_with telling.text.items telling.refused) }
+    ensures bad { IfErr result (IsBadLine (judgement input.now)) }
 {
     let mut server = OneServer::new(alloc);
+    let mut words = Vec::new(alloc);
     let mut text = Vec::new(alloc);
     let mut rest = Some(input);
     let mut number = 1;
+    let mut count = 0;
     'lines: while let Some((line, more)) = next_line(rest) {
-        match run_line(alloc, &mut server, line, &mut text) {
-            Ok(()) => {
-                if let Err(Failed) = send_long(out, &mut text) {
-                    return Err(RunErr::Write);
-                }
-            }
-            Err(StepErr::Illegal { row }) => match put_all(out, &text) {
-                Ok(()) => return Err(RunErr::Illegal { line: number, row }),
-                Err(Failed) => return Err(RunErr::Write),
-            },
-            Err(StepErr::Memory) => return Err(RunErr::Memory),
+        match run_line(&mut server, line, &mut words, &mut text) {
+            Ok(steps) => count += steps,
+            Err(LineErr::Bad { row }) => return Err(RunErr::Bad(BadLine { line: number, row })),
+            Err(LineErr::Illegal { row }) => return refused(text, more, number, row),
+            Err(LineErr::Memory) => return Err(RunErr::Memory),
         }
         number += 1;
         rest = more;
     }
-    send_last(out, text, count)
+    add_steps(&mut text, count)?;
+    Ok(Telling {
+        text,
+        refused: None,
+    })
 }

@@ -4,17 +4,35 @@ ghost use Rattle.aeg_base.specs.declared.limits.TheConstants.{INPUT_BYTES};
 ghost use Rattle.aeg_io.specs.Causes.{Rose};
 ghost use Rattle.aegean_main.specs.Answer.{answer_of};
 ghost use Rattle.aegean_main.specs.Report.{Tells};
+ghost use Rattle.aegean_main.specs.Running.{told_with};
 ghost use Rattle.aegean_main.specs.Status.{line_for};
 ghost use Rattle.aegean_main.specs.Top.{IsSingle, Follows, LeavesOut, TellsHistory};
 
-use crate::count::count_steps;
+use crate::count::BadLine;
 use crate::lines::has_lines_within;
 use crate::report::report;
-use crate::run::{RunErr, run_lines};
+use crate::run::{RunErr, Telling, run_lines};
 use crate::status::{LimitKind, Status};
 use aeg_base::limits::{INPUT_BYTES, INPUT_LINES};
-use aeg_io::{ReadErr, Sink, Source, read_all};
+use aeg_io::{Failed, ReadErr, Sink, Source, put_all, read_all};
 use std::alloc::Global;
+
+/// Writes what an input's steps told.
+fn send<K: Sink>(out: &mut K, telling: &Telling) -> Status
+    ensures follows { Follows (told_with telling.now.text.items telling.now.refused) (K.taken out.old) (K.taken out.new) result }
+    ensures nothing { LeavesOut result (K.taken out.old) (K.taken out.new) }
+    ensures write { result ≡ Status.WriteFault → Rose (K.faults out.old) (K.faults out.new) }
+    ensures read { ¬ (result ≡ Status.ReadFault) }
+    ensures command { ¬ (result ≡ Status.Usage) }
+{
+    if let Err(Failed) = put_all(out, &telling.text) {
+        return Status::WriteFault;
+    }
+    match telling.refused {
+        None => Status::Done,
+        Some((line, row)) => Status::Illegal { line, row },
+    }
+}
 
 /// Answers an input and writes what it tells.
 fn answer<K: Sink>(alloc: Global, input: &[u8], out: &mut K) -> Status
@@ -28,19 +46,9 @@ fn answer<K: Sink>(alloc: Global, input: &[u8], out: &mut K) -> Status
     if !has_lines_within(input, INPUT_LINES) {
         return Status::Limit(LimitKind::Lines);
     }
-    let count = match count_steps(input) {
-        Ok(count) => count,
-        Err(bad) => {
-            return Status::Script {
-                line: bad.line,
-                row: bad.row,
-            };
-        }
-    };
-    match run_lines(alloc, input, count, out) {
-        Ok(()) => Status::Done,
-        Err(RunErr::Illegal { line, row }) => Status::Illegal { line, row },
-        Err(RunErr::Write) => Status::WriteFault,
+    match run_lines(alloc, input) {
+        Ok(telling) => send(out, &telling),
+        Err(RunErr::Bad(BadLine { line, row })) => Status::Script { line, row },
         Err(RunErr::Memory) => Status::Memory,
     }
 }

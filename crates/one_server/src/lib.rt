@@ -6,6 +6,7 @@ mod book;
 mod clients;
 mod draft;
 mod making;
+mod numbering;
 mod places;
 mod refusal;
 mod server;

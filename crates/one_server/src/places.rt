@@ -1,20 +1,18 @@
 // The places of items by tier and number.
 ghost use Rattle.std.specs.Prelude.{◌≡◌, ◌==◌, ℕ, None, Some, OnOk, OnErr, if◌then◌else◌};
-ghost use Rattle.std.specs.Ordering.{nat_cmp};
-ghost use Rattle.std.specs.BTreeMap.{get};
 ghost use Rattle.aeg_base.specs.declared.names.Tier.{Tier};
 ghost use Rattle.one_server.specs.Places.{place_in, Sets, Loses, IsSame};
 
+use crate::numbering::Numbering;
 use aeg_base::{CallNo, Memory, Tier};
 use std::alloc::Global;
-use std::collections::BTreeMap;
 
 /// A place for each number of a tier that has one.
 #[derive(Drop)]
 pub struct Places {
-    pub middle: BTreeMap<CallNo, usize>,
-    pub inventory: BTreeMap<CallNo, usize>,
-    pub payment: BTreeMap<CallNo, usize>,
+    pub middle: Numbering,
+    pub inventory: Numbering,
+    pub payment: Numbering,
 }
 
 impl Places {
@@ -22,9 +20,9 @@ impl Places {
         ensures { (tier : Tier) (number : ℕ) → place_in result tier number ≡ None }
     {
         Places {
-            middle: BTreeMap::new(alloc),
-            inventory: BTreeMap::new(alloc),
-            payment: BTreeMap::new(alloc),
+            middle: Numbering::new(alloc),
+            inventory: Numbering::new(alloc),
+            payment: Numbering::new(alloc),
         }
     }
 
@@ -32,9 +30,9 @@ impl Places {
         ensures { result ≡ place_in self.now tier number }
     {
         match tier {
-            Tier::Mid => self.middle.get(&number).copied(),
-            Tier::Inv => self.inventory.get(&number).copied(),
-            Tier::Pay => self.payment.get(&number).copied(),
+            Tier::Mid => self.middle.get(number),
+            Tier::Inv => self.inventory.get(number),
+            Tier::Pay => self.payment.get(number),
         }
     }
 
@@ -43,9 +41,9 @@ impl Places {
         ensures err { OnErr result (IsSame self.old self.new) }
     {
         match tier {
-            Tier::Mid => put(&mut self.middle, number, place),
-            Tier::Inv => put(&mut self.inventory, number, place),
-            Tier::Pay => put(&mut self.payment, number, place),
+            Tier::Mid => self.middle.set(number, place),
+            Tier::Inv => self.inventory.set(number, place),
+            Tier::Pay => self.payment.set(number, place),
         }
     }
 
@@ -53,23 +51,9 @@ impl Places {
         ensures { Loses self.old self.new tier number }
     {
         match tier {
-            Tier::Mid => remove(&mut self.middle, number),
-            Tier::Inv => remove(&mut self.inventory, number),
-            Tier::Pay => remove(&mut self.payment, number),
+            Tier::Mid => self.middle.take_out(number),
+            Tier::Inv => self.inventory.take_out(number),
+            Tier::Pay => self.payment.take_out(number),
         }
     }
-}
-
-fn remove(places: &mut BTreeMap<CallNo, usize>, number: CallNo)
-    ensures { (q : ℕ) → get nat_cmp places.new q ≡ (if q == number then None else get nat_cmp places.old q) }
-{
-    places.remove(&number);
-}
-
-fn put(places: &mut BTreeMap<CallNo, usize>, number: CallNo, place: usize) -> Result<(), Memory>
-    ensures ok { OnOk result ((q : ℕ) → get nat_cmp places.new q ≡ (if q == number then Some place else get nat_cmp places.old q)) }
-    ensures err { OnErr result ((q : ℕ) → get nat_cmp places.new q ≡ get nat_cmp places.old q) }
-{
-    places.insert(number, place)?;
-    Ok(())
 }

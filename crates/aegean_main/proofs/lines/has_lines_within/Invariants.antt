@@ -1,6 +1,6 @@
 use Rattle.std.proofs.Common.{◌≡◌, ◌+◌, ◌≤◌, length}
 use Rattle.server_model.specs.Single.{lines_of}
-use Rattle.aegean_main.specs.Rests.{lines_left, size_left}
+use Rattle.server_model.specs.Rests.{lines_left, size_left}
 use Rattle.aegean_main.proofs.lines.has_lines_within.Given as goal
 
 abbrev pub invariant-lines : goal.invariant-lines
