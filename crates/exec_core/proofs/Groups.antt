@@ -12,7 +12,8 @@ use Rattle.exec_model.proofs.Basics.{times-append, times-mem}
 use Rattle.exec_model.proofs.Inv.{any_running-true}
 use Rattle.exec_model.proofs.Finish.{mem-append}
 use Rattle.exec_core.specs.declared.machine.Machine.{Machine}
-use Rattle.exec_core.specs.States.{lists_of, AreMembers, whole_of, begun}
+use Rattle.key_mixer.specs.Lists.{lists_of}
+use Rattle.exec_core.specs.States.{AreMembers, whole_of, begun}
 use Rattle.exec_model.specs.Machine.{next}
 
 pub groups_at : (gs : List (Vec ℕ Global)) (k : ℕ) (v : Vec ℕ Global) → k < length gs → v ≡ get_or gs k v → drop k (lists_of gs) ≡ v.items ∷ drop (k + 1) (lists_of gs)

@@ -12,7 +12,7 @@ use Rattle.exec_model.specs.Groups.{times}
 use Rattle.exec_model.proofs.Basics.{serial_end-none}
 use Rattle.exec_core.specs.declared.machine.Slot.{Slot}
 use Rattle.exec_core.specs.States.{progress_of}
-use Rattle.exec_core.proofs.Steps.{progress_of-set}
+use Rattle.exec_core.proofs.OneStep.{progress_of-set}
 
 pub drop_at : (xs : List ℕ) (k : ℕ) → k < length xs → drop k xs ≡ get_or xs k 0 ∷ drop (k + 1) xs
 drop_at xs k h = let e : suc k ≡ k + 1 = omega arith in drop-cons xs k 0 h ∙ ap (λ n. get_or xs k 0 ∷ drop n xs) e

@@ -5,7 +5,7 @@ use Rattle.aeg_base.specs.Store.{Store, value_at, written}
 use Rattle.kv_store.specs.Stores.{unwound}
 use Rattle.kv_store.proofs.Unwinding.{start_kept}
 
-unwound-append : (xs ys : List (Key × ℕ)) (s : Store) → unwound (xs ++ ys) s ≡ unwound xs (unwound ys s)
+pub unwound-append : (xs ys : List (Key × ℕ)) (s : Store) → unwound (xs ++ ys) s ≡ unwound xs (unwound ys s)
 unwound-append [] ys s = refl
 unwound-append (x ∷ xs) ys s = ap (λ t. written t x.0 x.1) (unwound-append xs ys s)
 

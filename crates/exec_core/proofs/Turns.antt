@@ -9,8 +9,8 @@ use Rattle.aeg_base.specs.Locks.{lock_number}
 use Rattle.exec_model.specs.Machine.{State, Progress, Running, Ended, mem, is_running, any_running, or_ended, update, settle, touch, again, act, turn}
 use Rattle.exec_model.proofs.Basics.{serial_end-some, serial_end-none, times-mem, times-not_mem}
 use Rattle.exec_model.proofs.Finish.{any_running-some}
-use Rattle.exec_core.specs.declared.machine.Went.{Went}
-use Rattle.exec_core.specs.declared.machine.Went.TheVariants.{Moved, Left, Busy, Skipped}
+use Rattle.exec_core.specs.declared.steps.Went.{Went}
+use Rattle.exec_core.specs.declared.steps.Went.TheVariants.{Moved, Left, Busy, Skipped}
 use Rattle.exec_core.specs.States.{Goes, may, raw, went_on}
 use Rattle.exec_model.specs.Machine.{next}
 

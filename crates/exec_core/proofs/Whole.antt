@@ -1,5 +1,5 @@
 -- What the machine's vectors come to is the run of the job.
-use Rattle.std.proofs.Common.{◌≡◌, ℕ, zero, suc, ◌+◌, ◌<◌, ◌≤◌, Bool, true, false, cond, ◌||◌, ◌==◌, List, [], ◌∷◌, ◌++◌, length, map, unwrap_or, Option, refl, sym, ap, ◌∙◌, arith, ltb}
+use Rattle.std.proofs.Common.{◌≡◌, ℕ, zero, suc, ◌+◌, ◌<◌, ◌≤◌, Bool, true, false, cond, ◌||◌, ◌==◌, List, [], ◌∷◌, length, map, unwrap_or, Option, refl, sym, ap, ◌∙◌, ◌*◌, arith}
 use Rattle.std.specs.Prelude.{nat_lt}
 use Rattle.std.proofs.lemmas.Bool.Decides.{nat_tests}
 use Rattle.std.specs.declared.vec.Vec.{Vec}
@@ -10,16 +10,17 @@ use Rattle.svc_api.specs.Plan.{Plan}
 use Rattle.exec_model.specs.declared.job.Seg.{Seg}
 use Rattle.std.specs.List.{All}
 use Rattle.exec_model.specs.Machine.{State, Progress, Running, Ended, mem, is_running, concat, start, turns, complete, run, end_of}
-use Rattle.exec_model.specs.Groups.{times, fits, place, mix}
-use Rattle.exec_model.specs.Jobs.{Beginnings, plan_at, locks_at, said_nothing, below, run_job}
+use Rattle.exec_model.specs.Groups.{times, AreFull, IsOrder, mix}
+use Rattle.exec_model.specs.Jobs.{Beginnings, plan_at, locks_at, said_nothing, below, Run, run_job}
 use Rattle.exec_model.proofs.Basics.{times-append, times-mem}
-use Rattle.exec_model.proofs.Mixer.{AreFull-mix, times-mix}
 use Rattle.exec_model.proofs.Ready.{start-ready}
 use Rattle.exec_model.proofs.Beyond.{cut, complete_cut, ends_cut}
-use Rattle.key_mixer.specs.Lists.{set_at, lists_of as mixer_lists}
+use Rattle.key_mixer.specs.Lists.{set_at, lists_of}
 use Rattle.exec_core.specs.declared.machine.Slot.{Slot}
 use Rattle.exec_core.specs.declared.machine.Machine.{Machine}
-use Rattle.exec_core.specs.States.{owner_of, progress_of, lists_of, begun, AreMembers}
+use Rattle.exec_core.specs.States.{owner_of, progress_of, begun, AreMembers, AreBegun}
+use Rattle.exec_core.specs.Jobs.{run_in_groups}
+use Rattle.exec_core.proofs.Orders.{order_once, order_groups}
 
 past_end : (sets : List (List Bool)) (j : ℕ) → length sets ≤ j → set_at sets j ≡ no_locks
 past_end [] j le = refl
@@ -39,13 +40,6 @@ same_sets begins segs sets long h = λ k j. at j (nat_lt j (length segs)) refl k
     at j true e = h j (let lt : j < length segs = grind (arith, nat_tests) in lt)
     at j false e = let le : length segs ≤ j = grind (arith, nat_tests) in past_end sets j (omega arith) ∙ sym (no_segment begins segs j le)
 
-small : (c : Bool) → cond c 1 0 ≤ 1
-small true = omega arith
-small false = omega arith
-
-pub single : (begins : Beginnings) (segs : List Seg) (i : ℕ) → times i (concat (mix (locks_at begins segs) (length segs))) ≤ 1
-single begins segs i = let a = times-mix (locks_at begins segs) (length segs) i in let b = small (ltb i (length segs)) in omega arith
-
 -- a machine that has begun all segments, and nothing else
 pub record IsFresh {P : Type 0} (plan : P → Option ℕ → Plan) (begins : Beginnings) (segs : List Seg) (m : Machine P) : Type 0 where
   pub slots : length m.slots.items ≡ length segs
@@ -53,6 +47,16 @@ pub record IsFresh {P : Type 0} (plan : P → Option ℕ → Plan) (begins : Beg
   pub free : (l : ℕ) → owner_of m.owner.items l ≡ 0
   pub steps : m.steps.items ≡ []
   pub redo : m.redo ≡ 0
+
+pub fresh : {P : Type 0} (plan : P → Option ℕ → Plan) (begins : Beginnings) (segs : List Seg) (slots : List (Slot P)) (m : Machine P) → AreBegun plan begins segs slots
+    → m.slots.items ≡ slots → ((l : ℕ) → owner_of m.owner.items l ≡ 0) → m.steps.items ≡ [] → m.redo ≡ 0 → IsFresh plan begins segs m
+fresh {P = P} plan begins segs slots m b same free steps redo = record {
+  slots = ap length same ∙ b.each;
+  programs = λ j lt. ap (λ (xs : List (Slot P)). progress_of plan xs j) same ∙ b.programs j lt;
+  free = free;
+  steps = steps;
+  redo = redo;
+}
 
 past_slots : {P : Type 0} (plan : P → Option ℕ → Plan) (slots : List (Slot P)) (j : ℕ) → length slots ≤ j → progress_of plan slots j ≡ Ended said_nothing
 past_slots plan [] j le = refl
@@ -74,34 +78,32 @@ begun_is plan begins segs m s groups f = λ k. record (start (plan_at begins seg
         let le : length segs ≤ j = grind (arith, nat_tests) in
         past_slots plan m.slots.items j (let s = f.slots in omega arith) ∙ sym (ap (λ b. cond b (Running (plan_at begins segs j)) (Ended said_nothing)) e)
 
-pub record Comes (begins : Beginnings) (segs : List Seg) (s s' : Store) (schedule order steps : List ℕ) (redo : ℕ) (q : ℕ → Progress) : Type 0 where
-  pub steps_are : steps ≡ (run_job begins segs s schedule).steps
-  pub order_is : order ≡ (run_job begins segs s schedule).order
-  pub redo_is : redo ≡ (run_job begins segs s schedule).redo
-  pub store_is : s' ≡ (run_job begins segs s schedule).store
-  pub ends_are : map (λ i. unwrap_or (end_of (q i)) said_nothing) (below (length segs)) ≡ (run_job begins segs s schedule).ends
+-- what a run came to
+pub record Comes (run : Run) (n : ℕ) (s : Store) (order steps : List ℕ) (redo : ℕ) (q : ℕ → Progress) : Type 0 where
+  pub steps_are : steps ≡ run.steps
+  pub order_is : order ≡ run.order
+  pub redo_is : redo ≡ run.redo
+  pub store_is : s ≡ run.store
+  pub ends_are : map (λ i. unwrap_or (end_of (q i)) said_nothing) (below n) ≡ run.ends
 
 pub comes : {P : Type 0} (plan : P → Option ℕ → Plan) (begins : Beginnings) (segs : List Seg) (m m' : Machine P) (s s' : Store) (order : List ℕ) (groups : List (List ℕ)) (schedule : List ℕ)
-    → IsFresh plan begins segs m → groups ≡ mix (locks_at begins segs) (length segs)
+    → IsFresh plan begins segs m → AreFull groups → IsOrder (length segs) (concat groups)
     → ((t : State) → begun plan m' s' order [] t ≡ complete (plan_at begins segs) (turns (plan_at begins segs) (begun plan m s [] groups t) schedule))
-    → Comes begins segs s s' schedule order m'.steps.items m'.redo (progress_of plan m'.slots.items)
-unfolding run_job
-comes plan begins segs m m' s s' order groups schedule f mixed goes =
+    → Comes (run_in_groups begins segs groups s schedule) (length segs) s' order m'.steps.items m'.redo (progress_of plan m'.slots.items)
+comes plan begins segs m m' s s' order groups schedule f full once goes =
     let plans = plan_at begins segs in
     let n = length segs in
-    let G = mix (locks_at begins segs) n in
-    let t0 = start plans G s in
-    let ready = start-ready plans G s (AreFull-mix (locks_at begins segs) n) in
-    let end : begun plan m' s' order [] t0 ≡ cut n (run plans G s schedule) =
-    goes t0 ∙ ap (λ (gs : List (List ℕ)). complete plans (turns plans (begun plan m s [] gs t0) schedule)) mixed
-    ∙ ap (λ (t : State). complete plans (turns plans t schedule)) (begun_is plan begins segs m s G f)
-    ∙ complete_cut plans s (concat G) n (single begins segs) (times-mix (locks_at begins segs) n) t0 schedule ready in
+    let t0 = start plans groups s in
+    let end : begun plan m' s' order [] t0 ≡ cut n (run plans groups s schedule) =
+    goes t0
+    ∙ ap (λ (t : State). complete plans (turns plans t schedule)) (begun_is plan begins segs m s groups f)
+    ∙ complete_cut plans s (concat groups) n (order_once n (concat groups) once) once t0 schedule (start-ready plans groups s full) in
     record {
       steps_are = ap (λ (t : State). t.steps) end;
       order_is = ap (λ (t : State). t.past) end;
       redo_is = ap (λ (t : State). t.redo) end;
       store_is = ap (λ (t : State). t.store) end;
-      ends_are = ap (λ (t : State). map (λ i. unwrap_or (end_of (t.progress i)) said_nothing) (below n)) end ∙ ends_cut n n (run plans G s schedule).progress (omega arith);
+      ends_are = ap (λ (t : State). map (λ i. unwrap_or (end_of (t.progress i)) said_nothing) (below n)) end ∙ ends_cut n n (run plans groups s schedule).progress (omega arith);
     }
 
 -- THE GROUPS
@@ -126,34 +128,38 @@ are_members n (g ∷ gs) few h = (
     in_first : (j : ℕ) → mem j g ≡ true → j < n
     in_first j m = h j (let a = times-append j g (concat gs) in let b = times-mem j g m in omega arith)
 
-length_place : (sets : ℕ → List Bool) (i : ℕ) (gs : List (List ℕ)) → length (place sets i gs) ≤ length gs + 1
-length_place sets i [] = omega arith
-length_place sets i (g ∷ gs) = at (fits sets (sets i) g) (length_place sets i gs)
-  where
-    at : (c : Bool) → length (place sets i gs) ≤ length gs + 1 → length (cond c ((g ++ i ∷ []) ∷ gs) (g ∷ place sets i gs)) ≤ length (g ∷ gs) + 1
-    at true h = omega arith
-    at false h = omega arith
-
-pub length_mix : (sets : ℕ → List Bool) (n : ℕ) → length (mix sets n) ≤ n
-length_mix sets zero = omega arith
-length_mix sets (suc n) = let a = length_place sets n (mix sets n) in let b = length_mix sets n in omega arith
-
 below_n : (j n : ℕ) → 0 < cond (nat_lt j n) 1 0 → j < n
 below_n j n h = grind (arith, nat_tests)
 
--- what the machine asks of the mixer's groups
-pub mixed_members : (begins : Beginnings) (segs : List Seg) → length segs ≤ 32 → AreMembers (length segs) (mix (locks_at begins segs) (length segs))
-mixed_members begins segs few = are_members (length segs) _ (omega arith) (λ j m. below_n j (length segs) (let a = times-mix (locks_at begins segs) (length segs) j in omega arith))
-
-pub mixed_runs : {P : Type 0} (plan : P → Option ℕ → Plan) (begins : Beginnings) (segs : List Seg) (m : Machine P) → IsFresh plan begins segs m → (j : ℕ) → mem j (concat (mix (locks_at begins segs) (length segs))) ≡ true → is_running (progress_of plan m.slots.items j) ≡ true
-mixed_runs plan begins segs m f j h =
-    ap is_running (f.programs j (below_n j (length segs) (let a = times-mix (locks_at begins segs) (length segs) j in let b = times-mem j (concat (mix (locks_at begins segs) (length segs))) h in omega arith)))
-
-pub length_lists : (groups : List (Vec ℕ Global)) → length (lists_of groups) ≡ length groups
+length_lists : (groups : List (Vec ℕ Global)) → length (lists_of groups) ≡ length groups
 length_lists [] = refl
 length_lists (g ∷ gs) = let h = length_lists gs in omega arith
 
--- the two ways to see the groups as lists
-pub same_lists : (groups : List (Vec ℕ Global)) → lists_of groups ≡ mixer_lists groups
-same_lists [] = refl
-same_lists (g ∷ gs) = ap (λ r. g.items ∷ r) (same_lists gs)
+-- what running these groups asks of a machine
+pub record AreReady {P : Type 0} (plan : P → Option ℕ → Plan) (m : Machine P) (groups : List (Vec ℕ Global)) : Type 0 where
+  pub members : AreMembers (length m.slots.items) (lists_of groups)
+  pub once : (j : ℕ) → times j (concat (lists_of groups)) ≤ 1
+  pub redo : m.redo + 2 * length groups < 255
+  pub runs : (j : ℕ) → mem j (concat (lists_of groups)) ≡ true → is_running (progress_of plan m.slots.items j) ≡ true
+
+pub are_ready : {P : Type 0} (plan : P → Option ℕ → Plan) (begins : Beginnings) (segs : List Seg) (m : Machine P) (groups : List (Vec ℕ Global))
+    → length segs ≤ 32 → IsFresh plan begins segs m → AreFull (lists_of groups) → IsOrder (length segs) (concat (lists_of groups)) → AreReady plan m groups
+are_ready plan begins segs m groups few f full order =
+    let n = length segs in
+    let gs = lists_of groups in
+    record {
+      members = are_members (length m.slots.items) gs (let e = f.slots in omega arith) (λ j h. let lt = below_n j n (let e = order j in omega arith) in let e = f.slots in omega arith);
+      once = order_once n (concat gs) order;
+      redo = (let a = length_lists groups in let b = order_groups n gs full order in let d = f.redo in omega arith);
+      runs = λ j h. ap is_running (f.programs j (below_n j n (let a = order j in let b = times-mem j (concat gs) h in omega arith)));
+    }
+
+pub mixed_groups : (begins : Beginnings) (segs : List Seg) (sets : List (List Bool)) (groups : List (Vec ℕ Global))
+    → length sets ≡ length segs → ((j : ℕ) → j < length segs → set_at sets j ≡ locks_at begins segs j)
+    → lists_of groups ≡ mix (set_at sets) (length sets) → lists_of groups ≡ mix (locks_at begins segs) (length segs)
+mixed_groups begins segs sets groups long same h =
+    h ∙ ap (λ (f : ℕ → List Bool). mix f (length sets)) (same_sets begins segs sets long same) ∙ ap (mix (locks_at begins segs)) long
+
+pub mixed_run : (begins : Beginnings) (segs : List Seg) (s : Store) (schedule : List ℕ) → run_in_groups begins segs (mix (locks_at begins segs) (length segs)) s schedule ≡ run_job begins segs s schedule
+unfolding run_job
+mixed_run begins segs s schedule = refl

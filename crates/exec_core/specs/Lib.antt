@@ -1,3 +1,5 @@
 pub mod States
 pub mod Jobs
 pub mod Batches
+pub mod Counts
+pub mod Given

@@ -1,19 +1,19 @@
 -- The machine's vectors as the machine's state.
-use Rattle.std.specs.Prelude.{◌≡◌, ℕ, ◌+◌, ◌==◌, ◌||◌, Bool, true, false, List, [], ◌∷◌, Option, if◌then◌else◌, slice_index_or}
+use Rattle.std.specs.Prelude.{◌≡◌, ℕ, ◌+◌, ◌==◌, ◌||◌, Bool, true, false, List, [], ◌∷◌, length, Option, if◌then◌else◌, slice_index_or}
 use Rattle.std.specs.Prelude.{◌<◌}
 use Rattle.std.specs.List.{All}
-use Rattle.std.specs.declared.vec.Vec.{Vec}
-use Rattle.std.specs.declared.alloc.Global.{Global}
 use Rattle.aeg_base.specs.declared.names.Key.{Key}
 use Rattle.svc_api.specs.declared.action.Ending.TheVariants.{Reply}
 use Rattle.svc_api.specs.Plan.{Plan, Reads, Writes, Ends}
 use Rattle.aeg_base.specs.Store.{Store, value_at, written}
 use Rattle.aeg_base.specs.Locks.{lock_number}
 use Rattle.exec_model.specs.Machine.{State, Progress, Running, Ended, update, touch, leave, next}
+use Rattle.exec_model.specs.declared.job.Seg.{Seg}
+use Rattle.exec_model.specs.Jobs.{Beginnings, plan_at}
 use Rattle.exec_core.specs.declared.machine.Slot.{Slot}
 use Rattle.exec_core.specs.declared.machine.Machine.{Machine}
-use Rattle.exec_core.specs.declared.machine.Went.{Went}
-use Rattle.exec_core.specs.declared.machine.Went.TheVariants.{Moved, Left, Busy, Skipped}
+use Rattle.exec_core.specs.declared.steps.Went.{Went}
+use Rattle.exec_core.specs.declared.steps.Went.TheVariants.{Moved, Left, Busy, Skipped}
 
 abbrev pub slot_progress : {P : Type 0} → (P → Option ℕ → Plan) → Slot P → Progress
 slot_progress plan (Slot.Running p last) = Running (plan p last)
@@ -80,11 +80,6 @@ left_of left slots i = slot_left left (slice_index_or slots i (Slot.Ended (Reply
 abbrev pub going : {P : Type 0} → (P → Option ℕ → Plan) → Machine P → Store → Store → Bool → State → State
 going plan m s b over t = if over then next (whole_of plan m s b t) else whole_of plan m s b t
 
--- the groups as lists of numbers
-abbrev pub lists_of : List (Vec ℕ Global) → List (List ℕ)
-lists_of [] = []
-lists_of (g ∷ gs) = g.items ∷ lists_of gs
-
 -- each member has a slot, and is small
 abbrev pub AreMembers : ℕ → List (List ℕ) → Type 0
 AreMembers n [] = Unit {0}
@@ -104,3 +99,8 @@ begun plan m s order groups t = record t {
   redo = m.redo;
   steps = m.steps.items;
 }
+
+-- the slots of segments that are about to begin
+pub record AreBegun {P : Type 0} (plan : P → Option ℕ → Plan) (begins : Beginnings) (segs : List Seg) (slots : List (Slot P)) : Type 0 where
+  pub each : length slots ≡ length segs
+  pub programs : (j : ℕ) → j < length segs → progress_of plan slots j ≡ Running (plan_at begins segs j)

@@ -1,7 +1,7 @@
 // A store in the middle of a batch, with what it takes to undo.
-ghost use Rattle.std.specs.Prelude.{◌≡◌, ◌≤◌, OnOk, IfOk};
+ghost use Rattle.std.specs.Prelude.{◌≡◌, ◌≤◌, IfOk};
 ghost use Rattle.kv_store.specs.Stores.{unwound, StaysWithin};
-ghost use Rattle.kv_store.specs.Changes.{changes};
+ghost use Rattle.aeg_base.specs.Changes.{changes};
 
 use crate::machine::Logged;
 use aeg_base::{Cells, Key, Memory};

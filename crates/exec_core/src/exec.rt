@@ -1,7 +1,10 @@
 // Executors.
 ghost use Rattle.std.specs.Prelude.{◌≡◌, ◌≤◌, ℕ, List, Option, Some, IfOk, OnOk, OnErr, length};
 ghost use Rattle.std.specs.List.{All};
-ghost use Rattle.exec_core.specs.Jobs.{BeginsWell, IsRan, UsesGiven, Noted, one_more};
+ghost use Rattle.exec_model.specs.Jobs.{run_job};
+ghost use Rattle.exec_core.specs.Counts.{one_more};
+ghost use Rattle.exec_core.specs.Jobs.{BeginsWell, IsRan, UsesGiven};
+ghost use Rattle.exec_core.specs.declared.noted.Noted.{Noted};
 
 use crate::Ran;
 use aeg_base::Memory;
@@ -24,7 +27,7 @@ pub trait Exec<S: Service> {
     fn run(&mut self, svc: &S, job: &Job, store: &mut Store) -> Result<Ran, Memory>
         requires begins { All (BeginsWell (S.beginning svc.now)) job.now.segs }
         requires few { length job.now.segs ≤ 32 }
-        ensures ran { IfOk result (λ ran. IsRan (S.beginning svc.now) job.now.segs store.old.map store.new.map ran.steps ran) }
+        ensures ran { IfOk result (λ ran. IsRan store.old.map store.new.map (run_job (S.beginning svc.now) job.now.segs store.old.map ran.steps) ran) }
         ensures by_given { IfOk result (λ ran. UsesGiven (S.beginning svc.now) job.now.segs store.old.map (given self.old) ran.steps) }
         ensures room { IfOk result (λ ran. ran.undo.top ≤ store.new.room) }
         ensures unchanged { OnErr result (store.new.map ≡ store.old.map) }

@@ -13,3 +13,12 @@ pub struct Ran {
     pub outcome: Outcome,
     pub undo: UndoList,
 }
+
+/// What a run made, while its puts are still a batch's.
+#[derive(Debug, Drop)]
+pub struct Done {
+    pub steps: Seq<u8>,
+    pub order: Seq<u8>,
+    pub redo: u8,
+    pub outcome: Outcome,
+}

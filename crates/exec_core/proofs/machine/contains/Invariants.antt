@@ -1,6 +1,0 @@
-use Rattle.std.proofs.Common.{◌≡◌, drop}
-use Rattle.exec_model.specs.Machine.{mem}
-use Rattle.exec_core.proofs.machine.contains.Given as goal
-
-abbrev pub invariant-loop-x : goal.invariant-loop-x
-invariant-loop-x l = mem l.i (drop l.x-index l.xs) ≡ mem l.i l.xs
