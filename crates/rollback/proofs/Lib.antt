@@ -1,0 +1,4 @@
+pub mod Writes
+pub mod Commits
+pub mod Bounded
+pub mod Fits

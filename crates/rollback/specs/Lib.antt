@@ -1,0 +1,4 @@
+pub mod Settled
+pub mod Runs
+pub mod Specs
+pub mod Views
