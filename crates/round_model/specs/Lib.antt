@@ -5,3 +5,4 @@ pub mod After
 pub mod Verdicts
 pub mod Answers
 pub mod Copies
+pub mod Spelled

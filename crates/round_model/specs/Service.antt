@@ -10,6 +10,7 @@ use Rattle.svc_api.specs.declared.outcome.Outcome.{Outcome}
 use Rattle.server_model.specs.Server.{Meaning}
 use Rattle.exec_model.specs.declared.job.Seg.{Seg}
 use Rattle.exec_model.specs.Jobs.{Beginnings}
+pub use Rattle.exec_model.specs.Groups.{times}
 use Rattle.exec_model.specs.Outcomes as changes
 use Rattle.round_model.specs.Lists.{is_some, tabulate}
 
@@ -61,11 +62,6 @@ pub record Finish : Type 0 where
 
 abbrev pub finish : {B : Type 0} → Service B → List Seg → List ℕ → Store → Finish
 finish m J order s = record { store = serial m J order s; ends = tabulate (length J) (serial_end m J order s) }
-
--- how often i stands in the list
-abbrev pub times : ℕ → List ℕ → ℕ
-times i [] = 0
-times i (j ∷ js) = (if j == i then 1 else 0) + times i js
 
 abbrev pub all_below : ℕ → List ℕ → Bool
 all_below n [] = true

@@ -1,0 +1,267 @@
+-- What a script comes to: the events that its lines make, one after another.
+use Rattle.std.specs.Prelude.{◌≡◌, ℕ, ◌+◌, ◌*◌, Bool, true, false, List, [], ◌∷◌, ◌++◌, drop, length, map, replicate, Option, Some, None, if◌then◌else◌}
+use Rattle.std.specs.List.{flat_map}
+use Rattle.aeg_base.specs.declared.names.Tier.{Tier}
+use Rattle.aeg_base.specs.declared.names.Tier.TheVariants.{Mid, Inv, Pay}
+use Rattle.aeg_base.specs.declared.names.NodeId.{NodeId}
+use Rattle.aeg_base.specs.declared.names.End.{End}
+use Rattle.aeg_base.specs.declared.names.End.TheVariants.{Node, Client}
+use Rattle.log_model.specs.Log.{nobody}
+use Rattle.log_model.specs.World.{Mode}
+use Rattle.log_model.specs.World.Mode.{Up, Down, Gone}
+use Rattle.frames.specs.declared.turn.Turn.{Turn}
+use Rattle.frames.specs.declared.turn.Turn.TheVariants.{Did, Ran, Dropped, Idle as Idles}
+use Rattle.round_model.specs.Lists.{each}
+use Rattle.tier_model.specs.Moves.{Packet, Move}
+use Rattle.tier_model.specs.Mid as mid
+use Rattle.tier_model.specs.MidRows as mids
+use Rattle.tier_model.specs.BackRows as backs
+use Rattle.run_model.specs.declared.line.Event.{Event}
+use Rattle.run_model.specs.declared.line.Event.TheVariants as lines
+use Rattle.run_model.specs.declared.line.CutLine.{CutLine}
+use Rattle.run_model.specs.declared.line.CutLine.TheVariants as cuts
+use Rattle.run_model.specs.declared.trace.Fared.{Fared}
+use Rattle.run_model.specs.declared.trace.Fared.TheVariants.{Fine, Cut}
+use Rattle.run_model.specs.declared.trace.Found.TheVariants.{Reads}
+use Rattle.run_model.specs.declared.trace.TraceEvent.{TraceEvent}
+use Rattle.run_model.specs.declared.trace.TraceEvent.TheVariants.{Submit, Deliver, Short, Lead, Offer, Work, Retry, Crash, Restart, Wipe}
+use Rattle.run_model.specs.Script.{Numbered, Script}
+use Rattle.run_model.specs.World.{Config, World, start}
+use Rattle.run_model.specs.Runs.{run}
+use Rattle.run_model.specs.Text.{after}
+
+-- WHERE A SCRIPT STANDS
+
+-- a turn of `calm` first delivers what is on its way, and then goes through the commands; whether one of them did something
+pub data Phase : Type 0 where
+  Flows : Phase
+  Asks : (next : ℕ) → (did : Bool) → Phase
+
+-- the packet that `flow` delivers next, and where in a turn of `calm` it stands
+pub record Place : Type 0 where
+  pub cursor : ℕ
+  pub phase : Phase
+
+abbrev pub first_place : Place
+first_place = record { cursor = 0; phase = Flows }
+
+-- FLOW
+
+abbrev pub is_up : {S : Type 0} → Mode S → Bool
+is_up (Up s) = true
+is_up Down = false
+is_up Gone = false
+
+abbrev pub is_node_up : {B : Type 0} → World B → Tier → ℕ → Bool
+is_node_up w Mid x = is_up (w.mids x).mode
+is_node_up w Inv x = is_up (w.backs Inv x).mode
+is_node_up w Pay x = is_up (w.backs Pay x).mode
+
+-- a client is always there
+abbrev pub is_there : {B : Type 0} → World B → End → Bool
+is_there w (Node n) = is_node_up w n.tier n.index
+is_there w (Client y) = true
+
+-- the number of the first of these packets, counted from k, that goes to somebody who is there
+abbrev pub first_to : {B : Type 0} → World B → ℕ → List Packet → Option ℕ
+first_to w k [] = None
+first_to w k (packet ∷ packets) = if is_there w packet.to then Some k else first_to w (k + 1) packets
+
+-- the next packet of `flow`
+abbrev pub next_packet : {B : Type 0} → World B → ℕ → Option ℕ
+next_packet w cursor = first_to w cursor (drop cursor w.soup)
+
+-- behind all packets
+abbrev pub at_end : {B : Type 0} → World B → Place
+at_end w = record { cursor = length w.soup; phase = Flows }
+
+-- TURNS
+
+-- What a line does now: the event that it makes, or none where nothing is left to do, and where the script stands then.
+pub record Turned : Type 0 where
+  pub event : Option TraceEvent
+  pub place : Place
+
+abbrev pub makes : TraceEvent → Place → Turned
+makes event place = record { event = Some event; place = place }
+
+abbrev pub rests : Place → Turned
+rests place = record { event = None; place = place }
+
+-- the line is one event, and a turn of `calm` is given up
+abbrev pub one : Place → TraceEvent → Turned
+one p event = makes event (record { cursor = p.cursor; phase = Flows })
+
+abbrev pub flow_by : {B : Type 0} → World B → Option ℕ → Turned
+flow_by w None = rests (at_end w)
+flow_by w (Some k) = makes (Deliver k Fine) (record { cursor = k + 1; phase = Flows })
+
+abbrev pub flow_turn : {B : Type 0} → World B → Place → Turned
+flow_turn w p = flow_by w (next_packet w p.cursor)
+
+-- THE COMMANDS OF CALM
+
+abbrev pub nodes_of : ℕ → Tier → List NodeId
+nodes_of u t = each (2 * u + 1) nobody (λ x. record { tier = t; index = x })
+
+abbrev pub all_nodes : ℕ → List NodeId
+all_nodes u = nodes_of u Mid ++ (nodes_of u Inv ++ nodes_of u Pay)
+
+-- an offer at each node, and then a work at each middle node
+abbrev pub commands : ℕ → List TraceEvent
+commands u = map (λ n. Offer n Fine) (all_nodes u) ++ map (λ n. Work n []) (nodes_of u Mid)
+
+abbrev pub is_idle : Turn → Bool
+is_idle (Idles cause) = true
+is_idle Did = false
+is_idle (Ran note) = false
+is_idle (Dropped refusal) = false
+
+abbrev pub acts : {S : Type 0} → (S → Move S) → Mode S → Bool
+acts move (Up s) = if is_idle (move s).answer then false else true
+acts move Down = false
+acts move Gone = false
+
+abbrev pub offer_acts : {B : Type 0} → Config B → World B → Tier → ℕ → Bool
+offer_acts c w Mid x = acts (λ s. mids.offers c.u c.service x s) (w.mids x).mode
+offer_acts c w Inv x = acts (λ s. backs.offers c.u c.service Inv x s) (w.backs Inv x).mode
+offer_acts c w Pay x = acts (λ s. backs.offers c.u c.service Pay x s) (w.backs Pay x).mode
+
+-- the command is one at a node that is up, and isn't idle
+abbrev pub command_acts : {B : Type 0} → Config B → World B → TraceEvent → Bool
+command_acts c w (Offer n fared) = offer_acts c w n.tier n.index
+command_acts c w (Work n schedule) = acts (λ s. mids.work c.u c.service n.index s schedule) (w.mids n.index).mode
+command_acts c w event = false
+
+-- the steps that a work by this schedule prints, none where it runs no job
+abbrev pub steps_of : Option mids.Running → List ℕ
+steps_of None = []
+steps_of (Some r) = r.note.steps
+
+abbrev pub steps_by : {B : Type 0} → Config B → Mode mid.Mid → ℕ → List ℕ → List ℕ
+steps_by c (Up s) x schedule = steps_of (mids.work_run c.u c.service x s schedule)
+steps_by c Down x schedule = []
+steps_by c Gone x schedule = []
+
+-- a work is noted with the steps that it makes
+abbrev pub works : {B : Type 0} → Config B → World B → NodeId → List ℕ → TraceEvent
+works c w n schedule = Work n (steps_by c (w.mids n.index).mode n.index schedule)
+
+abbrev pub as_noted : {B : Type 0} → Config B → World B → TraceEvent → TraceEvent
+as_noted c w (Work n schedule) = works c w n schedule
+as_noted c w event = event
+
+-- the first of these commands that acts, and the number of the one behind it
+abbrev pub first_acting : {B : Type 0} → Config B → World B → ℕ → List TraceEvent → Option (TraceEvent × ℕ)
+first_acting c w k [] = None
+first_acting c w k (event ∷ events) = if command_acts c w event then Some (as_noted c w event, k + 1) else first_acting c w (k + 1) events
+
+abbrev pub commands_from : {B : Type 0} → Config B → World B → ℕ → Option (TraceEvent × ℕ)
+commands_from c w k = first_acting c w k (drop k (commands c.u))
+
+-- the command, or what comes where none is left
+abbrev pub asks_by : Place → Turned → Option (TraceEvent × ℕ) → Turned
+asks_by p otherwise None = otherwise
+asks_by p otherwise (Some found) = makes found.0 (record { cursor = p.cursor; phase = Asks found.1 true })
+
+-- once all packets are delivered the commands come, from the first on
+abbrev pub calm_from : {B : Type 0} → Config B → World B → Place → Option ℕ → Turned
+calm_from c w p (Some k) = makes (Deliver k Fine) (record { cursor = k + 1; phase = Flows })
+calm_from c w p None = asks_by (at_end w) (rests (at_end w)) (commands_from c w 0)
+
+abbrev pub calm_flows : {B : Type 0} → Config B → World B → Place → Turned
+calm_flows c w p = calm_from c w p (next_packet w p.cursor)
+
+-- a turn in which a command did something is followed by another
+abbrev pub calm_by : {B : Type 0} → Config B → World B → Place → Phase → Turned
+calm_by c w p Flows = calm_flows c w p
+calm_by c w p (Asks k did) = asks_by p (if did then calm_flows c w p else rests (at_end w)) (commands_from c w k)
+
+-- LINES
+
+abbrev pub item_steps : ℕ × ℕ → List ℕ
+item_steps item = replicate item.1 item.0
+
+-- no schedule is the empty one
+abbrev pub schedule_of : Option (List (ℕ × ℕ)) → List ℕ
+schedule_of None = []
+schedule_of (Some items) = flat_map item_steps items
+
+abbrev pub cut_event : Fared → CutLine → TraceEvent
+cut_event fared (cuts.Deliver k) = Deliver k fared
+cut_event fared (cuts.Lead n) = Lead n fared
+cut_event fared (cuts.Offer n) = Offer n fared
+
+abbrev pub turn : {B : Type 0} → Config B → World B → Place → Event → Turned
+turn c w p (lines.Submit y body) = one p (Submit y body)
+turn c w p (lines.Deliver k) = one p (Deliver k Fine)
+turn c w p (lines.Short k bytes) = one p (Short k bytes Fine)
+turn c w p (lines.Cut nth keep line) = one p (cut_event (Cut nth keep) line)
+turn c w p (lines.Lead n) = one p (Lead n Fine)
+turn c w p (lines.Offer n) = one p (Offer n Fine)
+turn c w p (lines.Retry end) = one p (Retry end)
+turn c w p (lines.Work n by) = one p (works c w n (schedule_of by))
+turn c w p (lines.Crash n) = one p (Crash n)
+turn c w p (lines.Restart n) = one p (Restart n (Reads 0))
+turn c w p (lines.Wipe n) = one p (Wipe n)
+turn c w p lines.Flow = flow_turn w p
+turn c w p lines.Calm = calm_by c w p p.phase
+turn c w p lines.Lose = rests (at_end w)
+
+-- flow and calm go on until nothing is left to do
+abbrev pub goes_on : Event → Bool
+goes_on lines.Flow = true
+goes_on lines.Calm = true
+goes_on event = false
+
+-- RUNS
+
+-- a run of a script: the world, where the script stands, and the lines that are left
+pub record Standing (B : Type 0) : Type 0 where
+  pub world : World B
+  pub place : Place
+  pub left : List Numbered
+
+-- the next event, and where the run stands before it
+pub record Due : Type 0 where
+  pub event : TraceEvent
+  pub place : Place
+  pub left : List Numbered
+
+abbrev pub left_of : Numbered → List Numbered → List Numbered
+left_of line rest = if goes_on line.1 then line ∷ rest else rest
+
+abbrev pub due_by : Option TraceEvent → Place → Numbered → List Numbered → Option Due → Option Due
+due_by None place line rest otherwise = otherwise
+due_by (Some event) place line rest otherwise = Some (record { event = event; place = place; left = left_of line rest })
+
+-- lines with nothing left to do are passed over
+abbrev pub due : {B : Type 0} → Config B → World B → Place → List Numbered → Option Due
+due c w p [] = None
+due c w p (line ∷ rest) = due_by (turn c w p line.1).event (turn c w p line.1).place line rest (due c w (turn c w p line.1).place rest)
+
+abbrev pub next : {B : Type 0} → Config B → Standing B → Option Due
+next c s = due c s.world s.place s.left
+
+abbrev pub stands_after : {B : Type 0} → Config B → World B → Due → Standing B
+stands_after c w d = record { world = after c w d.event; place = d.place; left = d.left }
+
+-- the events are the next ones, and lead from one standing to the other
+abbrev pub Goes : {B : Type 0} → Config B → Standing B → List TraceEvent → Standing B → Type 0
+Goes c s [] t = s ≡ t
+Goes c s (e ∷ es) t = (d : Due) × (next c s ≡ Some d) × (d.event ≡ e) × Goes c (stands_after c s.world d) es t
+
+-- every node restarts on its blank disk
+abbrev pub starts : ℕ → List TraceEvent
+starts u = map (λ n. Restart n (Reads 0)) (all_nodes u)
+
+abbrev pub first_standing : {B : Type 0} → Config B → Script → Standing B
+first_standing c script = record { world = run c (starts c.u) start; place = first_place; left = script.events }
+
+-- the run has come so far
+abbrev pub Reaches : {B : Type 0} → Config B → Script → List TraceEvent → Standing B → Type 0
+Reaches c script es t = (front : List TraceEvent) × (es ≡ starts c.u ++ front) × Goes c (first_standing c script) front t
+
+-- the events are all that the script comes to
+abbrev pub Resolves : {B : Type 0} → Config B → Script → List TraceEvent → Type 0
+Resolves c script es = (t : Standing _) × Reaches c script es t × (next c t ≡ None)
