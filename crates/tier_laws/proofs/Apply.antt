@@ -29,7 +29,7 @@ use Rattle.tier_laws.proofs.Legal.{within_get}
 use Rattle.tier_laws.proofs.Past.{Known, MidOk, MidOther, SentOk, Past, VerdictBy, VerdictOk}
 use Rattle.tier_laws.proofs.Rounds.{ToldOne}
 use Rattle.tier_laws.proofs.Stable.{MoreAnswers, MoreLog, RoundParts, after-step, batch-more, job-more, round_parts, then_parts, verdict-more, verdict_in-some}
-use Rattle.tier_laws.proofs.Changes.{written-changes}
+use Rattle.aeg_base.proofs.ChangeLaws.{written-changes}
 use Rattle.tier_laws.proofs.Ranges.{RoundIn, round_in}
 use Rattle.svc_api.specs.declared.outcome.Outcome.{Outcome}
 use Rattle.exec_model.specs.Outcomes as changes

@@ -1,5 +1,6 @@
 -- What a backend node does in an event is right by itself.
-use Rattle.std.proofs.Common.{◌≡◌, ℕ, ◌+◌, ◌*◌, ◌<◌, ◌≤◌, false, List, [], ◌∷◌, refl, sym, ap, ◌∙◌, subst, inl, inr, Option, Some, None}
+pub use Rattle.tier_laws.proofs.Invariant.BackendNodes.{Tied, BackOther}
+use Rattle.std.proofs.Common.{◌≡◌, ℕ, ◌+◌, ◌*◌, ◌<◌, false, List, [], ◌∷◌, refl, sym, ap, ◌∙◌, subst, inl, inr, Option, Some, None}
 use Rattle.std.specs.Prelude.{slice_get, ◌⊎◌, nat_lt, nat_le, take}
 use Rattle.std.proofs.lemmas.Bool.{cond_both, cases_eq}
 use Rattle.aeg_base.specs.declared.names.Ballot.{Ballot}
@@ -14,11 +15,10 @@ use Rattle.log_model.specs.declared.fact.Fact.{Fact as LogFact}
 use Rattle.log_values.specs.declared.any_value.AnyValue.{AnyValue}
 use Rattle.log_values.specs.declared.any_value.AnyValue.TheVariants.{Back as OfBack}
 use Rattle.log_values.specs.declared.back_value.BackValue.TheVariants.{Call as Called, Settle as Settled}
-use Rattle.round_model.specs.Answers.{Code, code_of}
+use Rattle.round_model.specs.Answers.{code_of}
 use Rattle.round_model.specs.Copies.{floor_at, Copy, copy_of}
 use Rattle.round_model.specs.Lists.{put_at, is_some}
-use Rattle.round_model.specs.Service.{Service}
-use Rattle.run_model.specs.Histories.{back_run, floor_of}
+use Rattle.run_model.specs.Histories.{back_run}
 use Rattle.run_model.specs.World.{Config}
 use Rattle.server_model.specs.Server.{same_tier}
 use Rattle.tier_laws.proofs.Logs.{Complete}
@@ -38,20 +38,6 @@ use Rattle.tier_model.specs.BackRows.{copied, notes_copy, call_as, told_floor, o
 use Rattle.tier_model.specs.Moves.{Move, Packet, log_facts, idles, becomes}
 
 -- THE STATE BESIDE THE LOG
-
--- the backend's state, its kept codes and its floor are those of what is learned
-pub record Tied {B : Type 0} (m : Service B) (t : Tier) (vs : List AnyValue) (σ : Back B) : Type 0 where
-  pub state : σ.state ≡ (back_run m t vs).state
-  pub codes : (n code : ℕ) → (back_run m t vs).code n ≡ Some code → (n < σ.floor) ⊎ (code_of σ.kept t n ≡ Some code)
-  pub kept : (n code : ℕ) → code_of σ.kept t n ≡ Some code → (back_run m t vs).code n ≡ Some code
-  pub floor : (n : ℕ) → 0 < n → n < σ.floor → (code : ℕ) × ((back_run m t vs).code n ≡ Some code)
-  pub greatest : σ.floor ≡ floor_of vs
-  pub above : (n code : ℕ) → code_of σ.kept t n ≡ Some code → σ.floor ≤ n
-
-pub record BackOther {B : Type 0} (c : Config B) (P : Past B) (t : Tier) (σ : Back B) : Type 0 where
-  pub copies : (i : ℕ) (k : Copy) → slice_get σ.copies i ≡ Some k → P.server.calls t k.num ≡ Some k.text
-  pub floors : (y : ℕ) → FloorOk c P t (floor_at σ.floors y)
-  pub kept : (i : ℕ) (k : Code) → slice_get σ.kept i ≡ Some k → P.server.served t k.num ≡ Some k.code
 
 pub back_other-more : {B : Type 0} (c : Config B) (P Q : Past B) (t : Tier) (σ : Back B) → Grows P Q → BackOther c P t σ → BackOther c Q t σ
 back_other-more c P Q t σ g k = record {

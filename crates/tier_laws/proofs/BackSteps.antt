@@ -122,6 +122,7 @@ back_turned {B} c w t x σ v few lx i up ok = record {
     };
   });
   before = subst (λ z. LogPart c.u i.h z w.log (MidOk c (past c w i.codes))) (sym (same_mid w.soup v.sends ok.no_mid)) i.core.mid_log;
+  gone_codes = λ y g. refl;
   near = back_near c w t x node v.sends i.done ok.no_mid ok.no_back (subst (λ z. Nearly c.u z (w.logs t)) (sym soup_is) (turn_nearly c.u (i.k t) (back_soup t w.soup) (w.logs t) (BackOk c P t) x ok.turn few (i.core.back_log t) (i.done.back t) ok.turn_ok turned.history));
 }
   where
@@ -164,6 +165,7 @@ back_quiet {B} c w t x node i k = record {
     mode = λ l. subst (λ z. BackMode c (past c w i.codes) t (i.k t) z x node node.mode) (sym (same_back t w.soup [] (back_nil t))) (k l);
   });
   before = subst (λ z. LogPart c.u i.h z w.log (MidOk c (past c w i.codes))) (sym (same_mid w.soup [] refl)) i.core.mid_log;
+  gone_codes = λ y g. refl;
   near = back_near c w t x node [] i.done refl (λ v e. back_nil v) (subst (λ z. Nearly c.u z (w.logs t)) (sym (same_back t w.soup [] (back_nil t))) (nearly c.u (back_soup t w.soup) (w.logs t) (i.done.back t)));
 }
 
@@ -186,6 +188,7 @@ back_written {B} c w t x node i turn ok good mode = record {
     mode = λ l. subst (λ z. BackMode c (past c w i.codes) t g z x node node.mode) (sym (same_back t w.soup [] (back_nil t))) (mode part.history);
   });
   before = subst (λ z. LogPart c.u i.h z w.log (MidOk c (past c w i.codes))) (sym (same_mid w.soup [] refl)) i.core.mid_log;
+  gone_codes = λ y g. refl;
   near = back_near c w t x node [] i.done refl (λ v e. back_nil v) (subst (λ z. Nearly c.u z (w.logs t)) (sym (same_back t w.soup [] (back_nil t))) (nearly c.u (back_soup t w.soup) (w.logs t) (i.done.back t)));
 }
   where

@@ -43,6 +43,13 @@ new_good {B} c P w p v i l e =
     let f : slice_get one.log p ≡ Some v = ap (λ z. slice_get z p) (sym (back_log_same one Inv (chosen_among c.u (back_soup Inv one.soup) (length (one.logs Inv)) (back_soup Inv one.soup)))) ∙ ap (λ z. slice_get z p) (sym (back_log_same two Pay (chosen_among c.u (back_soup Pay two.soup) (length (two.logs Pay)) (back_soup Pay two.soup)))) ∙ e in
     meets_good c.u i.h (mid_soup w.soup) w.log (MidOk c P) p v i.before (new_value c w (chosen_among c.u (mid_soup w.soup) (length w.log) (mid_soup w.soup)) p v refl l f)
 
+-- what the verdict rests on
+pub verdict_before : {B : Type 0} (c : Config B) (es : List TraceEvent) (e : TraceEvent) (r : ℕ) (v : Verdict) → c.u < 128 → (i : WorldOk c (world c es)) → length (world c es).log ≤ 2 * r + 1 → slice_get (world c (es ++ e ∷ [])).log (2 * r + 1) ≡ Some (OfMid (Decided v)) → VerdictOk c (past c (world c es) i.codes) r v
+verdict_before {B} c es e r v few i l f =
+    let w : World B = world c es in
+    at_round c (past c w i.codes) r v (new_good c (past c w i.codes) (happens c w e) (2 * r + 1) (OfMid (Decided v)) (happens_ok c w e few i)
+    (subst (λ z. length z ≤ 2 * r + 1) (sym (happens_keeps c w e).log) l) (ap (λ (z : World B). slice_get z.log (2 * r + 1)) (sym (run-append c es (e ∷ []) start)) ∙ f))
+
 pub used_before : {B : Type 0} (c : Config B) (es : List TraceEvent) (e : TraceEvent) (r : ℕ) (v : Verdict) → c.u < 128 → Laws c.service → length (world c es).log ≤ 2 * r + 1 → slice_get (world c (es ++ e ∷ [])).log (2 * r + 1) ≡ Some (OfMid (Decided v)) → FewGone c (world c es) → UsedBefore c (world c es) r
 used_before {B} c es e r v few laws l f gone = record { made = k.made; is_round = subst (λ A. round c.service c.depth w.log A r ≡ Some k.made) (sym (served_same c w i.codes i.h i.k i.core)) k.is_round; held = λ j q n g h. durable c w n.tier n.num i (k.held.at j q n g h) gone }
   where
@@ -53,5 +60,4 @@ used_before {B} c es e r v few laws l f gone = record { made = k.made; is_round 
     i = world_ok c es few laws
 
     k : VerdictOk c (past c (world c es) i.codes) r v
-    k = at_round c (past c w i.codes) r v (new_good c (past c w i.codes) (happens c w e) (2 * r + 1) (OfMid (Decided v)) (happens_ok c w e few i)
-        (subst (λ z. length z ≤ 2 * r + 1) (sym (happens_keeps c w e).log) l) (ap (λ (z : World B). slice_get z.log (2 * r + 1)) (sym (run-append c es (e ∷ []) start)) ∙ f))
+    k = verdict_before c es e r v few i l f

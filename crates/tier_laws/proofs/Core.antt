@@ -1,38 +1,31 @@
 -- The invariant of the world, and what a change of one node keeps of it.
+pub use Rattle.tier_laws.proofs.Invariant.Whole.{past, Core, Done, NearlyDone, Inv, Mid_event}
+pub use Rattle.tier_laws.proofs.Invariant.MiddleNodes.{MidPending, MidUp, MidDown, MidMode}
+pub use Rattle.tier_laws.proofs.Invariant.BackendNodes.{BackPending, BackUp, BackDown, BackMode}
 use Rattle.std.proofs.Common.{◌≡◌, ℕ, ◌+◌, ◌*◌, ◌<◌, false, List, [], ◌∷◌, ◌++◌, refl, sym, ap, ◌∙◌, subst, Some}
 use Rattle.std.specs.Prelude.{slice_get, ◌==◌}
-use Rattle.aeg_base.specs.declared.names.Ballot.{Ballot}
 use Rattle.aeg_base.specs.declared.names.Tier.{Tier}
 use Rattle.log_model.proofs.Basics.{Every, every-append}
 use Rattle.log_model.proofs.History.{DidVote, grew-refl}
-use Rattle.log_model.proofs.Invariant.{AllGrew, SoupGrew, StateOk, TurnOk, soup-append, state-grew, turn-grew}
+use Rattle.log_model.proofs.Invariant.{AllGrew, SoupGrew, soup-append, state-grew, turn-grew}
 use Rattle.log_model.proofs.Step.{put_each}
-use Rattle.log_model.specs.Log.{Turn}
-use Rattle.log_model.specs.Recover.{newest, newest_onto, onto}
+use Rattle.log_model.specs.Recover.{newest_onto, onto}
 use Rattle.log_model.specs.World.{Mode, Node, Packet as LogPacket, recorded}
 use Rattle.log_model.specs.World.Mode.{Down, Gone, Up}
 use Rattle.log_model.specs.declared.fact.Fact.{Fact as LogFact}
 use Rattle.log_values.specs.declared.fact.Fact.{Fact}
 use Rattle.log_values.specs.declared.any_value.AnyValue.{AnyValue}
-use Rattle.log_values.specs.declared.entry.Entry.{Entry}
 use Rattle.round_model.specs.Answers.{Code}
 use Rattle.round_model.specs.Verdicts.{Vote}
 use Rattle.run_model.specs.World.{Config, World, with_mid}
-use Rattle.server_model.specs.declared.history.Hist.TheVariants.{Start}
-use Rattle.tier_laws.proofs.BackRows.{BackOther, Tied, back_other-more}
-use Rattle.tier_laws.proofs.Ledger.{Ledger}
-use Rattle.tier_laws.proofs.Logs.{Complete, LogPart, Nearly, log_weaker, nearly}
-use Rattle.tier_laws.proofs.Past.{BackOk, Grows, Known, MidOk, MidOther, SentOk, Past, RunOk, Submitted, back_ok-more, mid_ok-more, other-more, parcels-more, submitted-more}
+use Rattle.tier_laws.proofs.BackRows.{back_other-more}
+use Rattle.tier_laws.proofs.Logs.{LogPart, log_weaker, nearly}
+use Rattle.tier_laws.proofs.Past.{BackOk, Grows, Known, MidOk, SentOk, Past, RunOk, back_ok-more, mid_ok-more, other-more, parcels-more, submitted-more}
 use Rattle.tier_laws.proofs.Maps.{server}
 use Rattle.tier_model.specs.Back.{Back}
 use Rattle.tier_model.specs.Mid.{Mid}
-use Rattle.aeg_base.specs.declared.names.ReqId.{ReqId}
-use Rattle.tier_laws.specs.Said.{Laws}
 use Rattle.tier_laws.proofs.Soups.{mid_soup, back_soup, nil, mid_soup-append, back_soup-append}
-use Rattle.tier_model.specs.Moves.{Packet, held_in, log_facts}
-
-abbrev pub past : {B : Type 0} → Config B → World B → (ℕ → List Code) → Past B
-past c w codes = record { codes = codes; log = w.log; server = server c.service w.hist; runs = w.runs; submitted = w.submitted }
+use Rattle.tier_model.specs.Moves.{Packet}
 
 pub newest-push : {F : Type 0} (R : List (List F)) (fs E : List F) → newest_onto (recorded R fs) E ≡ onto fs (newest_onto R E)
 newest-push R [] E = refl
@@ -40,53 +33,6 @@ newest-push [] (f ∷ fs) E = refl
 newest-push (r ∷ R) (f ∷ fs) E = newest-push R (f ∷ fs) (onto r E)
 
 -- THE NODES
-
--- the other records of a middle node's disk that failed
-pub record MidPending {B : Type 0} (c : Config B) (P : Past B) (h : ℕ → List (LogFact AnyValue)) (soup : List (LogPacket AnyValue)) (x : ℕ) (R : List (List Fact)) : Type 0 where
-  pub turn : Turn AnyValue
-  pub codes : List Code
-  pub is_log : log_facts (newest R) ≡ onto turn.facts (h x)
-  pub is_held : held_in (newest R) ≡ P.codes x ++ codes
-  pub ok : TurnOk c.u h soup x turn
-  pub good : (p : ℕ) (b : Ballot) (v : AnyValue) → DidVote (onto turn.facts (h x)) p b v → MidOk c P p v
-  pub right : (i : ℕ) (q : Code) → slice_get codes i ≡ Some q → P.server.served q.tier q.num ≡ Some q.code
-
-pub record MidUp {B : Type 0} (c : Config B) (P : Past B) (h : ℕ → List (LogFact AnyValue)) (soup : List (LogPacket AnyValue)) (x : ℕ) (R : List (List Fact)) (σ : Mid) : Type 0 where
-  pub is_log : log_facts (newest R) ≡ h x
-  pub is_held : held_in (newest R) ≡ P.codes x
-  pub log : StateOk c.u h (h x) soup x σ.log
-  pub other : MidOther c P x σ
-
-pub record MidDown {B : Type 0} (c : Config B) (P : Past B) (h : ℕ → List (LogFact AnyValue)) (soup : List (LogPacket AnyValue)) (x : ℕ) (R : List (List Fact)) (others : List (List (List Fact))) : Type 0 where
-  pub is_log : log_facts (newest R) ≡ h x
-  pub is_held : held_in (newest R) ≡ P.codes x
-  pub pending : (n : ℕ) (Q : List (List Fact)) → slice_get others n ≡ Some Q → MidPending c P h soup x Q
-
-abbrev pub MidMode : {B : Type 0} → Config B → Past B → (ℕ → List (LogFact AnyValue)) → List (LogPacket AnyValue) → ℕ → Node Mid Fact → Mode Mid → Type 0
-MidMode c P h soup x node (Up σ) = MidUp c P h soup x node.records σ
-MidMode c P h soup x node Down = MidDown c P h soup x node.records node.others
-MidMode c P h soup x node Gone = Unit {0}
-
-pub record BackPending {B : Type 0} (c : Config B) (P : Past B) (t : Tier) (h : ℕ → List (LogFact AnyValue)) (soup : List (LogPacket AnyValue)) (x : ℕ) (R : List (List Fact)) : Type 0 where
-  pub turn : Turn AnyValue
-  pub is_log : log_facts (newest R) ≡ onto turn.facts (h x)
-  pub ok : TurnOk c.u h soup x turn
-  pub good : (p : ℕ) (b : Ballot) (v : AnyValue) → DidVote (onto turn.facts (h x)) p b v → BackOk c P t p v
-
-pub record BackUp {B : Type 0} (c : Config B) (P : Past B) (t : Tier) (h : ℕ → List (LogFact AnyValue)) (soup : List (LogPacket AnyValue)) (x : ℕ) (R : List (List Fact)) (σ : Back B) : Type 0 where
-  pub is_log : log_facts (newest R) ≡ h x
-  pub log : StateOk c.u h (h x) soup x σ.log
-  pub other : BackOther c P t σ
-  pub tied : Tied c.service t σ.log.learned σ
-
-pub record BackDown {B : Type 0} (c : Config B) (P : Past B) (t : Tier) (h : ℕ → List (LogFact AnyValue)) (soup : List (LogPacket AnyValue)) (x : ℕ) (R : List (List Fact)) (others : List (List (List Fact))) : Type 0 where
-  pub is_log : log_facts (newest R) ≡ h x
-  pub pending : (n : ℕ) (Q : List (List Fact)) → slice_get others n ≡ Some Q → BackPending c P t h soup x Q
-
-abbrev pub BackMode : {B : Type 0} → Config B → Past B → Tier → (ℕ → List (LogFact AnyValue)) → List (LogPacket AnyValue) → ℕ → Node (Back B) Fact → Mode (Back B) → Type 0
-BackMode c P t h soup x node (Up σ) = BackUp c P t h soup x node.records σ
-BackMode c P t h soup x node Down = BackDown c P t h soup x node.records node.others
-BackMode c P t h soup x node Gone = Unit {0}
 
 -- A NODE THAT AN EVENT LEAVES AS IT IS
 
@@ -125,50 +71,11 @@ back_mode-more c P Q t h g xs ys x node Gone w a s e k = tt
 
 -- THE INVARIANT
 
-pub record Core {B : Type 0} (c : Config B) (w : World B) (codes : ℕ → List Code) (h : ℕ → List (LogFact AnyValue)) (k : Tier → ℕ → List (LogFact AnyValue)) : Type 0 where
-  pub laws : Laws c.service
-  pub mid_log : LogPart c.u h (mid_soup w.soup) w.log (MidOk c (past c w codes))
-  pub back_log : (t : Tier) → LogPart c.u (k t) (back_soup t w.soup) (w.logs t) (BackOk c (past c w codes) t)
-  pub ledger : Ledger c.service c.depth w.log w.logs w.hist
-  pub runs : (i : ℕ) (v : Vote) → slice_get w.runs i ≡ Some v → RunOk c (past c w codes) v
-  pub right : (x i : ℕ) (q : Code) → slice_get (codes x) i ≡ Some q → (server c.service w.hist).served q.tier q.num ≡ Some q.code
-  pub packets : Every (SentOk c (past c w codes)) w.soup
-  pub mids : (x : ℕ) → x < 2 * c.u + 1 → MidMode c (past c w codes) h (mid_soup w.soup) x (w.mids x) (w.mids x).mode
-  pub backs : (t : Tier) (x : ℕ) → x < 2 * c.u + 1 → BackMode c (past c w codes) t (k t) (back_soup t w.soup) x (w.backs t x) (w.backs t x).mode
-  pub clients : (y : ℕ) (text : List ℕ) → (w.clients y).opened ≡ Some text → Submitted (past c w codes) (record { client = y; seq = (w.clients y).last; body = text })
-  pub starts : (i n : ℕ) (who : ReqId) (body : List ℕ) → slice_get w.hist i ≡ Some (Start who n, body) → Submitted (past c w codes) (record { client = who.client; seq = who.seq; body = body })
-  pub told : (i : ℕ) (e : Entry) → slice_get w.told i ≡ Some e → (server c.service w.hist).replies e.client e.seq ≡ Some e.body
-
-pub record Done {B : Type 0} (c : Config B) (w : World B) : Type 0 where
-  pub mid : Complete c.u (mid_soup w.soup) w.log
-  pub back : (t : Tier) → Complete c.u (back_soup t w.soup) (w.logs t)
-
-pub record NearlyDone {B : Type 0} (c : Config B) (w : World B) : Type 0 where
-  pub mid : Nearly c.u (mid_soup w.soup) w.log
-  pub back : (t : Tier) → Nearly c.u (back_soup t w.soup) (w.logs t)
-
 pub nearly_done : {B : Type 0} (c : Config B) (w : World B) → Done c w → NearlyDone c w
 nearly_done c w k = record { mid = nearly c.u (mid_soup w.soup) w.log k.mid; back = λ t. nearly c.u (back_soup t w.soup) (w.logs t) (k.back t) }
 
-pub record Inv {B : Type 0} (c : Config B) (w : World B) : Type 0 where
-  pub codes : ℕ → List Code
-  pub h : ℕ → List (LogFact AnyValue)
-  pub k : Tier → ℕ → List (LogFact AnyValue)
-  pub core : Core c w codes h k
-  pub done : Done c w
-
--- after an event, before the logs grow
-pub record Mid_event {B : Type 0} (c : Config B) (P : Past B) (w : World B) : Type 0 where
-  pub codes : ℕ → List Code
-  pub h : ℕ → List (LogFact AnyValue)
-  pub k : Tier → ℕ → List (LogFact AnyValue)
-  pub core : Core c w codes h k
-  pub near : NearlyDone c w
-  -- each value that is voted for was good before the event
-  pub before : LogPart c.u h (mid_soup w.soup) w.log (MidOk c P)
-
 pub unchanged : {B : Type 0} (c : Config B) (w : World B) → (i : Inv c w) → Mid_event c (past c w i.codes) w
-unchanged c w i = record { codes = i.codes; h = i.h; k = i.k; core = i.core; near = nearly_done c w i.done; before = i.core.mid_log }
+unchanged c w i = record { codes = i.codes; h = i.h; k = i.k; core = i.core; near = nearly_done c w i.done; before = i.core.mid_log; gone_codes = λ y g. refl }
 
 pub known : {B : Type 0} (c : Config B) (w : World B) (codes : ℕ → List Code) (h : ℕ → List (LogFact AnyValue)) (k : Tier → ℕ → List (LogFact AnyValue)) → Core c w codes h k → ((p : ℕ) (v : AnyValue) → slice_get w.log p ≡ Some v → MidOk c (past c w codes) p v) → Known c (past c w codes)
 known c w codes h k i v = record { laws = i.laws; values = v; decided = i.ledger.decided; runs = i.runs; codes = i.right }

@@ -82,6 +82,7 @@ client_changed {B} c w cl ks sub td i none more sends clients told = record {
     told = told;
   };
   before = subst (λ z. LogPart c.u i.h z w.log (MidOk c P)) (sym (same_mid w.soup ks (no_mid ks none))) i.core.mid_log;
+  gone_codes = λ y g. refl;
   near = record {
     mid = nearly c.u (mid_soup (w.soup ++ ks)) w.log (subst (λ z. Complete c.u z w.log) (sym (same_mid w.soup ks (no_mid ks none))) i.done.mid);
     back = λ t. nearly c.u (back_soup t (w.soup ++ ks)) (w.logs t) (subst (λ z. Complete c.u z (w.logs t)) (sym (same_back t w.soup ks (no_back ks none t))) (i.done.back t));
@@ -174,6 +175,7 @@ takes_ok {B} c w y s text said i = cond_both (is_some (w.clients y).opened && (s
         told = pushed (λ (e : Entry). (server c.service w.hist).replies e.client e.seq ≡ Some e.body) w.told (record { client = y; seq = s; body = text }) i.core.told said;
       };
       before = i.core.mid_log;
+      gone_codes = λ y g. refl;
       near = record { mid = nearly c.u (mid_soup w.soup) w.log i.done.mid; back = λ t. nearly c.u (back_soup t w.soup) (w.logs t) (i.done.back t) };
     }
 
@@ -369,6 +371,11 @@ start_ok {B} c laws = record {
 
     complete : (t : Tier) → Complete {V = AnyValue} c.u (back_soup t []) []
     complete t = subst (λ z. Complete c.u z []) (sym (back_nil t)) (record { at = λ p v m. absurd (let e = m.is_sent in cc) })
+
+-- no node holds anything
+pub start_codes : {B : Type 0} (c : Config B) (laws : Laws c.service) (x : ℕ) → (start_ok c laws).codes x ≡ []
+unfolding start_ok
+start_codes c laws x = refl
 
 pub run_ok : {B : Type 0} (c : Config B) (es : List TraceEvent) (w : World B) → c.u < 128 → WorldOk c w → WorldOk c (run c es w)
 run_ok c [] w few i = i

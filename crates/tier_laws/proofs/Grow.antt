@@ -336,3 +336,8 @@ grows_ok {B} c P w few i = record { codes = i.codes; h = i.h; k = i.k; core = p.
     both MidTier = record { at = λ p v m. absurd (let e = m.is_sent in cc) }
     both Inv = p.there Inv refl n.here
     both Pay = p.here
+
+-- what the nodes hold stays
+pub grows_codes : {B : Type 0} (c : Config B) (P : Past B) (w : World B) (few : c.u < 128) (i : Mid_event c P w) → (grows_ok c P w few i).codes ≡ i.codes
+unfolding grows_ok
+grows_codes c P w few i = refl

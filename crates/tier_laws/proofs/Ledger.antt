@@ -1,22 +1,22 @@
 -- As the logs grow the history stays legal, and the tables mirror the server.
+pub use Rattle.tier_laws.proofs.Invariant.HistoryFollowsLogs.{TablesOk, ToldAll, ordered, finish_in, Decision, Ledger}
 use Rattle.std.proofs.Common.{◌≡◌, ℕ, ◌+◌, ◌*◌, ◌<◌, Bool, true, false, cond, List, [], ◌∷◌, ◌++◌, length, refl, sym, ap, ◌∙◌, subst, inl, inr, Some, None, zero, suc, arith, length-append}
-use Rattle.std.specs.Prelude.{slice_get, ◌⊎◌, not, take}
+use Rattle.std.specs.Prelude.{slice_get, ◌⊎◌, not}
 use Rattle.std.proofs.lemmas.Bool.{cond-true, cond-false, cases_eq}
 use Rattle.aeg_base.specs.Store.{Store}
 use Rattle.aeg_base.specs.declared.names.Tier.{Tier}
 use Rattle.aeg_base.specs.declared.names.Tier.TheVariants.{Inv}
 use Rattle.exec_model.specs.declared.job.Seg.{Seg}
 use Rattle.log_values.specs.declared.any_value.AnyValue.{AnyValue}
-use Rattle.log_values.specs.declared.any_value.AnyValue.TheVariants.{Back as OfBack, Mid as OfMid}
-use Rattle.log_values.specs.declared.back_value.BackValue.TheVariants.{Settle as Settled}
+use Rattle.log_values.specs.declared.any_value.AnyValue.TheVariants.{Mid as OfMid}
 use Rattle.log_values.specs.declared.entry.Entry.{Entry}
 use Rattle.log_values.specs.declared.mid_value.MidValue.TheVariants.{Batch, Verdict as Decided}
 use Rattle.log_values.specs.declared.mid_value.Verdict.{Verdict}
 use Rattle.round_model.specs.After.{Round, after, order_in, round, round_at, verdict_at, verdict_in}
-use Rattle.round_model.specs.Lists.{concat, half, odd}
-use Rattle.round_model.specs.Service.{Finish, Service, finish, is_order, serial_end, times}
-use Rattle.round_model.specs.Tables.{last_of, kept_of, Codes as Answers, Parked, Tables, Want, job_of, kept_after, kept_by, last_after, numbers, settled, wants}
-use Rattle.run_model.specs.Histories.{back_run, steps_by, verdict_steps}
+use Rattle.round_model.specs.Lists.{half, odd}
+use Rattle.round_model.specs.Service.{Service, finish, is_order, serial_end, times}
+use Rattle.round_model.specs.Tables.{last_of, kept_of, Codes as Answers, Tables, Want, job_of, kept_after, kept_by, last_after, numbers, settled, wants}
+use Rattle.run_model.specs.Histories.{steps_by, verdict_steps}
 use Rattle.server_model.specs.History.{History as History_}
 use Rattle.server_model.specs.declared.history.Hist.TheVariants.{Serve}
 use Rattle.svc_api.specs.declared.action.Ending.{Ending}
@@ -26,7 +26,7 @@ use Rattle.tier_laws.proofs.Legal.{RoundDone, Setting, ends_of, job-length, leng
 use Rattle.tier_laws.proofs.Mirrors.{Mirrors, mirrors_kept, setting}
 use Rattle.tier_laws.proofs.Rounds.{Kept, ToldOne, told-kept}
 use Rattle.tier_laws.proofs.Stable.{MoreAnswers, MoreLog, RoundParts, after-more, after-step, round-more, round_parts, then_parts, verdict-more}
-use Rattle.tier_laws.proofs.Maps.{Legal, LegalFrom, Server, empty_server, result_or, server, server_from, step}
+use Rattle.tier_laws.proofs.Maps.{LegalFrom, Server, empty_server, result_or, server, server_from, step}
 
 -- LISTS AND POSITIONS
 
@@ -65,31 +65,8 @@ half-is (suc n) = go (odd n) (half-is n)
 
 -- WHAT ONLY GROWS
 
-pub record TablesOk {B : Type 0} (O : Server B) (T : Tables) : Type 0 where
-  pub kept : (c : ℕ) (text : List ℕ) → kept_of T.kept c ≡ Some text → O.replies c (last_of T.last c) ≡ Some text
-  pub parked : (i : ℕ) (p : Parked) → slice_get (concat T.queue) i ≡ Some p → O.calls p.tier p.num ≡ Some p.text
-
 pub tables-kept : {B : Type 0} (O P : Server B) (T : Tables) → Kept O P → TablesOk O T → TablesOk P T
 tables-kept O P T g k = record { kept = λ c text e. g.replies c (last_of T.last c) text (k.kept c text e); parked = λ i p e. g.calls p.tier p.num p.text (k.parked i p e) }
-
--- the ends of a job stand at the server
-pub record ToldAll {B : Type 0} (O : Server B) (X : List Act) : Type 0 where
-  pub at : (i : ℕ) (a : Act) → slice_get X i ≡ Some a → ToldOne O a.want a.num a.ending
-
-abbrev pub ordered : Round → Verdict → List ℕ
-ordered R v = order_in (length R.job) v
-
-abbrev pub finish_in : {B : Type 0} → Service B → Round → Verdict → Finish
-finish_in m R v = finish m R.job (ordered R v) R.tables.store
-
-pub record Decision {B : Type 0} (m : Service B) (D : ℕ) (L : List AnyValue) (O : Server B) (r : ℕ) : Type 0 where
-  pub made : Round
-  pub verdict : Verdict
-  pub is_round : round m D L O.served r ≡ Some made
-  pub is_verdict : verdict_at L r ≡ Some verdict
-  pub is_ordered : is_order (length made.job) (ordered made verdict) ≡ true
-  pub told : ToldAll O (acts made.tables.next made.wants (finish_in m made verdict).ends)
-  pub tables : TablesOk O (settled made.tables made.wants (finish_in m made verdict))
 
 pub answers-kept : {B : Type 0} (O P : Server B) → Kept O P → MoreAnswers O.served P.served
 answers-kept O P g = record { at = g.served }
@@ -106,17 +83,6 @@ decision-more m D L K O P r l g d = record {
 }
 
 -- THE LEDGER
-
-pub record Ledger {B : Type 0} (m : Service B) (D : ℕ) (L : List AnyValue) (K : Tier → List AnyValue) (h : History_) : Type 0 where
-  pub legal : Legal m h
-  pub tables : Tables
-  pub is_after : after m D L (server m h).served (half (length L)) ≡ Some tables
-  pub mirrors : Mirrors m tables (server m h)
-  pub tables_ok : TablesOk (server m h) tables
-  pub decided : (r : ℕ) → r < half (length L) → Decision m D L (server m h) r
-  pub served : (t : Tier) (n : ℕ) → (server m h).served t n ≡ (back_run m t (K t)).code n
-  pub backs : (t : Tier) → (server m h).backs t ≡ (back_run m t (K t)).state
-  pub settles : (t : Tier) (i g n : ℕ) → slice_get (K t) i ≡ Some (OfBack (Settled g)) → 0 < n → n < g → (code : ℕ) × ((back_run m t (take i (K t))).code n ≡ Some code)
 
 pub server-append : {B : Type 0} (m : Service B) (O : Server B) (h k : History_) → server_from m O (h ++ k) ≡ server_from m (server_from m O h) k
 server-append m O [] k = refl

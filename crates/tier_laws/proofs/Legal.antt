@@ -1,11 +1,12 @@
 -- All steps of a round, in any order of its job.
-use Rattle.std.proofs.Common.{◌≡◌, ℕ, ◌+◌, ◌<◌, ◌≤◌, true, List, [], ◌∷◌, ◌++◌, length, refl, sym, ap, ◌∙◌, subst, inl, inr, Option, Some, None, zero, suc, arith}
+use Rattle.std.proofs.Common.{◌≡◌, ℕ, ◌<◌, ◌≤◌, true, List, [], ◌∷◌, ◌++◌, length, refl, sym, ap, ◌∙◌, subst, inl, inr, Option, Some, None, zero, suc, arith}
 use Rattle.std.specs.Prelude.{slice_get, ◌⊎◌, ◌==◌, nat_lt}
 use Rattle.std.proofs.lemmas.Bool.{eq-eqb, eqb-true, ne_eqb, cond-true, cond-false, cases_eq, and_parts, ltb-true}
 use Rattle.aeg_base.specs.Store.{Store}
 use Rattle.aeg_base.specs.declared.names.Tier.{Tier}
 use Rattle.exec_model.specs.declared.job.Seg.{Seg}
 use Rattle.round_model.specs.Lists.{at, OfTiers, of_tier, and_then, tabulate}
+use Rattle.exec_model.proofs.Basics.{times-append}
 use Rattle.round_model.specs.Service.{Service, all_below, each_once, run, segment, serial, serial_end, times}
 use Rattle.round_model.specs.Tables.{Codes as Answers, Number, Want, answered, bump, job_of, numbers}
 use Rattle.run_model.specs.Histories.{step_of, steps_by}
@@ -47,10 +48,6 @@ once-at (suc n) i order l e = go (and_parts (times n order == 1) (each_once n or
     go : ((times n order == 1) ≡ true) × (each_once n order ≡ true) → (i ≡ n) ⊎ (i ≡ n → ⊥) → (i < n → each_once n order ≡ true → times i order ≡ 1) → times i order ≡ 1
     go p (inl f) r = ap (λ z. times z order) f ∙ eqb-true (times n order) 1 p.0
     go p (inr f) r = r (omega arith) p.1
-
-pub times-append : (i : ℕ) (xs ys : List ℕ) → times i (xs ++ ys) ≡ times i xs + times i ys
-times-append i [] ys = grind arith
-times-append i (x ∷ xs) ys = let h = times-append i xs ys in omega arith
 
 all-mid : (n i : ℕ) (done rest : List ℕ) → all_below n (done ++ i ∷ rest) ≡ true → i < n
 all-mid n i [] rest e = ltb-true i n (and_parts (nat_lt i n) (all_below n rest) e).0

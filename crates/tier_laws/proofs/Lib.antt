@@ -9,8 +9,8 @@ pub mod Mirrors
 pub mod Ledger
 pub mod Backs
 pub mod Logs
+pub mod Invariant
 pub mod Past
-pub mod Changes
 pub mod Ranges
 pub mod Apply
 pub mod Verdicts
@@ -30,5 +30,6 @@ pub mod Events
 pub mod Told
 pub mod Later
 pub mod Before
+pub mod Prefixes
 pub mod Few
-pub mod Examples
+pub mod Services

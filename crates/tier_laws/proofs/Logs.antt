@@ -1,4 +1,5 @@
 -- One tier's log inside a larger world: a turn of the log, and the chosen log that grows at its end.
+pub use Rattle.tier_laws.proofs.Invariant.LogsAreChosen.{LogPart, Complete, Nearly}
 use Rattle.std.proofs.Common.{◌≡◌, ℕ, ◌+◌, ◌*◌, ◌<◌, ◌≤◌, true, List, [], ◌∷◌, ◌++◌, length, sym, ap, ◌∙◌, subst, inl, inr, Some, None, zero, suc, arith}
 use Rattle.std.specs.Prelude.{slice_get, ◌⊎◌}
 use Rattle.std.proofs.lemmas.Bool.{cases_lt}
@@ -18,18 +19,6 @@ use Rattle.log_model.specs.World.{packets_of, Packet as LogPacket, put}
 use Rattle.log_model.specs.declared.fact.Fact.{Fact as LogFact}
 use Rattle.tier_laws.proofs.Ledger.{get-end, get-last, get-left}
 use Rattle.tier_laws.proofs.Legal.{get_within, within_get}
-
-pub record LogPart {V : Type 0} (u : ℕ) (H : ℕ → List (LogFact V)) (soup : List (LogPacket V)) (L : List V) (G : ℕ → V → Type 0) : Type 0 where
-  pub history : History u H soup
-  pub good : (x : ℕ) → x < 2 * u + 1 → (p : ℕ) (b : Ballot) (v : V) → DidVote (H x) p b v → G p v
-  pub sound : (p : ℕ) (v : V) → slice_get L p ≡ Some v → Meets u soup p v
-
-pub record Complete {V : Type 0} (u : ℕ) (soup : List (LogPacket V)) (L : List V) : Type 0 where
-  pub at : (p : ℕ) (v : V) → Meets u soup p v → slice_get L p ≡ Some v
-
--- but for the next position
-pub record Nearly {V : Type 0} (u : ℕ) (soup : List (LogPacket V)) (L : List V) : Type 0 where
-  pub at : (p : ℕ) (v : V) → Meets u soup p v → (slice_get L p ≡ Some v) ⊎ (p ≡ length L)
 
 pub nearly : {V : Type 0} (u : ℕ) (soup : List (LogPacket V)) (L : List V) → Complete u soup L → Nearly u soup L
 nearly u soup L k = record { at = λ p v m. inl (k.at p v m) }

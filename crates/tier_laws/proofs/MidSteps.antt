@@ -1,7 +1,7 @@
 -- Each event at a middle node keeps the invariant, but for the growth of the logs.
 use Rattle.std.proofs.Common.{◌≡◌, ℕ, ◌+◌, ◌*◌, ◌<◌, Bool, true, false, cond, List, [], ◌∷◌, ◌++◌, length, refl, sym, ap, ◌∙◌, subst, inl, inr, Option, Some, None, zero, suc}
 use Rattle.std.specs.Prelude.{slice_get, ◌⊎◌, ◌==◌, ◌&&◌, nat_lt}
-use Rattle.std.proofs.lemmas.Bool.{cond_both, ltb-true, or_parts}
+use Rattle.std.proofs.lemmas.Bool.{both_ways, cond_both, ltb-true, or_parts}
 use Rattle.aeg_base.specs.declared.names.Ballot.{Ballot}
 use Rattle.aeg_base.specs.declared.names.Tier.{Tier}
 use Rattle.log_model.proofs.Basics.{nothing_seen}
@@ -40,7 +40,7 @@ use Rattle.run_model.specs.World.{up_as, found_at}
 use Rattle.tier_laws.proofs.Lists.{at-replicate}
 use Rattle.tier_laws.proofs.Mirrors.{no_parked}
 use Rattle.tier_model.specs.MidRows.{Running, bare, catch_up, recovered}
-use Rattle.tier_laws.specs.Said.{Laws}
+use Rattle.tier_laws.specs.Said.{Laws, is_gone}
 use Rattle.tier_laws.proofs.Soups.{mid_soup, back_soup, back_nil, mid_soup-append}
 use Rattle.tier_model.specs.Moves.{Move, Packet, held_in, log_facts}
 
@@ -63,7 +63,7 @@ values c w codes h k i p v e = meets_good c.u h (mid_soup w.soup) w.log (MidOk c
 pub known_now : {B : Type 0} (c : Config B) (w : World B) (codes : ℕ → List Code) (h : ℕ → List (LogFact AnyValue)) (k : Tier → ℕ → List (LogFact AnyValue)) → Core c w codes h k → Known c (past c w codes)
 known_now c w codes h k i = known c w codes h k i (values c w codes h k i)
 
--- WHAT A TURN''S RECORD ADDS
+-- WHAT A TURN'S RECORD ADDS
 
 abbrev with_codes : (ℕ → List Code) → ℕ → List Code → ℕ → List Code
 with_codes codes x cs = put codes x (codes x ++ cs)
@@ -126,6 +126,7 @@ mid_turned {B} c w x σ rs v few lx i up ok = record {
     };
   });
   before = subst (λ z. LogPart c.u g z w.log (MidOk c P)) (sym soup_is) (turn_log c.u i.h (mid_soup w.soup) w.log (MidOk c P) x ok.turn i.core.mid_log ok.turn_ok ok.good);
+  gone_codes = put_each (λ y n. is_gone n.mode ≡ true → new_codes y ≡ i.codes y) w.mids x node (λ g. absurd (cc)) (λ y e g. put_other i.codes x (i.codes x ++ helds v.facts) y e);
   near = record {
     mid = subst (λ z. Nearly c.u z w.log) (sym soup_is) (turn_nearly c.u i.h (mid_soup w.soup) w.log (MidOk c Q) x ok.turn few old_log i.done.mid ok.turn_ok turned.history);
     back = λ t. subst (λ z. Nearly c.u z (w.logs t)) (sym (same_back t w.soup v.sends (ok.no_back t))) (nearly c.u (back_soup t w.soup) (w.logs t) (i.done.back t));
@@ -202,6 +203,7 @@ mid_quiet {B} c w x node i k = record {
     mode = λ l. mid_mode-more c P Q i.h i.h (mid_soup w.soup) (mid_soup (w.soup ++ [])) x node node.mode gr (all_same i.h) (subst (SoupGrew c.u (mid_soup w.soup)) (sym (same_mid w.soup [] refl)) (soup-refl c.u (mid_soup w.soup))) refl refl (k l);
   });
   before = subst (λ z. LogPart c.u i.h z w.log (MidOk c P)) (sym (same_mid w.soup [] refl)) i.core.mid_log;
+  gone_codes = λ y g. refl;
   near = record {
     mid = subst (λ z. Nearly c.u z w.log) (sym (same_mid w.soup [] refl)) (nearly c.u (mid_soup w.soup) w.log i.done.mid);
     back = λ t. subst (λ z. Nearly c.u z (w.logs t)) (sym (same_back t w.soup [] (back_nil t))) (nearly c.u (back_soup t w.soup) (w.logs t) (i.done.back t));
@@ -226,11 +228,11 @@ record Written {B : Type 0} (c : Config B) (w : World B) (codes : ℕ → List C
   good : (p : ℕ) (b : Ballot) (v : AnyValue) → DidVote (onto turn.facts (h x)) p b v → MidOk c (past c w codes) p v
   right : RightCodes c w new
 
-mid_written : {B : Type 0} (c : Config B) (w : World B) (x : ℕ) (node : Node Mid Fact) (i : Inv c w) (rs : List Vote) → x < 2 * c.u + 1 → (d : Written c w i.codes i.h x) → ((j : ℕ) (q : Vote) → slice_get rs j ≡ Some q → RunOk c (past c w i.codes) q)
+mid_written : {B : Type 0} (c : Config B) (w : World B) (x : ℕ) (node : Node Mid Fact) (i : Inv c w) (rs : List Vote) → x < 2 * c.u + 1 → is_gone node.mode ≡ false → (d : Written c w i.codes i.h x) → ((j : ℕ) (q : Vote) → slice_get rs j ≡ Some q → RunOk c (past c w i.codes) q)
     → (Known c (past c (with_mid w x node [] rs) (with_codes i.codes x d.new)) → LogPart c.u (put i.h x (onto d.turn.facts (i.h x))) (mid_soup w.soup) w.log (MidOk c (past c (with_mid w x node [] rs) (with_codes i.codes x d.new)))
     → MidMode c (past c (with_mid w x node [] rs) (with_codes i.codes x d.new)) (put i.h x (onto d.turn.facts (i.h x))) (mid_soup w.soup) x node node.mode)
     → Mid_event c (past c w i.codes) (with_mid w x node [] rs)
-mid_written {B} c w x node i rs lx d rok mode = record {
+mid_written {B} c w x node i rs lx stays d rok mode = record {
   codes = with_codes i.codes x d.new;
   h = g;
   k = i.k;
@@ -249,6 +251,7 @@ mid_written {B} c w x node i rs lx d rok mode = record {
     mode = λ l. subst (λ z. MidMode c Q g z x node node.mode) (sym (same_mid w.soup [] refl)) (mode kn part);
   });
   before = subst (λ z. LogPart c.u g z w.log (MidOk c P)) (sym (same_mid w.soup [] refl)) (write_log c.u i.h (mid_soup w.soup) w.log (MidOk c P) x d.turn i.core.mid_log d.ok d.good);
+  gone_codes = put_each (λ y n. is_gone n.mode ≡ true → with_codes i.codes x d.new y ≡ i.codes y) w.mids x node (λ g. absurd (both_ways (is_gone node.mode) stays g)) (λ y e g. put_other i.codes x (i.codes x ++ d.new) y e);
   near = record {
     mid = subst (λ z. Nearly c.u z w.log) (sym (same_mid w.soup [] refl)) (nearly c.u (mid_soup w.soup) w.log i.done.mid);
     back = λ t. subst (λ z. Nearly c.u z (w.logs t)) (sym (same_back t w.soup [] (back_nil t))) (nearly c.u (back_soup t w.soup) (w.logs t) (i.done.back t));
@@ -341,7 +344,7 @@ mid_failed c w x σ rs v Fault lx i up ok e none = mid_quiet c w x (failed (w.mi
     right = ok.codes;
   });
 })
-mid_failed c w x σ rs v CutKeep lx i up ok e none = mid_written c w x (failed (w.mids x) v.facts CutKeep) i [] lx (record { turn = ok.turn; new = helds v.facts; ok = ok.turn_ok; good = ok.good; right = ok.codes }) (λ j q e. absurd (cc)) (λ kn part. record {
+mid_failed c w x σ rs v CutKeep lx i up ok e none = mid_written c w x (failed (w.mids x) v.facts CutKeep) i [] lx refl (record { turn = ok.turn; new = helds v.facts; ok = ok.turn_ok; good = ok.good; right = ok.codes }) (λ j q e. absurd (cc)) (λ kn part. record {
   is_log = ap log_facts (newest-push (w.mids x).records v.facts []) ∙ log_facts-onto v.facts (newest (w.mids x).records) ∙ ap (λ z. onto z (log_facts (newest (w.mids x).records))) ok.is_facts ∙ ap (onto ok.turn.facts) up.is_log ∙ sym (put_same i.h x (onto ok.turn.facts (i.h x)));
   is_held = ap held_in (newest-push (w.mids x).records v.facts []) ∙ held_in-onto v.facts (newest (w.mids x).records) ∙ ap (λ z. z ++ helds v.facts) up.is_held ∙ sym (put_same i.codes x (i.codes x ++ helds v.facts));
   pending = λ n Q q. absurd (cc);
@@ -388,7 +391,7 @@ pub mid_wipe : {B : Type 0} (c : Config B) (w : World B) (x : ℕ) → (i : Inv 
 mid_wipe c w x i = mid_node_ok c w x _ i (λ l. mid_quiet c w x (stands Gone []) i (λ l. tt))
 
 other_ok : {B : Type 0} (c : Config B) (w : World B) (x : ℕ) (R : List (List Fact)) → x < 2 * c.u + 1 → (i : Inv c w) → MidPending c (past c w i.codes) i.h (mid_soup w.soup) x R → Mid_event c (past c w i.codes) (with_mid w x (up_from (recovered c.u c.service c.depth) R) [] [])
-other_ok {B} c w x R lx i k = mid_written c w x (up_from (recovered c.u c.service c.depth) R) i [] lx (record { turn = k.turn; new = k.codes; ok = k.ok; good = k.good; right = k.right }) (λ j q e. absurd (cc))
+other_ok {B} c w x R lx i k = mid_written c w x (up_from (recovered c.u c.service c.depth) R) i [] lx refl (record { turn = k.turn; new = k.codes; ok = k.ok; good = k.good; right = k.right }) (λ j q e. absurd (cc))
     (λ kn part. up_ok c (past c (with_mid w x (up_from (recovered c.u c.service c.depth) R) [] []) (with_codes i.codes x k.codes)) (put i.h x (onto k.turn.facts (i.h x))) (mid_soup w.soup) x R kn
     (k.is_log ∙ sym (put_same i.h x (onto k.turn.facts (i.h x)))) (k.is_held ∙ sym (put_same i.codes x (i.codes x ++ k.codes)))
     (learned_more c.u (put i.h x (onto k.turn.facts (i.h x))) (mid_soup w.soup) w.log x lx part.history i.done.mid))

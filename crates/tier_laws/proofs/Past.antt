@@ -1,9 +1,14 @@
 -- What is said of packets, values, votes and states: facts of a past that only grows.
-use Rattle.std.proofs.Common.{◌≡◌, ℕ, ◌+◌, ◌*◌, ◌<◌, Bool, true, false, List, [], ◌∷◌, length, sym, ◌∙◌, Some, arith}
-use Rattle.std.specs.Prelude.{slice_get, ◌==◌, ◌&&◌, ◌||◌}
+pub use Rattle.tier_laws.proofs.Invariant.Past.{Past, holds, Grows}
+pub use Rattle.tier_laws.proofs.Invariant.ValuesAreGood.{Submitted, BatchOk, MidOk, BackOk}
+pub use Rattle.tier_laws.proofs.Invariant.VerdictsHaveCauses.{DidRun, RunOk, has_run, VerdictBy, VerdictOk}
+pub use Rattle.tier_laws.proofs.Invariant.FloorsAreHeld.{ManyHold, FloorOk, JobHeld}
+pub use Rattle.tier_laws.proofs.Invariant.PacketsAreTrue.{SentBy, SentOk}
+pub use Rattle.tier_laws.proofs.Invariant.MiddleNodes.{MidOther}
+use Rattle.std.proofs.Common.{◌≡◌, ℕ, ◌+◌, ◌*◌, ◌<◌, List, length, sym, ◌∙◌, Some, arith}
+use Rattle.std.specs.Prelude.{slice_get}
 use Rattle.aeg_base.specs.declared.names.Tier.{Tier}
 use Rattle.log_model.proofs.Basics.{Every, count-more, every-weaker}
-use Rattle.log_model.specs.Log.{count_below}
 use Rattle.log_values.specs.declared.any_value.AnyValue.{AnyValue}
 use Rattle.log_values.specs.declared.any_value.AnyValue.TheVariants.{Back as OfBack, Mid as OfMid}
 use Rattle.log_values.specs.declared.back_value.BackValue.TheVariants.{Call as Called, Settle as Settled}
@@ -11,42 +16,22 @@ use Rattle.log_values.specs.declared.entry.Entry.{Entry}
 use Rattle.log_values.specs.declared.mid_value.MidValue.TheVariants.{Batch, Verdict as Decided}
 use Rattle.log_values.specs.declared.mid_value.Verdict.{Verdict}
 use Rattle.log_values.specs.declared.mid_value.Verdict.TheVariants.{Commit, Serial}
-use Rattle.round_model.specs.After.{Round, after, round}
-use Rattle.round_model.specs.Answers.{Code, Noted, code_of}
-use Rattle.round_model.specs.Lists.{half, is_some, odd}
-use Rattle.round_model.specs.Service.{finish, is_order, token_of}
+use Rattle.round_model.specs.After.{Round, round}
+use Rattle.round_model.specs.Answers.{Code}
+use Rattle.round_model.specs.Lists.{half}
 use Rattle.aeg_base.specs.declared.names.End.{End}
-use Rattle.aeg_base.specs.declared.names.End.TheVariants.{Client}
 use Rattle.frames.specs.declared.message.Msg.{Msg}
 use Rattle.frames.specs.declared.message.Msg.TheVariants as msgs
-use Rattle.round_model.specs.Tables.{pending_of, Number, Want}
-use Rattle.round_model.specs.Verdicts.{Vote, same_token}
+use Rattle.round_model.specs.Tables.{Want}
+use Rattle.round_model.specs.Verdicts.{Vote}
 use Rattle.run_model.specs.World.{Config}
 use Rattle.tier_laws.specs.Said.{Laws}
-use Rattle.tier_laws.proofs.Ledger.{Decision, TablesOk, answers-kept, tables-kept}
+use Rattle.tier_laws.proofs.Ledger.{Decision, answers-kept, tables-kept}
 use Rattle.tier_laws.proofs.Rounds.{Kept}
 use Rattle.tier_laws.proofs.Stable.{MoreLog, after-more, round-more}
 use Rattle.tier_laws.proofs.Maps.{Server}
 use Rattle.tier_model.specs.Mid.{Mid}
 use Rattle.tier_model.specs.Moves.{Packet, tier_of, index_of}
-
-pub record Past (B : Type 0) : Type 0 where
-  -- the Held facts that each middle node ever wrote, the oldest first
-  pub codes : ℕ → List Code
-  pub log : List AnyValue
-  pub server : Server B
-  pub runs : List Vote
-  pub submitted : List Entry
-
-abbrev pub holds : {B : Type 0} → Past B → Tier → ℕ → ℕ → Bool
-holds P t n x = is_some (code_of (P.codes x) t n)
-
-pub record Grows {B : Type 0} (P Q : Past B) : Type 0 where
-  pub held : (x : ℕ) (t : Tier) (n : ℕ) → holds P t n x ≡ true → holds Q t n x ≡ true
-  pub log : MoreLog P.log Q.log
-  pub kept : Kept P.server Q.server
-  pub runs : MoreLog P.runs Q.runs
-  pub submitted : MoreLog P.submitted Q.submitted
 
 pub more-refl : {V : Type 0} (xs : List V) → MoreLog xs xs
 more-refl xs = record { at = λ i v e. e }
@@ -67,71 +52,6 @@ grows-trans P Q R a b = record {
 }
 
 -- FACTS
-
-abbrev pub Submitted : {B : Type 0} → Past B → Entry → Type 0
-Submitted P e = (i : ℕ) × (slice_get P.submitted i ≡ Some e)
-
-abbrev pub DidRun : {B : Type 0} → Past B → Vote → Type 0
-DidRun P v = (i : ℕ) × (slice_get P.runs i ≡ Some v)
-
-abbrev pub ManyHold : {B : Type 0} → Config B → Past B → Tier → ℕ → Type 0
-ManyHold c P t n = c.u < count_below (2 * c.u + 1) (holds P t n)
-
-pub record FloorOk {B : Type 0} (c : Config B) (P : Past B) (t : Tier) (g : ℕ) : Type 0 where
-  pub served : (n : ℕ) → 0 < n → n < g → (code : ℕ) × (P.server.served t n ≡ Some code)
-  pub many : (n : ℕ) → 0 < n → n < g → ManyHold c P t n
-
-pub record JobHeld {B : Type 0} (c : Config B) (P : Past B) (ws : List Want) : Type 0 where
-  pub at : (i : ℕ) (w : Want) (k : Number) → slice_get ws i ≡ Some w → w.call ≡ Some k → ManyHold c P k.tier k.num
-
-pub record RunOk {B : Type 0} (c : Config B) (P : Past B) (v : Vote) : Type 0 where
-  pub made : Round
-  pub is_round : round c.service c.depth P.log P.server.served v.round ≡ Some made
-  pub held : JobHeld c P made.wants
-  pub is_ordered : is_order (length made.job) v.order ≡ true
-  pub is_token : v.token ≡ token_of c.service made.tables.store (finish c.service made.job v.order made.tables.store)
-
--- y ran round r to this token
-abbrev pub has_run : List Vote → ℕ → List ℕ → ℕ → Bool
-has_run [] r o y = false
-has_run (v ∷ vs) r o y = ((v.round == r) && ((v.from == y) && same_token v.token o)) || has_run vs r o y
-
-abbrev pub VerdictBy : {B : Type 0} → Config B → Past B → ℕ → Round → Verdict → Type 0
-VerdictBy c P r R (Commit o order) = (is_order (length R.job) order ≡ true) × (o ≡ token_of c.service R.tables.store (finish c.service R.job order R.tables.store)) × ((n : ℕ) × (c.u < n) × ((ys : ℕ → Bool) × (count_below (2 * c.u + 1) ys ≡ n) × ((y : ℕ) → ys y ≡ true → (w : Vote) × DidRun P w × (w.round ≡ r) × (w.from ≡ y) × (same_token w.token o ≡ true)))) × ((w : Vote) × DidRun P w × (w.round ≡ r) × (w.token ≡ o) × (w.order ≡ order))
-VerdictBy c P r R Serial = (v : Vote) × (w : Vote) × DidRun P v × DidRun P w × (v.round ≡ r) × (w.round ≡ r) × (same_token v.token w.token ≡ false) × (same_token w.token w.token ≡ true → v.from ≡ w.from → ⊥)
-
-pub record VerdictOk {B : Type 0} (c : Config B) (P : Past B) (r : ℕ) (v : Verdict) : Type 0 where
-  pub made : Round
-  pub is_round : round c.service c.depth P.log P.server.served r ≡ Some made
-  pub held : JobHeld c P made.wants
-  pub by : VerdictBy c P r made v
-
-abbrev pub BatchOk : {B : Type 0} → Past B → List Entry → Type 0
-BatchOk P es = (i : ℕ) (e : Entry) → slice_get es i ≡ Some e → Submitted P e
-
-abbrev pub MidOk : {B : Type 0} → Config B → Past B → ℕ → AnyValue → Type 0
-MidOk c P p (OfMid (Batch es)) = (odd p ≡ false) × BatchOk P es
-MidOk c P p (OfBack v) = ⊥
-MidOk c P p (OfMid (Decided v)) = (odd p ≡ true) × VerdictOk c P (half p) v
-
-abbrev pub BackOk : {B : Type 0} → Config B → Past B → Tier → ℕ → AnyValue → Type 0
-BackOk c P t p (OfBack (Called n text)) = P.server.calls t n ≡ Some text
-BackOk c P t p (OfMid v) = ⊥
-BackOk c P t p (OfBack (Settled g)) = FloorOk c P t g
-
--- what is known of a message that was sent
-abbrev pub SentBy : {B : Type 0} → Config B → Past B → End → End → Msg → Type 0
-SentBy c P from to (msgs.Log p) = Unit {0}
-SentBy c P from to (msgs.Request seq text) = Submitted P (record { client = index_of from; seq = seq; body = text })
-SentBy c P from to (msgs.Reply who text) = (to ≡ Client who.client) × (P.server.replies who.client who.seq ≡ Some text)
-SentBy c P from to (msgs.Token r token order) = DidRun P (record { round = r; from = index_of from; token = token; order = order })
-SentBy c P from to (msgs.Call n text) = P.server.calls (tier_of to) n ≡ Some text
-SentBy c P from to (msgs.Answer n code) = P.server.served (tier_of from) n ≡ Some code
-SentBy c P from to (msgs.Have t n code) = (P.server.served t n ≡ Some code) × (holds P t n (index_of from) ≡ true)
-SentBy c P from to (msgs.Settle g) = FloorOk c P (tier_of to) g
-
-abbrev pub SentOk : {B : Type 0} → Config B → Past B → Packet → Type 0
-SentOk c P k = SentBy c P k.from k.to k.message
 
 -- THEY GROW
 
@@ -193,16 +113,7 @@ sent-more c P Q k g o = sent_by-more c P Q k.from k.to k.message g o
 pub parcels-more : {B : Type 0} (c : Config B) (P Q : Past B) (ks : List Packet) → Grows P Q → Every (SentOk c P) ks → Every (SentOk c Q) ks
 parcels-more c P Q ks g e = every-weaker (SentOk c P) (SentOk c Q) (λ k o. sent-more c P Q k g o) ks e
 
--- A MIDDLE NODE'Store STATE, BESIDE ITS LOG
-
-pub record MidOther {B : Type 0} (c : Config B) (P : Past B) (x : ℕ) (σ : Mid) : Type 0 where
-  pub is_after : after c.service c.depth P.log P.server.served σ.applied ≡ Some σ.tables
-  pub tables : TablesOk P.server σ.tables
-  pub pending : (y : ℕ) (e : Entry) → pending_of σ.pending y ≡ Some e → Submitted P e
-  pub tally : (i : ℕ) (v : Vote) → slice_get σ.tally i ≡ Some v → DidRun P v
-  pub spec : (v : Vote) → σ.spec ≡ Some v → DidRun P v
-  pub held : σ.held ≡ P.codes x
-  pub noted : (i : ℕ) (k : Noted) → slice_get σ.noted i ≡ Some k → holds P k.tier k.num k.from ≡ true
+-- A MIDDLE NODE'S STATE, BESIDE ITS LOG
 
 pub other-more : {B : Type 0} (c : Config B) (P Q : Past B) (x : ℕ) (σ : Mid) → Grows P Q → Q.codes x ≡ P.codes x → MidOther c P x σ → MidOther c Q x σ
 other-more c P Q x σ g e k = record {

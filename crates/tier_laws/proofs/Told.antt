@@ -199,7 +199,7 @@ caused c w r v i e =
 
 -- DURABILITY
 
-some_code : {A : Type 0} (o : Option A) → is_some o ≡ true → (a : A) × (o ≡ Some a)
+pub some_code : {A : Type 0} (o : Option A) → is_some o ≡ true → (a : A) × (o ≡ Some a)
 some_code None e = absurd (cc)
 some_code (Some a) e = (a, refl)
 
@@ -217,7 +217,7 @@ code-left (c ∷ cs) ds t n code e = go _ e (code-left cs ds t n code)
     go true f r = f
     go false f r = r f
 
-held_for : {B : Type 0} (c : Config B) (w : World B) (i : WorldOk c w) (x : ℕ) (t : Tier) (n code : ℕ) (m : Mode Mid) → MidMode c (past c w i.codes) i.h (mid_soup w.soup) x (w.mids x) m → code_of (i.codes x) t n ≡ Some code
+pub held_for : {B : Type 0} (c : Config B) (w : World B) (i : WorldOk c w) (x : ℕ) (t : Tier) (n code : ℕ) (m : Mode Mid) → MidMode c (past c w i.codes) i.h (mid_soup w.soup) x (w.mids x) m → code_of (i.codes x) t n ≡ Some code
     → (R : List (List Fact)) → StandsFor (w.mids x) m R → code_of (held_in (newest R)) t n ≡ Some code
 held_for c w i x t n code (Up σ) k e R s = subst (λ z. code_of (held_in (newest z)) t n ≡ Some code) s (ap (λ z. code_of z t n) k.is_held ∙ e)
 held_for c w i x t n code Down k e R (inl s) = subst (λ z. code_of (held_in (newest z)) t n ≡ Some code) s (ap (λ z. code_of z t n) k.is_held ∙ e)

@@ -1,5 +1,5 @@
 -- The words of the laws.
-use Rattle.std.specs.Prelude.{◌≡◌, ◌⊎◌, ◌<◌, ◌≤◌, ◌^◌, ◌+◌, ◌*◌, ℕ, Bool, true, false, List, length, Some, slice_get}
+use Rattle.std.specs.Prelude.{◌≡◌, ◌⊎◌, ◌<◌, ◌≤◌, ◌^◌, ◌+◌, ◌*◌, ℕ, Bool, true, false, List, ◌++◌, length, Some, slice_get}
 use Rattle.aeg_base.specs.Store.{Store, value_at}
 use Rattle.aeg_base.specs.declared.names.Key.{Key}
 use Rattle.svc_api.specs.Plan.{IsKey}
@@ -32,7 +32,8 @@ use Rattle.tier_model.specs.Mid.{Mid}
 use Rattle.tier_model.specs.Back.{Back}
 use Rattle.run_model.specs.World.{Config, World}
 use Rattle.run_model.specs.Histories.{back_run, floor_of}
-use Rattle.run_model.specs.Runs.{served_of}
+use Rattle.run_model.specs.Runs.{served_of, world}
+use Rattle.run_model.specs.declared.trace.TraceEvent.{TraceEvent}
 
 -- WHAT A SERVICE'S LAWS GIVE
 
@@ -176,3 +177,23 @@ pub record UsedBefore {B : Type 0} (c : Config B) (w : World B) (r : ℕ) : Type
   pub made : Round
   pub is_round : round c.service c.depth w.log (served_of c w) r ≡ Some made
   pub held : (j : ℕ) (q : Want) (k : Number) → slice_get made.wants j ≡ Some q → q.call ≡ Some k → Durable c w k.tier k.num
+
+-- HOLDERS
+
+-- After a first part of the events the node x was not gone, and each list that its disk stood for had the answer.
+pub record Holds {B : Type 0} (c : Config B) (es : List TraceEvent) (t : Tier) (n x : ℕ) : Type 0 where
+  pub before : List TraceEvent
+  pub after : List TraceEvent
+  pub is_all : es ≡ before ++ after
+  pub here : is_gone ((world c before).mids x).mode ≡ false
+  pub had : (records : List (List Fact)) → StandsFor ((world c before).mids x) ((world c before).mids x).mode records → (code : ℕ) × (code_of (held_in (newest records)) t n ≡ Some code)
+
+-- more than u of the middle nodes hold the answer
+abbrev pub ManyHolders : {B : Type 0} → Config B → List TraceEvent → Tier → ℕ → Type 0
+ManyHolders c es t n = (xs : ℕ → Bool) × (c.u < count_below (2 * c.u + 1) xs) × ((x : ℕ) → x < 2 * c.u + 1 → xs x ≡ true → Holds c es t n x)
+
+-- the round stands after the events, and each call that it waits for has many holders by then
+pub record HeldBefore {B : Type 0} (c : Config B) (es : List TraceEvent) (r : ℕ) : Type 0 where
+  pub made : Round
+  pub is_round : round c.service c.depth (world c es).log (served_of c (world c es)) r ≡ Some made
+  pub held : (j : ℕ) (q : Want) (k : Number) → slice_get made.wants j ≡ Some q → q.call ≡ Some k → ManyHolders c es k.tier k.num

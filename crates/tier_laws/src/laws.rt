@@ -9,7 +9,8 @@ ghost use Rattle.server_model.specs.declared.history.Hist.TheVariants.{Start};
 ghost use Rattle.log_model.specs.declared.message.PaxMsg.TheVariants.{Learn};
 ghost use Rattle.log_model.specs.Chosen.{Meets};
 ghost use Rattle.log_values.specs.declared.any_value.AnyValue.{AnyValue};
-ghost use Rattle.log_values.specs.declared.any_value.AnyValue.TheVariants.{Mid};
+ghost use Rattle.log_values.specs.declared.any_value.AnyValue.TheVariants.{Mid, Back};
+ghost use Rattle.log_values.specs.declared.back_value.BackValue.TheVariants.{Settle};
 ghost use Rattle.log_values.specs.declared.mid_value.MidValue.TheVariants as values;
 ghost use Rattle.log_values.specs.declared.mid_value.Verdict.{Verdict};
 ghost use Rattle.log_values.specs.declared.entry.Entry.{Entry};
@@ -22,7 +23,7 @@ ghost use Rattle.run_model.specs.declared.trace.TraceEvent.{TraceEvent};
 ghost use Rattle.run_model.specs.World.{Config};
 ghost use Rattle.run_model.specs.Histories.{HistoryStep};
 ghost use Rattle.run_model.specs.Runs.{world, is_in, log_soup, served_of};
-ghost use Rattle.tier_laws.specs.Said.{Laws, HasReply, HasCall, HasAnswer, WasSubmitted, chosen_log, HasLearned, DiskStandsFor, learned_from, MidApplied, BackServes, Caused, FewGone, Durable, UsedBefore};
+ghost use Rattle.tier_laws.specs.Said.{Laws, HasReply, HasCall, HasAnswer, WasSubmitted, chosen_log, HasLearned, DiskStandsFor, learned_from, MidApplied, BackServes, Caused, FewGone, Durable, UsedBefore, HeldBefore, ManyHolders};
 
 /// The history is legal on one server. Each reply, call and answer that was sent is one of this history, a reply goes to
 /// its own client, and so is each reply that a client took. What starts in it was submitted with that text.
@@ -74,4 +75,12 @@ pub fn durability<B>()
         → round c.service c.depth (world c es).log (served_of c (world c es)) r ≡ Some made → slice_get made.wants j ≡ Some q → q.call ≡ Some k → FewGone c (world c es) → Durable c (world c es) k.tier k.num }
     ensures before { (c : Config B) (es : List TraceEvent) (e : TraceEvent) (r : ℕ) (v : Verdict) → c.u ≤ 2 → Laws c.service → length (world c es).log ≤ 2 * r + 1 → slice_get (world c (es ++ e ∷ [])).log (2 * r + 1) ≡ Some (Mid (values.Verdict v)) → FewGone c (world c es) → UsedBefore c (world c es) r }
     ensures floors { (c : Config B) (es : List TraceEvent) (i g n : ℕ) (k : Packet) → c.u ≤ 2 → Laws c.service → slice_get (world c es).soup i ≡ Some k → k.message ≡ messages.Settle g → 0 < n → n < g → FewGone c (world c es) → Durable c (world c es) (tier_of k.to) n }
+{}
+
+/// More than u middle nodes held each call whose answer a round uses, before the event that chooses the round's verdict,
+/// each call below a floor that was sent, and each call below a floor that a backend's chosen log settles.
+pub fn holders<B>()
+    ensures used { (c : Config B) (es : List TraceEvent) (e : TraceEvent) (r : ℕ) (v : Verdict) → c.u ≤ 2 → Laws c.service → length (world c es).log ≤ 2 * r + 1 → slice_get (world c (es ++ e ∷ [])).log (2 * r + 1) ≡ Some (Mid (values.Verdict v)) → HeldBefore c es r }
+    ensures floors { (c : Config B) (es : List TraceEvent) (i g n : ℕ) (k : Packet) → c.u ≤ 2 → Laws c.service → slice_get (world c es).soup i ≡ Some k → k.message ≡ messages.Settle g → 0 < n → n < g → ManyHolders c es (tier_of k.to) n }
+    ensures settled { (c : Config B) (es : List TraceEvent) (t : Tier) (p g n : ℕ) → c.u ≤ 2 → Laws c.service → slice_get ((world c es).logs t) p ≡ Some (Back (Settle g)) → 0 < n → n < g → ManyHolders c es t n }
 {}

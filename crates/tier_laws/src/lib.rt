@@ -1,6 +1,8 @@
 //! What holds after every list of events: the laws of the three tiers, each the contract of a function with an empty body.
 #![tactic(auto)]
 
+mod booking_laws;
 mod laws;
 
-pub use laws::{agreement, applied, causes, durability, headline, real_order};
+pub use booking_laws::{booking_headline, booking_meets, programs_meet};
+pub use laws::{agreement, applied, causes, durability, headline, holders, real_order};

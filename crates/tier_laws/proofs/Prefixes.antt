@@ -1,0 +1,142 @@
+-- Who held an answer, by prefixes of the events.
+use Rattle.std.proofs.Common.{◌≡◌, ℕ, ◌+◌, ◌*◌, ◌<◌, ◌≤◌, Bool, true, false, List, [], ◌∷◌, ◌++◌, length, refl, sym, ap, ◌∙◌, subst, Option, Some, None, append_assoc}
+use Rattle.std.specs.Prelude.{slice_get}
+use Rattle.std.proofs.lemmas.List.{append-nil}
+use Rattle.aeg_base.specs.declared.names.Tier.{Tier}
+use Rattle.aeg_base.specs.declared.names.Tier.TheVariants.{Mid, Inv, Pay}
+use Rattle.log_model.specs.Chosen.{chosen_among}
+use Rattle.log_model.specs.Recover.{newest}
+use Rattle.log_values.specs.declared.any_value.AnyValue.{AnyValue}
+use Rattle.log_values.specs.declared.any_value.AnyValue.TheVariants.{Back as OfBack}
+use Rattle.log_values.specs.declared.back_value.BackValue.TheVariants.{Settle}
+use Rattle.log_values.specs.declared.fact.Fact.{Fact}
+use Rattle.log_values.specs.declared.mid_value.Verdict.{Verdict}
+use Rattle.log_values.specs.declared.any_value.AnyValue.TheVariants.{Mid as OfMid}
+use Rattle.log_values.specs.declared.mid_value.MidValue.TheVariants.{Verdict as Decided}
+use Rattle.frames.specs.declared.message.Msg.TheVariants as msgs
+use Rattle.round_model.specs.After.{round}
+use Rattle.round_model.specs.Answers.{code_of}
+use Rattle.round_model.specs.Lists.{is_some}
+use Rattle.run_model.specs.Runs.{back_chosen, back_grows, grows, log_soup, mid_chosen, mid_grows, run, world}
+use Rattle.run_model.specs.World.{Config, World, happens, start}
+use Rattle.run_model.specs.declared.trace.TraceEvent.{TraceEvent}
+use Rattle.tier_model.specs.Moves.{Packet, held_in, tier_of}
+use Rattle.tier_laws.specs.Said.{Laws, StandsFor, Holds, HeldBefore, ManyHolders, is_gone}
+use Rattle.tier_laws.proofs.Before.{verdict_before}
+use Rattle.tier_laws.proofs.Core.{Inv as WorldOk, Mid_event, past}
+use Rattle.tier_laws.proofs.Events.{happens_ok, start_ok, start_codes}
+use Rattle.tier_laws.proofs.Grow.{grows_ok, grows_codes, served_same}
+use Rattle.tier_laws.proofs.Later.{run-append}
+use Rattle.tier_laws.proofs.Logs.{meets_good}
+use Rattle.tier_laws.proofs.Past.{BackOk, FloorOk, ManyHold, VerdictOk}
+use Rattle.tier_laws.proofs.Soups.{back_soup}
+use Rattle.tier_laws.proofs.Told.{held_for, sent, some_code}
+
+-- the nodes' codes are held, by prefixes of the events
+record HeldAt {B : Type 0} (c : Config B) (es : List TraceEvent) (w : World B) : Type 0 where
+  inv : WorldOk c w
+  hold : (x : ℕ) (t : Tier) (n code : ℕ) → x < 2 * c.u + 1 → code_of (inv.codes x) t n ≡ Some code → Holds c es t n x
+
+-- ONE EVENT
+
+later : {B : Type 0} (c : Config B) (es : List TraceEvent) (e : TraceEvent) (t : Tier) (n x : ℕ) → Holds c es t n x → Holds c (es ++ e ∷ []) t n x
+later c es e t n x k = record { before = k.before; after = k.after ++ e ∷ []; is_all = ap (λ z. z ++ e ∷ []) k.is_all ∙ append_assoc k.before k.after (e ∷ []); here = k.here; had = k.had }
+
+-- what a node that isn't gone has at the world after the events
+HasNow : {B : Type 0} → World B → Tier → ℕ → ℕ → Type 0
+HasNow w t n x = (is_gone (w.mids x).mode ≡ false) × ((records : List (List Fact)) → StandsFor (w.mids x) (w.mids x).mode records → (code : ℕ) × (code_of (held_in (newest records)) t n ≡ Some code))
+
+now : {B : Type 0} (c : Config B) (es : List TraceEvent) (w : World B) → w ≡ world c es → (t : Tier) (n x : ℕ) → HasNow w t n x → Holds c es t n x
+unfolding HasNow
+now {B} c es w e t n x k =
+    let h : HasNow (world c es) t n x = subst (λ (z : World B). HasNow z t n x) e k in
+    record { before = es; after = []; is_all = sym (append-nil es); here = h.0; had = h.1 }
+
+has_now : {B : Type 0} (c : Config B) (w : World B) (i : WorldOk c w) (x : ℕ) (t : Tier) (n code : ℕ) → x < 2 * c.u + 1 → code_of (i.codes x) t n ≡ Some code → is_gone (w.mids x).mode ≡ false → HasNow w t n x
+unfolding HasNow
+has_now c w i x t n code l e g = (g, λ R s. (code, held_for c w i x t n code (w.mids x).mode (i.core.mids x l) e R s))
+
+mid_same : {B : Type 0} (c : Config B) (w : World B) (o : Option AnyValue) → (mid_chosen c w o).mids ≡ w.mids
+mid_same c w None = refl
+mid_same c w (Some v) = refl
+
+back_same : {B : Type 0} (w : World B) (t : Tier) (o : Option AnyValue) → (back_chosen w t o).mids ≡ w.mids
+back_same w t None = refl
+back_same w t (Some v) = refl
+
+-- the growth of the logs changes no node
+grows_same : {B : Type 0} (c : Config B) (w : World B) → (grows c w).mids ≡ w.mids
+grows_same {B} c w =
+    back_same two Pay (chosen_among c.u (log_soup Pay two.soup) (length (two.logs Pay)) (log_soup Pay two.soup))
+    ∙ back_same one Inv (chosen_among c.u (log_soup Inv one.soup) (length (one.logs Inv)) (log_soup Inv one.soup))
+    ∙ mid_same c w (chosen_among c.u (log_soup Mid w.soup) (length w.log) (log_soup Mid w.soup))
+  where
+    one : World B
+    one = mid_grows c w
+
+    two : World B
+    two = back_grows c Inv one
+
+held_step : {B : Type 0} (c : Config B) (es : List TraceEvent) (w : World B) (e : TraceEvent) → c.u < 128 → w ≡ world c es → HeldAt c es w → HeldAt c (es ++ e ∷ []) (grows c (happens c w e))
+held_step {B} c es w e few same k = record { inv = after; hold = λ x t n code l f. one x t n code l f (is_gone ((grows c (happens c w e)).mids x).mode) refl }
+  where
+    event : Mid_event c (past c w k.inv.codes) (happens c w e)
+    event = happens_ok c w e few k.inv
+
+    after : WorldOk c (grows c (happens c w e))
+    after = grows_ok c (past c w k.inv.codes) (happens c w e) few event
+
+    codes_same : after.codes ≡ event.codes
+    codes_same = grows_codes c (past c w k.inv.codes) (happens c w e) few event
+
+    reached : grows c (happens c w e) ≡ world c (es ++ e ∷ [])
+    reached = ap (λ (z : World B). grows c (happens c z e)) same ∙ sym (run-append c es (e ∷ []) start)
+
+    one : (x : ℕ) (t : Tier) (n code : ℕ) → x < 2 * c.u + 1 → code_of (after.codes x) t n ≡ Some code → (b : Bool) → is_gone ((grows c (happens c w e)).mids x).mode ≡ b → Holds c (es ++ e ∷ []) t n x
+    one x t n code l f false g = now c (es ++ e ∷ []) (grows c (happens c w e)) reached t n x (has_now c (grows c (happens c w e)) after x t n code l f g)
+    one x t n code l f true g =
+        let gone : is_gone ((happens c w e).mids x).mode ≡ true = ap (λ ms. is_gone (ms x).mode) (sym (grows_same c (happens c w e))) ∙ g in
+        let old : code_of (k.inv.codes x) t n ≡ Some code = ap (λ cs. code_of cs t n) (sym (event.gone_codes x gone)) ∙ ap (λ cs. code_of (cs x) t n) (sym codes_same) ∙ f in
+        later c es e t n x (k.hold x t n code l old)
+
+-- ALL EVENTS
+
+held_from : {B : Type 0} (c : Config B) (es done : List TraceEvent) (w : World B) → c.u < 128 → w ≡ world c done → HeldAt c done w → HeldAt c (done ++ es) (run c es w)
+held_from c [] done w few same k = subst (λ z. HeldAt c z w) (sym (append-nil done)) k
+held_from {B} c (e ∷ es) done w few same k =
+    subst (λ z. HeldAt c z (run c es (grows c (happens c w e)))) (append_assoc done (e ∷ []) es)
+    (held_from c es (done ++ e ∷ []) (grows c (happens c w e)) few (ap (λ (z : World B). grows c (happens c z e)) same ∙ sym (run-append c done (e ∷ []) start)) (held_step c done w e few same k))
+
+held_now : {B : Type 0} (c : Config B) (es : List TraceEvent) → c.u < 128 → Laws c.service → HeldAt c es (world c es)
+held_now c es few laws = held_from c es [] start few refl (record { inv = start_ok c laws; hold = λ x t n code l e. absurd (let f : None ≡ Some code = sym (ap (λ cs. code_of cs t n) (start_codes c laws x)) ∙ e in cc) })
+
+many_holders : {B : Type 0} (c : Config B) (es : List TraceEvent) (k : HeldAt c es (world c es)) (t : Tier) (n : ℕ) → ManyHold c (past c (world c es) k.inv.codes) t n → ManyHolders c es t n
+many_holders c es k t n many = ((λ x. is_some (code_of (k.inv.codes x) t n)), many, λ x l e. let a = some_code (code_of (k.inv.codes x) t n) e in k.hold x t n a.0 l a.1)
+
+-- WHO HOLDS WHAT IS USED, TOLD OR SETTLED
+
+pub round_holders : {B : Type 0} (c : Config B) (es : List TraceEvent) (e : TraceEvent) (r : ℕ) (v : Verdict) → c.u < 128 → Laws c.service → length (world c es).log ≤ 2 * r + 1 → slice_get (world c (es ++ e ∷ [])).log (2 * r + 1) ≡ Some (OfMid (Decided v)) → HeldBefore c es r
+round_holders {B} c es e r v few laws l f = record {
+  made = o.made;
+  is_round = subst (λ A. round c.service c.depth (world c es).log A r ≡ Some o.made) (sym (served_same c (world c es) k.inv.codes k.inv.h k.inv.k k.inv.core)) o.is_round;
+  held = λ j q n g h. many_holders c es k n.tier n.num (o.held.at j q n g h);
+}
+  where
+    k : HeldAt c es (world c es)
+    k = held_now c es few laws
+
+    o : VerdictOk c (past c (world c es) k.inv.codes) r v
+    o = verdict_before c es e r v few k.inv l f
+
+pub floor_holders : {B : Type 0} (c : Config B) (es : List TraceEvent) (place g n : ℕ) (p : Packet) → c.u < 128 → Laws c.service → slice_get (world c es).soup place ≡ Some p → p.message ≡ msgs.Settle g → 0 < n → n < g → ManyHolders c es (tier_of p.to) n
+floor_holders c es place g n p few laws e f a b =
+    let k = held_now c es few laws in
+    many_holders c es k (tier_of p.to) n ((sent c (world c es) place p (msgs.Settle g) k.inv e f).many n a b)
+
+pub settled_holders : {B : Type 0} (c : Config B) (es : List TraceEvent) (t : Tier) (p g n : ℕ) → c.u < 128 → Laws c.service → slice_get ((world c es).logs t) p ≡ Some (OfBack (Settle g)) → 0 < n → n < g → ManyHolders c es t n
+settled_holders {B} c es t p g n few laws e a b =
+    let k = held_now c es few laws in
+    let w : World B = world c es in
+    let part = k.inv.core.back_log t in
+    let o : FloorOk c (past c w k.inv.codes) t g = meets_good c.u (k.inv.k t) (back_soup t w.soup) (w.logs t) (BackOk c (past c w k.inv.codes) t) p (OfBack (Settle g)) part (part.sound p (OfBack (Settle g)) e) in
+    many_holders c es k t n (o.many n a b)

@@ -1,0 +1,233 @@
+-- The outcome of a job has a spelling, so that its token is read as that outcome.
+use Rattle.std.proofs.Common.{◌≡◌, ℕ, zero, suc, ◌+◌, ◌*◌, ◌<◌, ◌≤◌, Bool, true, false, cond, List, [], ◌∷◌, length, map, refl, sym, ap, ◌∙◌, subst, Some, None, arith, lit≤}
+use Rattle.std.specs.Prelude.{slice_get, T, nat_lt, ◌==◌, ◌&&◌, ◌||◌}
+use Rattle.std.proofs.lemmas.Bool.{and_from, and_parts, eq-eqb, eqb-true, ltb-true}
+use Rattle.std.proofs.lemmas.Bool.Decides.{nat_tests}
+use Rattle.std.proofs.lemmas.List.{append-nil, length-map}
+use Rattle.std.specs.List.{AllByRecursion}
+use Rattle.std.specs.Ordering.{ordering_then, is_lt}
+use Rattle.std.specs.declared.cmp.Ordering.TheVariants.{Less, Equal, Greater}
+use Rattle.std.specs.FinMap.Entries.{put, is_sorted, below_all, is_sorted-put}
+use Rattle.aeg_base.specs.Store.{Store, key_cmp, same_key, value_at, pairs_of}
+use Rattle.aeg_base.specs.declared.names.Key.{Key}
+use Rattle.aeg_base.proofs.StoreLaws.{key_cmp_total}
+use Rattle.svc_api.specs.Plan.{IsKey, IsEnding}
+use Rattle.svc_api.specs.Segment.{Segment}
+use Rattle.svc_api.specs.declared.outcome.Outcome.{Outcome}
+use Rattle.exec_model.specs.declared.job.Seg.{Seg}
+use Rattle.exec_model.specs.Jobs.{plan_at}
+use Rattle.aeg_base.specs.Changes.{changed_among, changes}
+use Rattle.exec_model.specs.Outcomes as outcomes
+use Rattle.log_values.specs.Outcomes.{outcome, outcome_at, is_key_below, rises, FitsPair, FitsOutcome}
+use Rattle.log_values.specs.Reading.{whole}
+use Rattle.log_values.proofs.OutcomeGrammar.{outcome_grammar}
+use Rattle.aeg_wire.specs.Fields.{Read}
+use Rattle.round_model.specs.Lists.{tabulate}
+use Rattle.round_model.specs.Service.{Service, segment, serial, serial_end, times, all_below, each_once, is_order, finish}
+use Rattle.tier_laws.specs.Said.{IsStore, IsJob}
+use Rattle.aeg_base.proofs.ChangeLaws.{all_among, key_parts, same_itself}
+use Rattle.tier_laws.proofs.Legal.{once-at, length-tabulate}
+use Rattle.tier_laws.proofs.Services.Pigeons.{has, IsOnce, Tells, no_longer}
+use Rattle.tier_laws.proofs.Services.Serial.{Agrees, segment_is, serial_is}
+use Rattle.tier_laws.proofs.Services.Stores.{AreProper, AreBounded, bounded, one_store_in, one_end_in, serial_in, all_wrote, few_keys, kept_value}
+
+-- THE KEYS RISE
+
+first : (a b : Bool) → T (a && b) → T a
+first true b p = tt
+first false b p = p
+
+second : (a b : Bool) → T (a && b) → T b
+second true b p = p
+second false b p = absurd p
+
+below_is : (a b : Key) → T (is_lt (key_cmp a b)) → is_key_below a b ≡ true
+below_is a b h = at (nat_lt a.class b.class) (a.class == b.class) (nat_lt a.id b.id) (a.id == b.id) h
+  where
+    at : (c d e f : Bool) → T (is_lt (ordering_then (cond c Less (cond d Equal Greater)) (cond e Less (cond f Equal Greater)))) → (c || (d && e)) ≡ true
+    at true d e f h = refl
+    at false true true f h = refl
+    at false true false true h = absurd h
+    at false true false false h = absurd h
+    at false false e f h = absurd h
+
+rises_from : (last : Key) (es : List (Key × ℕ)) → T (below_all key_cmp last es) → T (is_sorted key_cmp es) → rises (Some last) es ≡ true
+rises_from last [] b s = refl
+rises_from last (e ∷ es) b s =
+    and_from (is_key_below last e.0) (rises (Some e.0) es) (below_is last e.0 (first (is_lt (key_cmp last e.0)) (below_all key_cmp last es) b))
+    (rises_from e.0 es (first (below_all key_cmp e.0 es) (is_sorted key_cmp es) s) (second (below_all key_cmp e.0 es) (is_sorted key_cmp es) s))
+
+rises_all : (es : List (Key × ℕ)) → T (is_sorted key_cmp es) → rises None es ≡ true
+rises_all [] s = refl
+rises_all (e ∷ es) s = rises_from e.0 es (first (below_all key_cmp e.0 es) (is_sorted key_cmp es) s) (second (below_all key_cmp e.0 es) (is_sorted key_cmp es) s)
+
+sorted_among : (s t : Store) (es ps : List (Key × ℕ)) → T (is_sorted key_cmp ps) → T (is_sorted key_cmp (changed_among s t es ps))
+sorted_among s t [] ps h = h
+sorted_among s t (e ∷ es) ps h = sorted_among s t es (cond (value_at s e.0 == value_at t e.0) ps (put key_cmp e.0 (value_at t e.0) ps)) (at (value_at s e.0 == value_at t e.0))
+  where
+    at : (c : Bool) → T (is_sorted key_cmp (cond c ps (put key_cmp e.0 (value_at t e.0) ps)))
+    at true = h
+    at false = is_sorted-put key_cmp key_cmp_total e.0 (value_at t e.0) ps h
+
+pub sorted_changes : (s t : Store) → T (is_sorted key_cmp (changes s t))
+sorted_changes s t = sorted_among s t (pairs_of t) (changed_among s t (pairs_of s) []) (sorted_among s t (pairs_of s) [] tt)
+
+-- THEY ARE KEYS OF STORES, WHOSE VALUES DIFFER
+
+abbrev Changed : Store → Store → Key × ℕ → Type 0
+Changed s t p = FitsPair p × ((value_at s p.0 == value_at t p.0) ≡ false)
+
+changed_key : (s t : Store) (k : Key) → IsStore s → IsStore t → (value_at s k == value_at t k) ≡ false → IsKey k
+changed_key s t k a b d = at (value_at s k == 0) refl
+  where
+    at : (c : Bool) → (value_at s k == 0) ≡ c → IsKey k
+    at false e = a.keys k (λ z. let f : (value_at s k == 0) ≡ true = eq-eqb (value_at s k) 0 z in cc)
+    at true e = b.keys k (λ z. let f : (value_at s k == value_at t k) ≡ true = eq-eqb (value_at s k) (value_at t k) (eqb-true (value_at s k) 0 e ∙ sym z) in cc)
+
+changed_at : (s t : Store) → IsStore s → IsStore t → (k : Key) → (value_at s k == value_at t k) ≡ false → Changed s t (k, value_at t k)
+changed_at s t a b k d = ((changed_key s t k a b d, b.values k), d)
+
+changes_fit : (s t : Store) → IsStore s → IsStore t → AllByRecursion (Changed s t) (changes s t)
+changes_fit s t a b =
+    all_among (Changed s t) s t (changed_at s t a b) (pairs_of t) (changed_among s t (pairs_of s) [])
+    (all_among (Changed s t) s t (changed_at s t a b) (pairs_of s) [] tt)
+
+all_fit : (s t : Store) (ps : List (Key × ℕ)) → AllByRecursion (Changed s t) ps → AllByRecursion FitsPair ps
+all_fit s t [] a = tt
+all_fit s t (p ∷ ps) a = (a.0.0, all_fit s t ps a.1)
+
+-- THEY ARE FEW
+
+key_tells : Tells same_key
+key_tells = record { equal = key_parts; itself = same_itself }
+
+keys_of : List (Key × ℕ) → List Key
+keys_of ps = map (λ (p : Key × ℕ). p.0) ps
+
+apart_from : (last : Key) (es : List (Key × ℕ)) → T (below_all key_cmp last es) → has same_key (keys_of es) last ≡ false
+unfolding keys_of
+apart_from last [] b = refl
+apart_from last (e ∷ es) b = at (same_key last e.0) refl (apart_from last es (second (is_lt (key_cmp last e.0)) (below_all key_cmp last es) b))
+  where
+    never : (a b : Key) → is_key_below a b ≡ true → same_key a b ≡ true → ⊥
+    never a b f g = grind (arith, nat_tests)
+
+    at : (c : Bool) → same_key last e.0 ≡ c → has same_key (keys_of es) last ≡ false → (c || has same_key (keys_of es) last) ≡ false
+    at false f r = r
+    at true f r = absurd (never last e.0 (below_is last e.0 (first (is_lt (key_cmp last e.0)) (below_all key_cmp last es) b)) f)
+
+once_keys : (es : List (Key × ℕ)) → T (is_sorted key_cmp es) → IsOnce same_key (keys_of es)
+unfolding keys_of
+once_keys [] s = tt
+once_keys (e ∷ es) s = (apart_from e.0 es (first (below_all key_cmp e.0 es) (is_sorted key_cmp es) s), once_keys es (second (below_all key_cmp e.0 es) (is_sorted key_cmp es) s))
+
+differs_at : (s t : Store) (ps : List (Key × ℕ)) (q : Key) → AllByRecursion (Changed s t) ps → has same_key (keys_of ps) q ≡ true → (value_at s q == value_at t q) ≡ false
+unfolding keys_of
+differs_at s t [] q a h = absurd (cc)
+differs_at s t (p ∷ ps) q a h = at (same_key q p.0) refl h (differs_at s t ps q a.1)
+  where
+    at : (c : Bool) → same_key q p.0 ≡ c → (c || has same_key (keys_of ps) q) ≡ true → (has same_key (keys_of ps) q ≡ true → (value_at s q == value_at t q) ≡ false) → (value_at s q == value_at t q) ≡ false
+    at true e f rec = subst (λ (k : Key). (value_at s k == value_at t k) ≡ false) (sym (key_parts q p.0 e)) a.0.1
+    at false e f rec = rec f
+
+few_changes : (s t : Store) (wrote : List Key) → IsStore s → IsStore t → ((q : Key) → has same_key wrote q ≡ false → value_at t q ≡ value_at s q) → length (changes s t) ≤ length wrote
+unfolding keys_of
+few_changes s t wrote a b kept = omega (arith, length-map (changes s t) (λ (p : Key × ℕ). p.0), no_longer same_key key_tells (keys_of (changes s t)) wrote (once_keys (changes s t) (sorted_changes s t)) (λ q h. at q (has same_key wrote q) refl (differs_at s t (changes s t) q (changes_fit s t a b) h)))
+  where
+    at : (q : Key) (c : Bool) → has same_key wrote q ≡ c → (value_at s q == value_at t q) ≡ false → c ≡ true
+    at q true e d = refl
+    at q false e d = absurd (let f : (value_at s q == value_at t q) ≡ true = eq-eqb (value_at s q) (value_at t q) (sym (kept q e)) in cc)
+
+-- AN ORDER IS NO LONGER THAN ITS JOB
+
+number_tells : Tells {A = ℕ} (λ a b. a == b)
+number_tells = record { equal = eqb-true; itself = λ x. eq-eqb x x refl }
+
+has_times : (x : ℕ) (xs : List ℕ) → has (λ a b. a == b) xs x ≡ true → 0 < times x xs
+has_times x [] h = absurd (cc)
+has_times x (y ∷ ys) h = at (x == y) refl h (has_times x ys)
+  where
+    at : (c : Bool) → (x == y) ≡ c → (c || has (λ a b. a == b) ys x) ≡ true → (has (λ a b. a == b) ys x ≡ true → 0 < times x ys) → 0 < cond (y == x) 1 0 + times x ys
+    at true e f rec = let g : ◌≡◌ {A = ℕ} (cond (y == x) 1 0) 1 = ap {B = ℕ} (λ b. cond b 1 0) (eq-eqb y x (sym (eqb-true x y e))) in omega (arith, g)
+    at false e f rec = let g = rec f in omega (arith, g)
+
+once_in : (n : ℕ) (xs : List ℕ) → all_below n xs ≡ true → ((i : ℕ) → i < n → times i xs ≤ 1) → IsOnce (λ a b. a == b) xs
+once_in n [] a h = tt
+once_in n (x ∷ xs) a h =
+    let p = and_parts (nat_lt x n) (all_below n xs) a in
+    (none (has (λ a b. a == b) xs x) refl (h x (omega (arith, ltb-true x n p.0))), once_in n xs p.1 (λ i l. omega (arith, h i l)))
+  where
+    none : (c : Bool) → has (λ a b. a == b) xs x ≡ c → times x (x ∷ xs) ≤ 1 → c ≡ false
+    none false e l = refl
+    none true e l = let g : ◌≡◌ {A = ℕ} (cond (x == x) 1 0) 1 = ap {B = ℕ} (λ b. cond b 1 0) (eq-eqb x x refl) in let k = has_times x xs e in absurd (omega (arith, g, k, l))
+
+member_below : (n : ℕ) (xs : List ℕ) (z : ℕ) → all_below n xs ≡ true → has (λ a b. a == b) xs z ≡ true → z < n
+member_below n [] z a h = absurd (cc)
+member_below n (x ∷ xs) z a h = at (z == x) refl h (member_below n xs z (and_parts (nat_lt x n) (all_below n xs) a).1)
+  where
+    at : (c : Bool) → (z == x) ≡ c → (c || has (λ a b. a == b) xs z) ≡ true → (has (λ a b. a == b) xs z ≡ true → z < n) → z < n
+    at true e f rec = omega (arith, eqb-true z x e, ltb-true x n (and_parts (nat_lt x n) (all_below n xs) a).0)
+    at false e f rec = rec f
+
+has_tabulate : (n : ℕ) (f : ℕ → ℕ) (i : ℕ) → i < n → has (λ a b. a == b) (tabulate n f) (f i) ≡ true
+has_tabulate zero f i l = absurd (omega (arith, l))
+has_tabulate (suc n) f zero l = ap (λ b. b || has (λ a b. a == b) (tabulate n (λ k. f (suc k))) (f 0)) (eq-eqb (f 0) (f 0) refl)
+has_tabulate (suc n) f (suc i) l = later (f (suc i) == f 0) (has_tabulate n (λ k. f (suc k)) i (omega (arith, l)))
+  where
+    later : (c : Bool) → has (λ a b. a == b) (tabulate n (λ k. f (suc k))) (f (suc i)) ≡ true → (c || has (λ a b. a == b) (tabulate n (λ k. f (suc k))) (f (suc i))) ≡ true
+    later true h = refl
+    later false h = h
+
+order_short : (n : ℕ) (order : List ℕ) → is_order n order ≡ true → length order ≤ n
+order_short n order e =
+    let p = and_parts (all_below n order) (each_once n order) e in
+    omega (
+      arith,
+      length-tabulate n (λ i. i),
+      no_longer (λ a b. a == b) number_tells order (tabulate n (λ i. i))
+          (once_in n order p.0 (λ i l. let o = once-at n i order l p.1 in omega (arith, o))) (λ z h. has_tabulate n (λ i. i) z (member_below n order z p.0 h)),
+    )
+
+-- THE ENDS
+
+pub serial_end_in : {B : Type 0} (m : Service B) → Agrees m → (J : List Seg) → AreBounded (plan_at m.begins J) → (order : List ℕ) (s : Store) (k : ℕ) → IsStore s → IsEnding (serial_end m J order s k)
+serial_end_in m a J b [] s k st = lit≤ tt
+serial_end_in {B} m a J b (i ∷ is) s k st = at (i == k) (serial_end_in m a J b is (segment m (slice_get J i) s).store k (subst (λ (g : Segment). IsStore g.store) (segment_is m a J i s) (one_store_in (plan_at m.begins J) b i s st)))
+  where
+    at : (c : Bool) → IsEnding (serial_end m J is (segment m (slice_get J i) s).store k) → IsEnding (cond c (segment m (slice_get J i) s).ending (serial_end m J is (segment m (slice_get J i) s).store k))
+    at true r = subst (λ (g : Segment). IsEnding g.ending) (segment_is m a J i s) (one_end_in (plan_at m.begins J) b i s st)
+    at false r = r
+
+all_tabulate : {A : Type 0} (P : A → Type 0) (n : ℕ) (f : ℕ → A) → ((i : ℕ) → P (f i)) → AllByRecursion P (tabulate n f)
+all_tabulate P zero f h = tt
+all_tabulate P (suc n) f h = (h 0, all_tabulate P n (λ i. f (suc i)) (λ i. h (suc i)))
+
+-- THE OUTCOME
+
+pub store_is_in : {B : Type 0} (m : Service B) → Agrees m → AreProper m.begins → (J : List Seg) (order : List ℕ) (s : Store) → IsJob J → IsStore s → IsStore (serial m J order s)
+store_is_in m a p J order s job st = subst IsStore (serial_is m a J order s) (serial_in (plan_at m.begins J) (bounded m.begins p J job) order s st)
+
+pub outcome_fits : {B : Type 0} (m : Service B) → Agrees m → AreProper m.begins → (J : List Seg) (order : List ℕ) (s : Store) → IsJob J → is_order (length J) order ≡ true → IsStore s
+    → FitsOutcome (outcomes.outcome s (finish m J order s).store (finish m J order s).ends)
+outcome_fits {B} m a p J order s job o st = record {
+  count = omega (arith, few, short, order_short (length J) order o, job.short);
+  pairs = all_fit s (serial m J order s) (changes s (serial m J order s)) (changes_fit s (serial m J order s) st after);
+  sorted = rises_all (changes s (serial m J order s)) (sorted_changes s (serial m J order s));
+  end_count = omega (arith, length-tabulate (length J) (serial_end m J order s), job.short);
+  ends = all_tabulate IsEnding (length J) (serial_end m J order s) (λ k. serial_end_in m a J b order s k st);
+}
+  where
+    b : AreBounded (plan_at m.begins J)
+    b = bounded m.begins p J job
+
+    after : IsStore (serial m J order s)
+    after = store_is_in m a p J order s job st
+
+    few : length (changes s (serial m J order s)) ≤ length (all_wrote (plan_at m.begins J) s order)
+    few = few_changes s (serial m J order s) (all_wrote (plan_at m.begins J) s order) st after (λ q h. ap (λ (t : Store). value_at t q) (sym (serial_is m a J order s)) ∙ kept_value (plan_at m.begins J) order s q h)
+
+    short : length (all_wrote (plan_at m.begins J) s order) ≤ 8 * length order
+    short = few_keys (plan_at m.begins J) b order s st
+
+pub token_read : (o : Outcome) → FitsOutcome o → whole (outcome_at (outcome o)) ≡ Some o
+token_read o fits = ap (λ (r : Read Outcome). whole r) (ap outcome_at (sym (append-nil (outcome o))) ∙ outcome_grammar.again o [] fits)
