@@ -1,0 +1,205 @@
+-- The rows of a backend node while nothing is run are those of its log, which no value reaches.
+use Rattle.std.proofs.Common.{◌≡◌, ℕ, ◌+◌, ◌*◌, ◌<◌, ◌≤◌, Bool, true, false, cond, List, [], ◌∷◌, ◌++◌, length, map, replicate, refl, sym, ap, ◌∙◌, subst, arith, Option, Some, None, Result, Ok, Err, zero, suc}
+use Rattle.std.specs.Prelude.{slice_get, nat_lt, nat_le, ◌==◌, ◌&&◌, not, IfSome}
+use Rattle.std.specs.List.{AllByRecursion}
+use Rattle.std.proofs.lemmas.Bool.{cond-true, cond-false, cond_both}
+use Rattle.aeg_base.specs.declared.limits.TheConstants.{POSITIONS}
+use Rattle.aeg_base.specs.declared.names.Ballot.{Ballot}
+use Rattle.aeg_base.specs.declared.names.End.{End}
+use Rattle.aeg_base.specs.declared.names.Tier.{Tier}
+use Rattle.aeg_base.specs.declared.names.Tier.TheVariants.{Mid as InMid, Inv, Pay}
+use Rattle.svc_api.specs.Plan.{IsBackend}
+use Rattle.server_model.specs.Backends.{Amounts}
+use Rattle.log_model.specs.declared.message.PaxMsg.{PaxMsg}
+use Rattle.log_model.specs.declared.turn.Offering.{Offering}
+use Rattle.log_model.specs.declared.turn.Offering.TheVariants.{NotLeader, NoPromises, InFlight, LogFull, Taken, Free}
+use Rattle.log_model.specs.Log.{Leader, LogState, Turn, open_at, is_at, is_none}
+use Rattle.log_model.specs.Rows.{offer, wants as log_wants, wants_as, on_msg, promised_by, is_taken}
+use Rattle.log_model.specs.Ranges.{IsVoteIn, IsLeaderIn, IsLogIn, IsSendIn}
+use Rattle.log_model.specs.Recover.{recover}
+use Rattle.log_model.specs.World.Mode.{Up}
+use Rattle.log_model.proofs.Rows.{no_from}
+use Rattle.log_values.specs.declared.any_value.AnyValue.{AnyValue}
+use Rattle.log_values.specs.Fields.{FitsBallot}
+use Rattle.log_values.proofs.BoolTests.{lt_true}
+use Rattle.frames.specs.declared.message.Msg.TheVariants as msgs
+use Rattle.frames.specs.declared.turn.Turn.{Turn as Answer}
+use Rattle.frames.specs.declared.turn.Turn.TheVariants.{Did, Idle as Idles}
+use Rattle.frames.specs.declared.turn.Idle.{Idle}
+use Rattle.frames.specs.declared.turn.Idle.TheVariants as why
+use Rattle.frames.specs.declared.turn.Fault.{Fault}
+use Rattle.frames.specs.declared.turn.Fault.TheVariants as faults
+use Rattle.round_model.specs.Lists.{is_some}
+use Rattle.round_model.specs.Copies.{floor_at, many_at_least, greater, due_among, due}
+use Rattle.tier_model.specs.Moves.{index_of, is_node_of, Move, idles, drops, says, log_packets, asks, as_fact, log_answer, offer_cause}
+use Rattle.tier_model.specs.Back.{Back, with_log, new_value, value_state, value_tells, in_log}
+use Rattle.tier_model.specs.BackRows.{recovered, on_frame, own_value, offers_as, offers, retry}
+use Rattle.run_model.specs.BookingRuns.{booking_service}
+use Rattle.world.specs.Parts.{CanStand, AllReach, NodePart, as_back, Makes, BackView, BackMoves, new_part, sealed}
+use Rattle.world.specs.LogNodes.{LogView, IsRanged, log_itself, log_move, Turns}
+use Rattle.world.proofs.Sending.{all_reach, sends_fit, are_fit}
+use Rattle.world.proofs.MidMoves.{nothing_more, on_ok, none_fit, none_reach}
+use Rattle.world.proofs.MidOffers.{asks_in}
+
+-- what contracts see of a backend node with this log
+abbrev pub back_view : LogView → BackView
+back_view n = record { faults = n.faults; tier = n.tier; me = n.me; part = n.part }
+
+-- NOTHING IS LEARNED OR REPORTED
+
+no_value : (t : Tier) (p : ℕ) (v : AnyValue) → IsBackend t → CanStand t p v → ⊥
+no_value InMid p v b k = absurd b
+no_value Inv p v b k = k
+no_value Pay p v b k = k
+
+none_learned : (t : Tier) (log : LogState AnyValue) → IsBackend t → IsLogIn (CanStand t) FitsBallot log → length log.learned ≡ 0
+none_learned t log b k = go log.learned k.learned
+  where
+    go : (xs : List AnyValue) → ((p : ℕ) (v : AnyValue) → slice_get xs p ≡ Some v → CanStand t p v) → length xs ≡ 0
+    go [] f = refl
+    go (v ∷ xs) f = absurd (no_value t 0 v b (f 0 v refl))
+
+no_report : (t : Tier) (p : ℕ) (o : Option (Ballot × AnyValue)) → IsBackend t → IsVoteIn (CanStand t) FitsBallot p o → is_none o ≡ true
+no_report t p None b k = refl
+no_report t p (Some a) b k = absurd (no_value t p a.1 b k.1.1)
+
+nothing_new : (old new : LogState AnyValue) → length new.learned ≡ 0 → new_value old new ≡ None
+nothing_new old new e = cond-false (nat_lt (length old.learned) (length new.learned)) (slice_get new.learned (length old.learned)) None
+    (no_from (nat_lt (length old.learned) (length new.learned)) (λ t. let l : length old.learned < length new.learned = lt_true (length old.learned) (length new.learned) t in omega arith))
+
+abbrev back_move : ℕ → Tier → ℕ → Turn AnyValue → Move (Back Amounts)
+back_move u t x turn = record { state = as_back u t turn.state; facts = map as_fact turn.facts; sends = log_packets t x turn.sends; answer = log_answer turn.idle }
+
+in_log_is : (u : ℕ) (t : Tier) (x : ℕ) (log : LogState AnyValue) (turn : Turn AnyValue) → length turn.state.learned ≡ 0 → in_log u booking_service t x (as_back u t log) turn ≡ back_move u t x turn
+in_log_is u t x log turn e =
+    ap (λ v. record { state = value_state booking_service t (with_log (as_back u t log) turn.state) v; facts = map as_fact turn.facts; sends = log_packets t x turn.sends ++ value_tells u booking_service t x (with_log (as_back u t log) turn.state) v; answer = log_answer turn.idle })
+    (nothing_new log turn.state e)
+    ∙ ap (λ ks. record { state = as_back u t turn.state; facts = map as_fact turn.facts; sends = ks; answer = log_answer turn.idle }) (nothing_more (log_packets t x turn.sends))
+
+-- FROM THE LOG'S MOVES TO THE NODE'S
+
+back_makes : (u : ℕ) (t : Tier) (x : ℕ) (old new : NodePart (LogState AnyValue)) (before after : List (End × List ℕ)) (turn : Turn AnyValue) (result : Result Answer Fault)
+    → Makes log_itself old new before after (log_move t x turn) result → Makes (as_back u t) old new before after (back_move u t x turn) result
+back_makes u t x old new before after turn (Ok answer) k = (k.0, (k.1.0, k.1.1, ap (λ z. as_back u t z) k.1.2), k.2, k.3, k.4, k.5)
+back_makes u t x old new before after turn (Err (faults.JournalFull n)) k = k
+back_makes u t x old new before after turn (Err faults.Memory) k = tt
+back_makes u t x old new before after turn (Err faults.Disk) k = absurd k
+back_makes u t x old new before after turn (Err (faults.BadRecord n)) k = absurd k
+
+pub back_turns : (old new : LogView) (now : BackView) (before after : List (End × List ℕ)) (t : LogState AnyValue → Turn AnyValue) (move : ℕ → Tier → ℕ → Back Amounts → Move (Back Amounts)) (result : Result Answer Fault)
+    → back_view old ≡ now → IsBackend old.tier → old.me < 2 * old.faults + 1 → Turns old new before after t result
+    → ((log : LogState AnyValue) → old.part.mode ≡ Up log → move old.faults old.tier old.me (as_back old.faults old.tier log) ≡ in_log old.faults booking_service old.tier old.me (as_back old.faults old.tier log) (t log))
+    → BackMoves now (back_view new) before after (move now.faults now.tier now.me) result
+back_turns old new now before after t move result v b l k f = subst (λ (z : BackView). BackMoves z (back_view new) before after (move z.faults z.tier z.me) result) v (record {
+  row = λ log e. subst (λ z. Makes (as_back old.faults old.tier) old.part new.part before after z result) (sym (is log e)) (back_makes old.faults old.tier old.me old.part new.part before after (t log) result (k.row log e));
+  reach = on_ok result (λ log e. subst (λ (z : Move (Back Amounts)). AllReach old.faults z.sends) (sym (is log e)) (all_reach old.faults old.tier old.me (t log).sends l (k.range log e).sends));
+  same = k.same;
+})
+  where
+    is : (log : LogState AnyValue) → old.part.mode ≡ Up log → move old.faults old.tier old.me (as_back old.faults old.tier log) ≡ back_move old.faults old.tier old.me (t log)
+    is log e = f log e ∙ in_log_is old.faults old.tier old.me log (t log) (none_learned old.tier (t log).state b (k.range log e).state)
+
+pub back_quiet : (now : BackView) (out : List (End × List ℕ)) (move : Back Amounts → Move (Back Amounts)) (answer : Answer) → ((log : LogState AnyValue) → now.part.mode ≡ Up log → move (as_back now.faults now.tier log) ≡ record { state = as_back now.faults now.tier log; facts = []; sends = []; answer = answer })
+    → BackMoves now now out out move (Ok answer)
+back_quiet now out move answer f = record {
+  row = λ log e. subst (λ z. Makes (as_back now.faults now.tier) now.part now.part out out z (Ok answer)) (sym (f log e)) (refl, (log, e, refl), refl, sym (nothing_more out), none_fit, refl);
+  reach = λ log e. subst (λ (z : Move (Back Amounts)). AllReach now.faults z.sends) (sym (f log e)) (none_reach now.faults);
+  same = (refl, (refl, refl));
+}
+
+pub frame_log : (u : ℕ) (t : Tier) (x : ℕ) (log : LogState AnyValue) (from : End) (m : PaxMsg AnyValue) (i : ℕ) → is_node_of u t from ≡ true → i ≡ index_of from
+    → on_frame u booking_service t x (as_back u t log) from (msgs.Log m) ≡ in_log u booking_service t x (as_back u t log) (on_msg u log i m)
+frame_log u t x log from m i e f =
+    cond-true (is_node_of u t from) (in_log u booking_service t x (as_back u t log) (on_msg u log (index_of from) m)) (drops (as_back u t log) 7) e
+    ∙ ap (λ z. in_log u booking_service t x (as_back u t log) (on_msg u log z m)) (sym f)
+
+-- OFFERS
+
+floors_low : (n y : ℕ) → floor_at (replicate n 1) y ≤ 1
+floors_low zero y = omega arith
+floors_low (suc n) zero = omega arith
+floors_low (suc n) (suc y) = floors_low n y
+
+greater_low : (a b : ℕ) → a ≤ 1 → b ≤ 1 → greater a b ≤ 1
+greater_low a b l k = cond_both (nat_le a b) b a (λ z. z ≤ 1) (λ e. k) (λ e. l)
+
+due_low : (u n k : ℕ) → due_among u (replicate n 1) k ≤ 1
+due_low u n zero = omega arith
+due_low u n (suc k) = greater_low (due_among u (replicate n 1) k) _ (due_low u n k) (cond_both (many_at_least u (replicate n 1) (floor_at (replicate n 1) k)) (floor_at (replicate n 1) k) 0 (λ z. z ≤ 1) (λ e. floors_low n k) (λ e. omega arith))
+
+nothing_own : (u : ℕ) (t : Tier) (log : LogState AnyValue) → own_value u (as_back u t log) ≡ None
+nothing_own u t log = cond-false (nat_lt 1 (due u (replicate (2 * u + 1) 1))) _ None
+    (no_from (nat_lt 1 (due u (replicate (2 * u + 1) 1))) (λ e. let l : 1 < due u (replicate (2 * u + 1) 1) = lt_true 1 (due u (replicate (2 * u + 1) 1)) e in let k : due u (replicate (2 * u + 1) 1) ≤ 1 = due_low u (2 * u + 1) (2 * u + 1) in omega arith))
+
+-- no value was reported
+never_taken : (u : ℕ) (t : Tier) (log : LogState AnyValue) (o : Option (Leader AnyValue)) → IsBackend t → (l : Leader AnyValue) → IsLeaderIn (CanStand t) FitsBallot l → is_taken (open_at log) l ≡ false
+never_taken u t log o b l k = go (open_at log == l.led_at) (is_none l.best) (no_report t l.led_at l.best b k.best)
+  where
+    go : (a n : Bool) → n ≡ true → (a && not n) ≡ false
+    go true true e = refl
+    go true false e = absurd (cc)
+    go false n e = refl
+
+abbrev NotTaken : Offering → Type 0
+NotTaken NotLeader = Unit {0}
+NotTaken (NoPromises h) = Unit {0}
+NotTaken (InFlight p) = Unit {0}
+NotTaken LogFull = Unit {0}
+NotTaken Taken = ⊥
+NotTaken (Free p) = Unit {0}
+
+wants_other : (u : ℕ) (t : Tier) (log : LogState AnyValue) → IsBackend t → IsLogIn (CanStand t) FitsBallot log → NotTaken (log_wants u log)
+wants_other u t log b k = go log.leader k.leader
+  where
+    go : (o : Option (Leader AnyValue)) → IfSome o (IsLeaderIn (CanStand t) FitsBallot) → NotTaken (wants_as u log o)
+    go None n = tt
+    go (Some l) n = cond_both (nat_le (promised_by u l) u) _ _ NotTaken (λ e. tt) (λ e. cond_both (open_at log == POSITIONS) _ _ NotTaken (λ e. tt) (λ e. cond_both (is_at l.last (open_at log)) _ _ NotTaken (λ e. tt)
+        (λ e. cond_both (is_taken (open_at log) l) Taken (Free (open_at log)) NotTaken (λ e. absurd (let f = never_taken u t log (Some l) b l n in cc)) (λ e. tt))))
+
+offer_idle : (u : ℕ) (t : Tier) (x : ℕ) (log : LogState AnyValue) (w : Offering) (cause : Idle) → offer_cause w ≡ Some cause → offers_as u booking_service t x (as_back u t log) w ≡ idles (as_back u t log) cause
+offer_idle u t x log NotLeader cause e = let f : why.NotLeader ≡ cause = cc in ap (λ z. idles (as_back u t log) z) f
+offer_idle u t x log (NoPromises h) cause e = let f : why.NoPromises h ≡ cause = cc in ap (λ z. idles (as_back u t log) z) f
+offer_idle u t x log (InFlight p) cause e = let f : why.InFlight p ≡ cause = cc in ap (λ z. idles (as_back u t log) z) f
+offer_idle u t x log LogFull cause e = let f : why.LogFull ≡ cause = cc in ap (λ z. idles (as_back u t log) z) f
+offer_idle u t x log Taken cause e = absurd (cc)
+offer_idle u t x log (Free p) cause e = absurd (cc)
+
+offer_none : (u : ℕ) (t : Tier) (x : ℕ) (log : LogState AnyValue) (w : Offering) → NotTaken w → offer_cause w ≡ None → offers_as u booking_service t x (as_back u t log) w ≡ idles (as_back u t log) why.Nothing
+offer_none u t x log NotLeader n e = absurd (cc)
+offer_none u t x log (NoPromises h) n e = absurd (cc)
+offer_none u t x log (InFlight p) n e = absurd (cc)
+offer_none u t x log LogFull n e = absurd (cc)
+offer_none u t x log Taken n e = absurd n
+offer_none u t x log (Free p) n e = ap (λ o. cond (is_some o) (in_log u booking_service t x (as_back u t log) (offer u x log (own_value u (as_back u t log)))) (idles (as_back u t log) why.Nothing)) (nothing_own u t log)
+
+pub offers_idle : (n : LogView) (now : BackView) (out : List (End × List ℕ)) (w : Offering) (cause : Idle) → back_view n ≡ now → ((log : LogState AnyValue) → n.part.mode ≡ Up log → w ≡ log_wants n.faults log) → offer_cause w ≡ Some cause
+    → BackMoves now now out out (λ σ. offers now.faults booking_service now.tier now.me σ) (Ok (Idles cause))
+offers_idle n now out w cause v f e = subst (λ (z : BackView). BackMoves z z out out (λ σ. offers z.faults booking_service z.tier z.me σ) (Ok (Idles cause))) v
+    (back_quiet (back_view n) out (λ σ. offers n.faults booking_service n.tier n.me σ) (Idles cause) (λ log m. offer_idle n.faults n.tier n.me log (log_wants n.faults log) cause (ap offer_cause (sym (f log m)) ∙ e)))
+
+pub offers_none : (n : LogView) (now : BackView) (out : List (End × List ℕ)) (w : Offering) → back_view n ≡ now → IsBackend n.tier → IsRanged n → ((log : LogState AnyValue) → n.part.mode ≡ Up log → w ≡ log_wants n.faults log) → offer_cause w ≡ None
+    → BackMoves now now out out (λ σ. offers now.faults booking_service now.tier now.me σ) (Ok (Idles why.Nothing))
+offers_none n now out w v b range f e = subst (λ (z : BackView). BackMoves z z out out (λ σ. offers z.faults booking_service z.tier z.me σ) (Ok (Idles why.Nothing))) v
+    (back_quiet (back_view n) out (λ σ. offers n.faults booking_service n.tier n.me σ) (Idles why.Nothing) (λ log m. offer_none n.faults n.tier n.me log (log_wants n.faults log) (wants_other n.faults n.tier log b (range log m)) (ap offer_cause (sym (f log m)) ∙ e)))
+
+-- ASKING AGAIN, AND STARTING
+
+retry_is : (u : ℕ) (t : Tier) (x : ℕ) (log : LogState AnyValue) → retry u t x (as_back u t log) ≡ says (as_back u t log) (log_packets t x (asks u x (open_at log)))
+retry_is u t x log = ap (λ z. says (as_back u t log) z) (nothing_more (log_packets t x (asks u x (open_at log))))
+
+pub retries : (n : LogView) (now : BackView) (before after : List (End × List ℕ)) → back_view n ≡ now → n.me < 2 * n.faults + 1 → n.faults ≤ 2 → IsRanged n
+    → ((log : LogState AnyValue) → n.part.mode ≡ Up log → after ≡ before ++ map sealed (log_packets n.tier n.me (asks n.faults n.me (open_at log)))) → BackMoves now now before after (λ σ. retry now.faults now.tier now.me σ) (Ok Did)
+retries n now before after v l few range sent = subst (λ (z : BackView). BackMoves z z before after (λ σ. retry z.faults z.tier z.me σ) (Ok Did)) v (record {
+  row = λ log e. subst (λ z. Makes (as_back n.faults n.tier) n.part n.part before after z (Ok Did)) (sym (retry_is n.faults n.tier n.me log))
+      (refl, (log, e, refl), refl, sent log e, are_fit n.tier n.me (asks n.faults n.me (open_at log)) (omega arith) (sends_fit n.faults n.tier (asks n.faults n.me (open_at log)) (fits log e)), refl);
+  reach = λ log e. subst (λ (z : Move (Back Amounts)). AllReach n.faults z.sends) (sym (retry_is n.faults n.tier n.me log)) (all_reach n.faults n.tier n.me (asks n.faults n.me (open_at log)) l (fits log e));
+  same = (refl, (refl, refl));
+})
+  where
+    fits : (log : LogState AnyValue) → n.part.mode ≡ Up log → AllByRecursion (IsSendIn n.faults (CanStand n.tier) FitsBallot) (asks n.faults n.me (open_at log))
+    fits log e = asks_in n.faults n.tier n.me (open_at log) (range log e).within
+
+pub restarted : (n new : LogView) (now : BackView) → back_view n ≡ now → now.part ≡ new_part → new ≡ record { faults = n.faults; tier = n.tier; me = n.me; part = record { mode = Up (recover n.faults []); written = n.part.written } }
+    → (log : LogState AnyValue) × ((new.part ≡ record { mode = Up log; written = 1 }) × (as_back now.faults now.tier log ≡ recovered now.faults booking_service now.tier []))
+restarted n new now v r e = subst (λ (z : BackView). z.part ≡ new_part → (log : LogState AnyValue) × ((new.part ≡ record { mode = Up log; written = 1 }) × (as_back z.faults z.tier log ≡ recovered z.faults booking_service z.tier []))) v
+    (λ q. (recover n.faults [], (ap (λ (z : LogView). z.part) e ∙ ap (λ z. record { mode = Up (recover n.faults []); written = z }) (ap (λ (z : NodePart (LogState AnyValue)). z.written) q), refl))) r

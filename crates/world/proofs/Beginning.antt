@@ -1,0 +1,68 @@
+-- A run before its first event.
+use Rattle.std.proofs.Common.{◌≡◌, ℕ, ◌+◌, ◌*◌, ◌≤◌, List, [], ◌∷◌, ◌++◌, refl, sym, ap, ◌∙◌, subst, inl, inr, length, arith, Some, None, zero, suc}
+use Rattle.std.specs.Prelude.{slice_get, ◌⊎◌}
+use Rattle.aeg_base.specs.declared.limits.TheConstants.{JOURNAL_BYTES}
+use Rattle.aeg_base.specs.declared.names.Tier.{Tier}
+use Rattle.aeg_base.specs.declared.names.Tier.TheVariants as tiers
+use Rattle.log_model.specs.Log.{nobody}
+use Rattle.log_model.specs.World.{stands}
+use Rattle.log_model.specs.World.Mode.{Down}
+use Rattle.round_model.specs.Lists.{each}
+use Rattle.run_model.specs.World.{start}
+use Rattle.net_script.specs.Clients.{fresh}
+use Rattle.world.specs.declared.parts.Parts.{Parts}
+use Rattle.world.specs.NodeLists.{new_mid, new_back, AreNew}
+use Rattle.world.specs.Watching.{new_watch}
+use Rattle.world.specs.Standing.{IsMid, IsBack, IsClientEnd, AreAll, Shows}
+
+length_last : {A : Type 0} (xs : List A) (x : A) → length (xs ++ x ∷ []) ≡ suc (length xs)
+length_last [] x = refl
+length_last (y ∷ xs) x = ap suc (length_last xs x)
+
+each_size : {A : Type 0} (n : ℕ) (f : ℕ → A) → length (each n nobody f) ≡ n
+each_size zero f = refl
+each_size (suc n) f = length_last (each n nobody f) (f n) ∙ ap suc (each_size n f)
+
+get_last : {A : Type 0} (xs : List A) (x : A) (j : ℕ) (b : A) → slice_get (xs ++ x ∷ []) j ≡ Some b → (slice_get xs j ≡ Some b) ⊎ ((j ≡ length xs) × (x ≡ b))
+get_last [] x zero b g = inr (refl, cc)
+get_last [] x (suc j) b g = absurd (cc)
+get_last (y ∷ xs) x zero b g = inl g
+get_last {A} (y ∷ xs) x (suc j) b g = go (get_last xs x j b g)
+  where
+    go : (slice_get xs j ≡ Some b) ⊎ ((j ≡ length xs) × (x ≡ b)) → (slice_get xs j ≡ Some b) ⊎ ((suc j ≡ suc (length xs)) × (x ≡ b))
+    go (inl e) = inl e
+    go (inr e) = inr (ap suc e.0, e.1)
+
+each_at : {A : Type 0} (n : ℕ) (f : ℕ → A) (i : ℕ) (a : A) → slice_get (each n nobody f) i ≡ Some a → a ≡ f i
+each_at zero f i a e = absurd (cc)
+each_at {A} (suc n) f i a e = go (get_last (each n nobody f) (f n) i a e) (λ g. each_at n f i a g)
+  where
+    go : (slice_get (each n nobody f) i ≡ Some a) ⊎ ((i ≡ length (each n nobody f)) × (f n ≡ a)) → (slice_get (each n nobody f) i ≡ Some a → a ≡ f i) → a ≡ f i
+    go (inl g) rec = rec g
+    go (inr g) rec = sym g.1 ∙ ap f (sym (g.0 ∙ each_size n f))
+
+all_each : {N V : Type 0} (n : ℕ) (Is : ℕ → N → V → Type 0) (nodes : ℕ → N) (f : ℕ → V) (vs : List V) → vs ≡ each n nobody f → ((x : ℕ) → Is x (nodes x) (f x)) → AreAll n Is nodes vs
+all_each {N} {V} n Is nodes f vs e h = record { size = ap length e ∙ each_size n f; each = λ x v g. subst (Is x (nodes x)) (sym (each_at n f x v (sym (ap (λ (z : List V). slice_get z x) e) ∙ g))) (h x) }
+
+new_mid_is : (u depth x : ℕ) → IsMid u depth x (stands Down []) (new_mid u depth x)
+new_mid_is u depth x = let small : 1 ≤ JOURNAL_BYTES = omega arith in record { faults = refl; deep = refl; me = refl; part = record { mode = refl; here = tt; written = refl; within = small } }
+
+new_back_is : (u : ℕ) (t : Tier) (x : ℕ) → IsBack u t x (stands Down []) (new_back u t x)
+new_back_is u t x = let small : 1 ≤ JOURNAL_BYTES = omega arith in record { faults = refl; tier = refl; me = refl; part = record { mode = refl; here = tt; written = refl; within = small } }
+
+-- nothing was sent, and all nodes are down
+pub begins : (u depth : ℕ) (parts : Parts) → u ≤ 2 → parts.u ≡ u → AreNew u depth parts.nodes → parts.clients.items ≡ each 17 nobody fresh → parts.soup ≡ [] → parts.watch ≡ new_watch u → Shows u depth start parts
+begins u depth parts few size k c s w = record {
+  size = size;
+  few = few;
+  nodes = record {
+    mids = all_each (2 * u + 1) (IsMid u depth) (λ x. stands Down []) (new_mid u depth) parts.nodes.mids.items k.mids (new_mid_is u depth);
+    invs = all_each (2 * u + 1) (IsBack u tiers.Inv) (λ x. stands Down []) (new_back u tiers.Inv) parts.nodes.invs.items k.invs (new_back_is u tiers.Inv);
+    pays = all_each (2 * u + 1) (IsBack u tiers.Pay) (λ x. stands Down []) (new_back u tiers.Pay) parts.nodes.pays.items k.pays (new_back_is u tiers.Pay);
+  };
+  clients = all_each 17 IsClientEnd (λ x. record { last = 0; opened = None }) fresh parts.clients.items c (λ y. record { is = refl; asks = refl });
+  soup = s;
+  fit = λ i p e. absurd (cc);
+  reach = λ i p e. absurd (cc);
+  watch = w;
+}

@@ -1,0 +1,229 @@
+-- The rows of a middle node while nothing is run are those of its log and its pending entries.
+use Rattle.std.proofs.Common.{◌≡◌, ℕ, ◌+◌, ◌*◌, ◌<◌, ◌≤◌, Bool, true, false, cond, List, [], ◌∷◌, ◌++◌, length, map, replicate, refl, sym, ap, ◌∙◌, subst, arith, Option, Some, None, Result, Ok, Err, suc}
+use Rattle.std.specs.Prelude.{slice_get, ◌&&◌, ◌||◌, ◌==◌, not, nat_lt, OnOk}
+use Rattle.std.proofs.lemmas.Bool.{cond-true, cond-false, ne_eqb, eq-eqb, eqb-true}
+use Rattle.aeg_base.specs.declared.names.End.{End}
+use Rattle.aeg_base.specs.declared.names.End.TheVariants.{Client}
+use Rattle.aeg_base.specs.declared.names.Tier.TheVariants.{Mid as InMid}
+use Rattle.log_model.specs.declared.message.PaxMsg.{PaxMsg}
+use Rattle.log_model.specs.Log.{LogState, Turn}
+use Rattle.log_model.specs.Rows.{on_msg}
+use Rattle.log_model.specs.Ranges.{IsLogIn, IsTurnIn}
+use Rattle.log_model.specs.Recover.{recover}
+use Rattle.log_model.specs.World.{Mode}
+use Rattle.log_model.specs.World.Mode.{Up, Down, Gone}
+use Rattle.log_values.specs.declared.any_value.AnyValue.{AnyValue}
+use Rattle.log_values.specs.declared.any_value.AnyValue.TheVariants as values
+use Rattle.log_values.specs.declared.mid_value.MidValue.TheVariants.{Batch, Verdict as Decided}
+use Rattle.log_values.specs.declared.entry.Entry.{Entry}
+use Rattle.log_values.specs.Fields.{FitsBallot, IsClient}
+use Rattle.frames.specs.declared.message.Msg.TheVariants as msgs
+use Rattle.frames.specs.declared.turn.Turn.{Turn as Answer}
+use Rattle.frames.specs.declared.turn.Turn.TheVariants.{Did, Idle as Idles}
+use Rattle.frames.specs.declared.turn.Idle.TheVariants as why
+use Rattle.frames.specs.declared.turn.Fault.{Fault}
+use Rattle.frames.specs.declared.turn.Fault.TheVariants as faults
+use Rattle.round_model.specs.Lists.{is_some, put_at}
+use Rattle.round_model.specs.Service.{is_request}
+use Rattle.round_model.specs.Tables.{tables0, kept_of, pending_of}
+use Rattle.tier_model.specs.Moves.{index_of, is_node_of, Move, idles, drops, says, becomes, log_packets, as_fact, log_answer}
+use Rattle.tier_model.specs.Mid.{Mid, with_log, in_log, is_due, due_round, ready, apply_state, apply_sends}
+use Rattle.tier_model.specs.MidRows.{recovered, has_seq, pends, tells_again, on_request, on_frame}
+use Rattle.run_model.specs.BookingRuns.{booking_service}
+use Rattle.world.specs.Parts.{CanStand, IsAsked, AllReach, NodePart, MidPart, as_mid, Makes, MidView, MidMoves, new_part, AreFit}
+use Rattle.world.specs.LogNodes.{LogView, log_itself, log_move, Turns, mid_mode, mid_part}
+use Rattle.world.proofs.Sending.{all_reach}
+use Rattle.world.proofs.Places.{at-none, at-zero}
+
+-- what contracts see of a middle node with these fields
+abbrev pub mid_view : LogView → ℕ → List (Option Entry) → MidView
+mid_view n depth pending = record { faults = n.faults; depth = depth; me = n.me; part = mid_part n.part pending }
+
+abbrev part_of : LogState AnyValue → List (Option Entry) → MidPart
+part_of log pending = record { log = log; pending = pending }
+
+pub nothing_more : {A : Type 0} (xs : List A) → xs ++ [] ≡ xs
+nothing_more [] = refl
+nothing_more (x ∷ xs) = ap (λ ys. x ∷ ys) (nothing_more xs)
+
+-- NO VERDICT IS LEARNED
+
+no_verdict : (v : AnyValue) → CanStand InMid 1 v → ⊥
+no_verdict (values.Mid (Batch es)) k = let e = k.1 in absurd (cc)
+no_verdict (values.Mid (Decided v)) k = absurd k
+no_verdict (values.Back v) k = absurd k
+
+pub at_most_one : (log : LogState AnyValue) → IsLogIn (CanStand InMid) FitsBallot log → length log.learned ≤ 1
+at_most_one log k = go log.learned k.learned
+  where
+    go : (xs : List AnyValue) → ((p : ℕ) (v : AnyValue) → slice_get xs p ≡ Some v → CanStand InMid p v) → length xs ≤ 1
+    go [] f = omega arith
+    go (v ∷ []) f = omega arith
+    go (v ∷ w ∷ xs) f = absurd (no_verdict w (f 1 w refl))
+
+never_due : (depth : ℕ) (part : MidPart) (log : LogState AnyValue) → length log.learned ≤ 1 → is_due (as_mid depth part) log ≡ false
+never_due depth part log l = go (nat_lt (length part.log.learned) (length log.learned)) (length log.learned == 2 * 0 + 2) (ne_eqb (length log.learned) 2 (λ e. omega arith))
+  where
+    go : (a b : Bool) → b ≡ false → (a && b) ≡ false
+    go true b e = e
+    go false b e = refl
+
+never_ready : (depth : ℕ) (part : MidPart) (log : LogState AnyValue) → length log.learned ≤ 1 → due_round booking_service (as_mid depth part) log ≡ None
+never_ready depth part log l = cond-false (is_due (as_mid depth part) log) (ready booking_service (with_log (as_mid depth part) log)) None (never_due depth part log l)
+
+-- the row of a turn of the log, while nothing is run
+abbrev mid_move : ℕ → List (Option Entry) → ℕ → Turn AnyValue → Move Mid
+mid_move depth pending x turn = record { state = as_mid depth (part_of turn.state pending); facts = map as_fact turn.facts; sends = log_packets InMid x turn.sends; answer = log_answer turn.idle }
+
+in_log_is : (u depth x : ℕ) (log : LogState AnyValue) (pending : List (Option Entry)) (turn : Turn AnyValue) → length turn.state.learned ≤ 1 → in_log u booking_service x (as_mid depth (part_of log pending)) turn ≡ mid_move depth pending x turn
+in_log_is u depth x log pending turn l =
+    ap (λ d. record { state = apply_state (with_log (as_mid depth (part_of log pending)) turn.state) d; facts = map as_fact turn.facts; sends = log_packets InMid x turn.sends ++ apply_sends u x (with_log (as_mid depth (part_of log pending)) turn.state) d; answer = log_answer turn.idle })
+    (never_ready depth (part_of log pending) turn.state l)
+    ∙ ap (λ ks. record { state = as_mid depth (part_of turn.state pending); facts = map as_fact turn.facts; sends = ks; answer = log_answer turn.idle }) (nothing_more (log_packets InMid x turn.sends))
+
+-- FROM THE LOG'S MOVES TO THE NODE'S
+
+pub on_ok : {P : Type 0} (result : Result Answer Fault) → P → OnOk result P
+on_ok (Ok a) p = p
+on_ok (Err e) p = tt
+
+mid_makes : (depth x : ℕ) (pending : List (Option Entry)) (old new : NodePart (LogState AnyValue)) (before after : List (End × List ℕ)) (turn : Turn AnyValue) (result : Result Answer Fault)
+    → Makes log_itself old new before after (log_move InMid x turn) result → Makes (as_mid depth) (mid_part old pending) (mid_part new pending) before after (mid_move depth pending x turn) result
+mid_makes depth x pending old new before after turn (Ok answer) k = (k.0, (part_of k.1.0 pending, ap (λ z. mid_mode z pending) k.1.1, ap (λ z. as_mid depth (part_of z pending)) k.1.2), k.2, k.3, k.4, k.5)
+mid_makes depth x pending old new before after turn (Err (faults.JournalFull n)) k = (k.0, ap (λ z. mid_mode z pending) k.1, k.2, k.3)
+mid_makes depth x pending old new before after turn (Err faults.Memory) k = tt
+mid_makes depth x pending old new before after turn (Err faults.Disk) k = absurd k
+mid_makes depth x pending old new before after turn (Err (faults.BadRecord n)) k = absurd k
+
+-- the part of a middle node that is up
+pub mid_up : (mode : Mode (LogState AnyValue)) (pending : List (Option Entry)) (part : MidPart) → mid_mode mode pending ≡ Up part → (mode ≡ Up part.log) × (part.pending ≡ pending)
+mid_up (Up log) pending part e = let p : part_of log pending ≡ part = up_part (part_of log pending) part e in (ap (λ (z : MidPart). Up z.log) p, ap (λ (z : MidPart). z.pending) (sym p))
+  where
+    up_part : (a b : MidPart) → ◌≡◌ {A = Mode MidPart} (Up a) (Up b) → a ≡ b
+    up_part a b e = cc
+mid_up Down pending part e = absurd (cc)
+mid_up Gone pending part e = absurd (cc)
+
+-- a call of the log's node that makes a turn is the node's, where the row is that turn
+pub mid_turns : (depth : ℕ) (pending : List (Option Entry)) (old new : LogView) (now : MidView) (before after : List (End × List ℕ)) (t : LogState AnyValue → Turn AnyValue) (move : ℕ → ℕ → Mid → Move Mid) (result : Result Answer Fault)
+    → mid_view old depth pending ≡ now → old.tier ≡ InMid → old.me < 2 * old.faults + 1 → Turns old new before after t result
+    → ((log : LogState AnyValue) → old.part.mode ≡ Up log → move old.faults old.me (as_mid depth (part_of log pending)) ≡ in_log old.faults booking_service old.me (as_mid depth (part_of log pending)) (t log))
+    → MidMoves now (mid_view new depth pending) before after (move now.faults now.me) result
+mid_turns depth pending old new now before after t move result v tier l k f = subst (λ (z : MidView). MidMoves z (mid_view new depth pending) before after (move z.faults z.me) result) v (record {
+  row = λ part e. let q = mid_up old.part.mode pending part e in
+      at part q.1 (subst (λ z. Makes (as_mid depth) (mid_part old.part pending) (mid_part new.part pending) before after z result) (sym (is part.log q.0))
+      (mid_makes depth old.me pending old.part new.part before after (t part.log) result (subst (λ z. Makes log_itself old.part new.part before after (log_move z old.me (t part.log)) result) tier (k.row part.log q.0))));
+  reach = on_ok result (λ part e. let q = mid_up old.part.mode pending part e in
+      reach_at part q.1 (subst (λ (z : Move Mid). AllReach old.faults z.sends) (sym (is part.log q.0)) (all_reach old.faults InMid old.me (t part.log).sends l (range part.log q.0).sends)));
+  same = (k.same.0, (refl, k.same.1.1));
+})
+  where
+    range : (log : LogState AnyValue) → old.part.mode ≡ Up log → IsTurnIn old.faults (CanStand InMid) FitsBallot (t log)
+    range log e = subst (λ z. IsTurnIn old.faults (CanStand z) FitsBallot (t log)) tier (k.range log e)
+
+    is : (log : LogState AnyValue) → old.part.mode ≡ Up log → move old.faults old.me (as_mid depth (part_of log pending)) ≡ mid_move depth pending old.me (t log)
+    is log e = f log e ∙ in_log_is old.faults depth old.me log pending (t log) (at_most_one (t log).state (range log e).state)
+
+    at : (part : MidPart) → part.pending ≡ pending → Makes (as_mid depth) (mid_part old.part pending) (mid_part new.part pending) before after (move old.faults old.me (as_mid depth (part_of part.log pending))) result → Makes (as_mid depth) (mid_part old.part pending) (mid_part new.part pending) before after (move old.faults old.me (as_mid depth part)) result
+    at part e m = subst (λ z. Makes (as_mid depth) (mid_part old.part pending) (mid_part new.part pending) before after (move old.faults old.me (as_mid depth (part_of part.log z))) result) (sym e) m
+
+    reach_at : (part : MidPart) → part.pending ≡ pending → AllReach old.faults (move old.faults old.me (as_mid depth (part_of part.log pending))).sends → AllReach old.faults (move old.faults old.me (as_mid depth part)).sends
+    reach_at part e m = subst (λ z. AllReach old.faults (move old.faults old.me (as_mid depth (part_of part.log z))).sends) (sym e) m
+
+pub none_fit : AreFit []
+none_fit = λ i k e. absurd (cc)
+
+pub none_reach : (u : ℕ) → AllReach u []
+none_reach u = λ i k e. absurd (cc)
+
+-- a call that answers without a turn: it is idle, or drops the packet
+pub mid_quiet : (now : MidView) (out : List (End × List ℕ)) (move : Mid → Move Mid) (answer : Answer) → ((part : MidPart) → now.part.mode ≡ Up part → move (as_mid now.depth part) ≡ record { state = as_mid now.depth part; facts = []; sends = []; answer = answer }) → MidMoves now now out out move (Ok answer)
+mid_quiet now out move answer f = record {
+  row = λ part e. subst (λ z. Makes (as_mid now.depth) now.part now.part out out z (Ok answer)) (sym (f part e)) (refl, (part, e, refl), refl, sym (nothing_more out), none_fit, refl);
+  reach = λ part e. subst (λ (z : Move Mid). AllReach now.faults z.sends) (sym (f part e)) (none_reach now.faults);
+  same = (refl, (refl, refl));
+}
+
+-- FRAMES OF THE LOG
+
+pub frame_log : (u x depth : ℕ) (part : MidPart) (from : End) (m : PaxMsg AnyValue) (i : ℕ) → is_node_of u InMid from ≡ true → i ≡ index_of from
+    → on_frame u booking_service x (as_mid depth part) from (msgs.Log m) ≡ in_log u booking_service x (as_mid depth part) (on_msg u part.log i m)
+frame_log u x depth part from m i e f =
+    cond-true (is_node_of u InMid from) (in_log u booking_service x (as_mid depth part) (on_msg u part.log (index_of from) m)) (drops (as_mid depth part) 7) e
+    ∙ ap (λ z. in_log u booking_service x (as_mid depth part) (on_msg u part.log z m)) (sym f)
+
+-- REQUESTS
+
+-- by the client's last number and its kept reply
+abbrev asked : ℕ → ℕ → MidPart → ℕ → ℕ → List ℕ → ℕ → Option (List ℕ) → Move Mid
+asked x depth part c s text l k =
+    cond ((s == l) && is_some k) (says (as_mid depth part) (tells_again x c s k))
+    (cond (not (s == suc l) || has_seq (pending_of part.pending c) s) (idles (as_mid depth part) why.Nothing) (becomes (pends (as_mid depth part) (record { client = c; seq = s; body = text }))))
+
+and_no : (a : Bool) → (a && false) ≡ false
+and_no true = refl
+and_no false = refl
+
+request_is : (u x depth : ℕ) (part : MidPart) (c s : ℕ) (text : List ℕ) → is_request booking_service (record { client = c; seq = s }) text ≡ true
+    → on_frame u booking_service x (as_mid depth part) (Client c) (msgs.Request s text)
+    ≡ cond (not (s == 1) || has_seq (pending_of part.pending c) s) (idles (as_mid depth part) why.Nothing) (becomes (pends (as_mid depth part) (record { client = c; seq = s; body = text })))
+request_is u x depth part c s text r =
+    cond-false (not (is_request booking_service (record { client = c; seq = s }) text)) (drops (as_mid depth part) 8) (on_request x (as_mid depth part) c s text) (ap not r)
+    ∙ (ap (λ l. asked x depth part c s text l (kept_of (tables0 depth).kept c)) (at-zero 17 c) ∙ (ap (λ k. asked x depth part c s text 0 k) (at-none {A = List ℕ} 17 c)
+    ∙ cond-false ((s == 0) && false) (says (as_mid depth part) []) (cond (not (s == 1) || has_seq (pending_of part.pending c) s) (idles (as_mid depth part) why.Nothing) (becomes (pends (as_mid depth part) (record { client = c; seq = s; body = text })))) (and_no (s == 0))))
+
+pub is_asked : (from : End) (c s : ℕ) (text : List ℕ) → from ≡ Client c → IsAsked from s text → (IsClient c) × (is_request booking_service (record { client = c; seq = s }) text ≡ true)
+is_asked from c s text e k = let a = subst (λ f. IsAsked f s text) e k in (a.0, a.1.1)
+
+-- one that isn't the first, or that is pending, is passed over
+pub request_passed : (n : LogView) (depth : ℕ) (pending : List (Option Entry)) (now : MidView) (out : List (End × List ℕ)) (from : End) (c s : ℕ) (text : List ℕ) → mid_view n depth pending ≡ now → from ≡ Client c → IsAsked from s text
+    → (s ≡ 1 → has_seq (pending_of pending c) s ≡ true) → MidMoves now now out out (λ σ. on_frame now.faults booking_service now.me σ from (msgs.Request s text)) (Ok (Idles why.Nothing))
+request_passed n depth pending now out from c s text v f r q = subst (λ z. MidMoves now now out out (λ σ. on_frame now.faults booking_service now.me σ z (msgs.Request s text)) (Ok (Idles why.Nothing))) (sym f)
+    (subst (λ z. MidMoves z z out out (λ σ. on_frame z.faults booking_service z.me σ (Client c) (msgs.Request s text)) (Ok (Idles why.Nothing))) v
+    (mid_quiet (mid_view n depth pending) out (λ σ. on_frame n.faults booking_service n.me σ (Client c) (msgs.Request s text)) (Idles why.Nothing) (λ part e.
+    request_is n.faults n.me depth part c s text (is_asked from c s text f r).1
+    ∙ cond-true (not (s == 1) || has_seq (pending_of part.pending c) s) (idles (as_mid depth part) why.Nothing) (becomes (pends (as_mid depth part) (record { client = c; seq = s; body = text })))
+    (passed (s == 1) (has_seq (pending_of part.pending c) s) (λ t. subst (λ z. has_seq (pending_of z c) s ≡ true) (sym (mid_up n.part.mode pending part e).1) (q (eqb-true s 1 t)))))))
+  where
+    passed : (a h : Bool) → (a ≡ true → h ≡ true) → (not a || h) ≡ true
+    passed true h f = f refl
+    passed false h f = refl
+
+-- a first request is pending from now on
+pub request_taken : (n : LogView) (depth : ℕ) (pending new : List (Option Entry)) (now : MidView) (out : List (End × List ℕ)) (from : End) (c s : ℕ) (text : List ℕ) → mid_view n depth pending ≡ now → from ≡ Client c → IsAsked from s text
+    → s ≡ 1 → has_seq (pending_of pending c) s ≡ false → new ≡ put_at None pending c (Some (record { client = c; seq = s; body = text }))
+    → MidMoves now (mid_view n depth new) out out (λ σ. on_frame now.faults booking_service now.me σ from (msgs.Request s text)) (Ok Did)
+request_taken n depth pending new now out from c s text v f r one h p = subst (λ z. MidMoves now (mid_view n depth new) out out (λ σ. on_frame now.faults booking_service now.me σ z (msgs.Request s text)) (Ok Did)) (sym f)
+    (subst (λ z. MidMoves z (mid_view n depth new) out out (λ σ. on_frame z.faults booking_service z.me σ (Client c) (msgs.Request s text)) (Ok Did)) v (record {
+      row = λ part e. let q = mid_up n.part.mode pending part e in
+          subst (λ z. Makes (as_mid depth) (mid_part n.part pending) (mid_part n.part new) out out z (Ok Did)) (sym (is part q.1))
+          (refl, (part_of part.log new, ap (λ z. mid_mode z new) q.0, state part q.1), refl, sym (nothing_more out), none_fit, refl);
+      reach = λ part e. let q = mid_up n.part.mode pending part e in subst (λ (z : Move Mid). AllReach n.faults z.sends) (sym (is part q.1)) (none_reach n.faults);
+      same = (refl, (refl, refl));
+    }))
+  where
+    entry : Entry
+    entry = record { client = c; seq = s; body = text }
+
+    is : (part : MidPart) → part.pending ≡ pending → on_frame n.faults booking_service n.me (as_mid depth part) (Client c) (msgs.Request s text) ≡ becomes (pends (as_mid depth part) entry)
+    is part e = request_is n.faults n.me depth part c s text (is_asked from c s text f r).1
+        ∙ cond-false (not (s == 1) || has_seq (pending_of part.pending c) s) (idles (as_mid depth part) why.Nothing) (becomes (pends (as_mid depth part) entry))
+        (rw (eq-eqb s 1 one) (subst (λ z. has_seq (pending_of z c) s ≡ false) (sym e) h))
+
+    state : (part : MidPart) → part.pending ≡ pending → as_mid depth (part_of part.log new) ≡ pends (as_mid depth part) entry
+    state part e = ap (λ z. as_mid depth (part_of part.log z)) (p ∙ ap (λ z. put_at None z c (Some entry)) (sym e))
+
+-- STARTING
+
+pub restarted : (n new : LogView) (depth : ℕ) (pending fresh : List (Option Entry)) (now : MidView) → mid_view n depth pending ≡ now → now.part ≡ new_part
+    → new ≡ record { faults = n.faults; tier = n.tier; me = n.me; part = record { mode = Up (recover n.faults []); written = n.part.written } } → fresh ≡ replicate 17 None
+    → (x : MidPart) × ((mid_part new.part fresh ≡ record { mode = Up x; written = 1 }) × (as_mid now.depth x ≡ recovered now.faults booking_service now.depth []))
+restarted n new depth pending fresh now v r e f = subst (λ (z : MidView). z.part ≡ new_part → (x : MidPart) × ((mid_part new.part fresh ≡ record { mode = Up x; written = 1 }) × (as_mid z.depth x ≡ recovered z.faults booking_service z.depth []))) v
+    (λ q. (
+      part_of (recover n.faults []) (replicate 17 None),
+      (
+        ap (λ (z : LogView). mid_part z.part fresh) e ∙ (ap (λ z. mid_part (record { mode = Up (recover n.faults []); written = n.part.written }) z) f
+            ∙ ap (λ z. record { mode = Up (part_of (recover n.faults []) (replicate 17 None)); written = z }) (ap (λ (z : NodePart MidPart). z.written) q)),
+        refl,
+      ),
+    )) r

@@ -1,0 +1,249 @@
+-- What a middle node offers and tells again while nothing is run.
+use Rattle.std.proofs.Common.{◌≡◌, ℕ, ◌+◌, ◌*◌, ◌<◌, ◌≤◌, Bool, true, false, cond, List, [], ◌∷◌, ◌++◌, length, map, take, refl, sym, ap, ◌∙◌, subst, inl, inr, arith, Option, Some, None, Ok, zero, suc}
+use Rattle.std.specs.Prelude.{◌⊎◌, ◌&&◌, not, nat_lt}
+use Rattle.std.specs.List.{AllByRecursion}
+use Rattle.std.proofs.lemmas.Bool.{cond_both, cond-true}
+use Rattle.aeg_base.specs.declared.names.End.{End}
+use Rattle.aeg_base.specs.declared.names.Tier.{Tier}
+use Rattle.aeg_base.specs.declared.names.Tier.TheVariants.{Mid as InMid, Inv, Pay}
+use Rattle.log_model.specs.declared.message.PaxMsg.{PaxMsg}
+use Rattle.log_model.specs.declared.message.PaxMsg.TheVariants.{Ask}
+use Rattle.log_model.specs.declared.turn.Offering.{Offering}
+use Rattle.log_model.specs.declared.turn.Offering.TheVariants.{NotLeader, NoPromises, InFlight, LogFull, Taken, Free}
+use Rattle.log_model.specs.Log.{LogState, open_at, is, count_below}
+use Rattle.log_model.specs.Rows.{offer, wants as log_wants}
+use Rattle.log_model.specs.Ranges.{IsLogIn, IsSendIn}
+use Rattle.log_model.specs.World.Mode.{Up}
+use Rattle.log_model.proofs.Rows.{no_from}
+use Rattle.log_values.specs.declared.any_value.AnyValue.{AnyValue}
+use Rattle.log_values.specs.declared.any_value.AnyValue.TheVariants as values
+use Rattle.log_values.specs.declared.mid_value.MidValue.TheVariants.{Batch, Verdict as Decided}
+use Rattle.log_values.specs.declared.entry.Entry.{Entry}
+use Rattle.log_values.specs.Fields.{FitsBallot}
+use Rattle.log_values.proofs.BoolTests.{lt_true}
+use Rattle.frames.specs.declared.turn.Turn.TheVariants.{Did, Idle as Idles}
+use Rattle.frames.specs.declared.turn.Idle.{Idle}
+use Rattle.frames.specs.declared.turn.Idle.TheVariants as why
+use Rattle.std.specs.Option.{is_some as std_some}
+use Rattle.round_model.specs.Lists.{is_some, is_nil, and_then, concat, each, odd, half, lowest}
+use Rattle.round_model.specs.Tables.{tables0, fresh_pending, batch_of, Parked}
+use Rattle.round_model.specs.Verdicts.{verdict, verdict_by, serial_if, votes_in}
+use Rattle.tier_model.specs.Moves.{Move, idles, says, log_packets, asks, offer_cause}
+use Rattle.tier_model.specs.Mid.{Mid, in_log}
+use Rattle.tier_model.specs.MidRows.{own_batch, own_verdict, own_value, own_cause, offers_as, offers, again, retry, calls_again, by_number, open_calls, haves_again, settle_to, floor_here}
+use Rattle.round_model.specs.Answers.{highest}
+use Rattle.run_model.specs.BookingRuns.{booking_service}
+use Rattle.world.specs.Parts.{CanStand, MidPart, as_mid, Makes, MidView, MidMoves, AllReach, sealed}
+use Rattle.world.specs.LogNodes.{LogView, IsRanged, needs_own, mid_mode, mid_part}
+use Rattle.world.proofs.Sending.{all_reach, sends_fit, are_fit}
+use Rattle.world.proofs.Places.{all-both, no_queue}
+use Rattle.world.proofs.MidMoves.{mid_view, mid_up, mid_quiet, nothing_more, at_most_one}
+
+-- NO TOKENS
+
+no_votes : (n : ℕ) → ◌≡◌ {A = ℕ} (count_below n (λ y. false)) 0
+no_votes zero = refl
+no_votes (suc n) = omega (arith, no_votes n)
+
+none_lowest : (n : ℕ) → lowest n (λ y. false) ≡ None
+none_lowest zero = refl
+none_lowest (suc n) = ap (λ o. elim o [ None ↦ (cond false (Some n) None) | Some i ↦ Some i ]) (none_lowest n)
+
+pub votes_none : (u r : ℕ) → ◌≡◌ {A = ℕ} (votes_in u [] r) 0
+votes_none u r = no_votes (2 * u + 1)
+
+too_few : (u n : ℕ) → n ≡ 0 → nat_lt u n ≡ false
+too_few u n e = no_from (nat_lt u n) (λ t. let l : u < n = lt_true u n t in omega arith)
+
+verdict_none : (u r : ℕ) → verdict u [] r ≡ None
+verdict_none u r = ap (λ o. verdict_by [] r (nat_lt u (votes_in u [] r)) o) (none_lowest (2 * u + 1)) ∙ ap serial_if (too_few u (votes_in u [] r) (votes_none u r))
+
+own_verdict_none : (u depth : ℕ) (part : MidPart) (r : ℕ) → own_verdict u (as_mid depth part) r ≡ None
+own_verdict_none u depth part r = ap (λ o. and_then o (λ v. Some (values.Mid (Decided v)))) (verdict_none u r)
+
+-- THE OWN VALUE
+
+abbrev value_at_open : ℕ → ℕ → MidPart → ℕ → Option AnyValue
+value_at_open u depth part f = cond (odd f) (own_verdict u (as_mid depth part) (half f)) (own_batch booking_service (as_mid depth part) (half f))
+
+abbrev batch_or : Bool → Bool → List Entry → Option AnyValue
+batch_or a b es = cond (a && b) None (Some (values.Mid (Batch es)))
+
+is_nil-take : {A : Type 0} (xs ys : List A) → xs ≡ take 8 ys → is_nil xs ≡ is_nil ys
+is_nil-take [] [] e = refl
+is_nil-take [] (y ∷ ys) e = absurd (cc)
+is_nil-take (x ∷ xs) [] e = absurd (cc)
+is_nil-take (x ∷ xs) (y ∷ ys) e = refl
+
+and_yes : (a : Bool) → (a && true) ≡ a
+and_yes true = refl
+and_yes false = refl
+
+first_batch : (u depth : ℕ) (part : MidPart) (es : List Entry) → es ≡ batch_of booking_service (tables0 depth) part.pending → value_at_open u depth part 0 ≡ cond (is_nil es) None (Some (values.Mid (Batch es)))
+first_batch u depth part es e =
+    let a : is_nil es ≡ is_nil (fresh_pending booking_service (tables0 depth) part.pending 16) = is_nil-take es (fresh_pending booking_service (tables0 depth) part.pending 16) e in
+    let b : is_nil (concat (tables0 depth).queue) ≡ true = ap (λ (z : List Parked). is_nil z) (no_queue depth) in
+    ap (λ z. batch_or (is_nil (fresh_pending booking_service (tables0 depth) part.pending 16)) z (batch_of booking_service (tables0 depth) part.pending)) b
+    ∙ (ap (λ z. batch_or z true (batch_of booking_service (tables0 depth) part.pending)) (sym a) ∙ (ap (λ z. batch_or (is_nil es) true z) (sym e) ∙ ap (λ z. cond z None (Some (values.Mid (Batch es)))) (and_yes (is_nil es))))
+
+pub value_past : (u depth : ℕ) (part : MidPart) → open_at part.log ≡ 1 → own_value u booking_service (as_mid depth part) ≡ None
+value_past u depth part e = ap (λ f. value_at_open u depth part f) e ∙ own_verdict_none u depth part 0
+
+pub value_empty : (u depth : ℕ) (part : MidPart) (es : List Entry) → open_at part.log ≡ 0 → es ≡ batch_of booking_service (tables0 depth) part.pending → es ≡ [] → own_value u booking_service (as_mid depth part) ≡ None
+value_empty u depth part es o e n = ap (λ f. value_at_open u depth part f) o ∙ (first_batch u depth part es e ∙ ap (λ z. cond (is_nil z) None (Some (values.Mid (Batch es)))) n)
+
+pub value_batch : (u depth : ℕ) (part : MidPart) (es : List Entry) → open_at part.log ≡ 0 → es ≡ batch_of booking_service (tables0 depth) part.pending → (es ≡ [] → ⊥) → own_value u booking_service (as_mid depth part) ≡ Some (values.Mid (Batch es))
+value_batch u depth part es o e n = ap (λ f. value_at_open u depth part f) o ∙ (first_batch u depth part es e ∙ some es n)
+  where
+    some : (xs : List Entry) → (xs ≡ [] → ⊥) → cond (is_nil xs) None (Some (values.Mid (Batch es))) ≡ Some (values.Mid (Batch es))
+    some [] n = absurd (n refl)
+    some (x ∷ xs) n = refl
+
+abbrev cause_at : ℕ → ℕ → MidPart → ℕ → Idle
+cause_at u depth part f = cond (odd f) (why.NoTokens (votes_in u [] (half f))) (cond (nat_lt 0 (half f)) (why.Unapplied 0) why.Nothing)
+
+pub cause_past : (u depth : ℕ) (part : MidPart) → open_at part.log ≡ 1 → why.NoTokens 0 ≡ own_cause u (as_mid depth part)
+cause_past u depth part e = sym (ap (λ f. cause_at u depth part f) e ∙ ap (λ z. why.NoTokens z) (votes_none u 0))
+
+-- OFFERS
+
+offer_idle : (u x : ℕ) (σ : Mid) (w : Offering) (cause : Idle) → offer_cause w ≡ Some cause → offers_as u booking_service x σ w ≡ idles σ cause
+offer_idle u x σ NotLeader cause e = let f : why.NotLeader ≡ cause = cc in ap (λ z. idles σ z) f
+offer_idle u x σ (NoPromises h) cause e = let f : why.NoPromises h ≡ cause = cc in ap (λ z. idles σ z) f
+offer_idle u x σ (InFlight p) cause e = let f : why.InFlight p ≡ cause = cc in ap (λ z. idles σ z) f
+offer_idle u x σ LogFull cause e = let f : why.LogFull ≡ cause = cc in ap (λ z. idles σ z) f
+offer_idle u x σ Taken cause e = absurd (cc)
+offer_idle u x σ (Free p) cause e = absurd (cc)
+
+offer_none : (u x : ℕ) (σ : Mid) (w : Offering) → needs_own w ≡ true → own_value u booking_service σ ≡ None → offers_as u booking_service x σ w ≡ idles σ (own_cause u σ)
+offer_none u x σ NotLeader n e = absurd (cc)
+offer_none u x σ (NoPromises h) n e = absurd (cc)
+offer_none u x σ (InFlight p) n e = absurd (cc)
+offer_none u x σ LogFull n e = absurd (cc)
+offer_none u x σ Taken n e = absurd (cc)
+offer_none u x σ (Free p) n e = ap (λ o. cond (is_some o) (in_log u booking_service x σ (offer u x σ.log (own_value u booking_service σ))) (idles σ (own_cause u σ))) e
+
+offer_some : (u x : ℕ) (σ : Mid) (w : Offering) → offer_cause w ≡ None → (is_some (own_value u booking_service σ) ≡ true) ⊎ (needs_own w ≡ false) → offers_as u booking_service x σ w ≡ in_log u booking_service x σ (offer u x σ.log (own_value u booking_service σ))
+offer_some u x σ NotLeader n k = absurd (cc)
+offer_some u x σ (NoPromises h) n k = absurd (cc)
+offer_some u x σ (InFlight p) n k = absurd (cc)
+offer_some u x σ LogFull n k = absurd (cc)
+offer_some u x σ Taken n k = refl
+offer_some u x σ (Free p) n (inl e) = cond-true (is_some (own_value u booking_service σ)) (in_log u booking_service x σ (offer u x σ.log (own_value u booking_service σ))) (idles σ (own_cause u σ)) e
+offer_some u x σ (Free p) n (inr e) = absurd (cc)
+
+-- something stands in the way
+pub offers_idle : (now : MidView) (out : List (End × List ℕ)) (w : Offering) (cause : Idle) → ((part : MidPart) → now.part.mode ≡ Up part → w ≡ log_wants now.faults part.log) → offer_cause w ≡ Some cause → MidMoves now now out out (λ σ. offers now.faults booking_service now.me σ) (Ok (Idles cause))
+offers_idle now out w cause f e = mid_quiet now out (λ σ. offers now.faults booking_service now.me σ) (Idles cause) (λ part m. offer_idle now.faults now.me (as_mid now.depth part) (log_wants now.faults part.log) cause (ap offer_cause (sym (f part m)) ∙ e))
+
+-- there is nothing to offer
+pub offers_none : (now : MidView) (out : List (End × List ℕ)) (w : Offering) (own : Option AnyValue) (cause : Idle) → ((part : MidPart) → now.part.mode ≡ Up part → w ≡ log_wants now.faults part.log) → needs_own w ≡ true → ((part : MidPart) → now.part.mode ≡ Up part → own ≡ own_value now.faults booking_service (as_mid now.depth part)) → own ≡ None
+    → ((part : MidPart) → now.part.mode ≡ Up part → cause ≡ own_cause now.faults (as_mid now.depth part)) → MidMoves now now out out (λ σ. offers now.faults booking_service now.me σ) (Ok (Idles cause))
+offers_none now out w own cause f n g e h = mid_quiet now out (λ σ. offers now.faults booking_service now.me σ) (Idles cause) (λ part m.
+    offer_none now.faults now.me (as_mid now.depth part) (log_wants now.faults part.log) (ap needs_own (sym (f part m)) ∙ n) (sym (g part m) ∙ e) ∙ ap (λ z. idles (as_mid now.depth part) z) (sym (h part m)))
+
+-- the row is the log's offer
+pub offers_log : (u x depth : ℕ) (part : MidPart) (w : Offering) (own : Option AnyValue) → w ≡ log_wants u part.log → offer_cause w ≡ None → own ≡ own_value u booking_service (as_mid depth part) → (is_some own ≡ true) ⊎ (needs_own w ≡ false)
+    → offers u booking_service x (as_mid depth part) ≡ in_log u booking_service x (as_mid depth part) (offer u x part.log own)
+offers_log u x depth part w own f n g k =
+    subst (λ z. offers_as u booking_service x (as_mid depth part) z ≡ in_log u booking_service x (as_mid depth part) (offer u x part.log (own_value u booking_service (as_mid depth part)))) f (offer_some u x (as_mid depth part) w n (subst (λ z. (is_some z ≡ true) ⊎ (needs_own w ≡ false)) g k))
+    ∙ ap (λ z. in_log u booking_service x (as_mid depth part) (offer u x part.log z)) (sym g)
+
+-- ASKING AGAIN
+
+again_none : (u x depth : ℕ) (part : MidPart) → again u x (as_mid depth part) ≡ []
+again_none u x depth part = ap (λ q. calls_again u x (by_number (open_calls [] Inv q)) ++ (calls_again u x (by_number (open_calls [] Pay q)) ++ (haves_again u x (highest Inv []) ++ (haves_again u x (highest Pay [])
+    ++ (settle_to u x Inv (floor_here u x (as_mid depth part) Inv) ++ settle_to u x Pay (floor_here u x (as_mid depth part) Pay)))))) (no_queue depth)
+
+retry_is : (u x depth : ℕ) (part : MidPart) → retry u x (as_mid depth part) ≡ says (as_mid depth part) (log_packets InMid x (asks u x (open_at part.log)))
+retry_is u x depth part = ap (λ z. says (as_mid depth part) (log_packets InMid x (asks u x (open_at part.log)) ++ z)) (again_none u x depth part) ∙ ap (λ z. says (as_mid depth part) z) (nothing_more (log_packets InMid x (asks u x (open_at part.log))))
+
+each_in : (u : ℕ) (t : Tier) (n : ℕ) (skip : ℕ → Bool) (p : ℕ) → n ≤ 2 * u + 1 → p ≤ 4096 → AllByRecursion (IsSendIn u (CanStand t) FitsBallot) (each n skip (λ y. (y, Ask p)))
+each_in u t zero skip p k l = tt
+each_in u t (suc n) skip p k l = all-both {A = ℕ × PaxMsg AnyValue} (IsSendIn u (CanStand t) FitsBallot) (each n skip (λ y. (y, Ask p))) _ (each_in u t n skip p (omega arith) l)
+    (cond_both (skip n) [] ((n, Ask p) ∷ []) (AllByRecursion {X = ℕ × PaxMsg AnyValue} (IsSendIn u (CanStand t) FitsBallot)) (λ e. tt) (λ e. ((omega arith, l), tt)))
+
+pub asks_in : (u : ℕ) (t : Tier) (x p : ℕ) → p ≤ 4096 → AllByRecursion (IsSendIn u (CanStand t) FitsBallot) (asks u x p)
+asks_in u t x p l = each_in u t (2 * u + 1) (is x) p (omega arith) l
+
+pub retries : (n : LogView) (depth : ℕ) (pending : List (Option Entry)) (now : MidView) (before after : List (End × List ℕ)) → mid_view n depth pending ≡ now → n.tier ≡ InMid → n.me < 2 * n.faults + 1 → n.faults ≤ 2 → IsRanged n
+    → ((log : LogState AnyValue) → n.part.mode ≡ Up log → after ≡ before ++ map sealed (log_packets n.tier n.me (asks n.faults n.me (open_at log)))) → MidMoves now now before after (λ σ. retry now.faults now.me σ) (Ok Did)
+retries n depth pending now before after v tier l few range sent = subst (λ (z : MidView). MidMoves z z before after (λ σ. retry z.faults z.me σ) (Ok Did)) v (record {
+  row = λ part e. let q = mid_up n.part.mode pending part e in
+      subst (λ z. Makes (as_mid depth) (mid_part n.part pending) (mid_part n.part pending) before after z (Ok Did)) (sym (retry_is n.faults n.me depth part)) (
+        refl,
+        (part, e, refl),
+        refl,
+        subst (λ t. after ≡ before ++ map sealed (log_packets t n.me (asks n.faults n.me (open_at part.log)))) tier (sent part.log q.0),
+        are_fit InMid n.me (asks n.faults n.me (open_at part.log)) (omega arith) (sends_fit n.faults InMid (asks n.faults n.me (open_at part.log)) (fits part q.0)),
+        refl,
+      );
+  reach = λ part e. let q = mid_up n.part.mode pending part e in
+      subst (λ (z : Move Mid). AllReach n.faults z.sends) (sym (retry_is n.faults n.me depth part)) (all_reach n.faults InMid n.me (asks n.faults n.me (open_at part.log)) l (fits part q.0));
+  same = (refl, (refl, refl));
+})
+  where
+    fits : (part : MidPart) → n.part.mode ≡ Up part.log → AllByRecursion (IsSendIn n.faults (CanStand InMid) FitsBallot) (asks n.faults n.me (open_at part.log))
+    fits part e = asks_in n.faults InMid n.me (open_at part.log) (range part.log e).within
+
+-- AS THE NODE'S CALLS NEED IT
+
+abbrev pub Opens : LogView → ℕ → Type 0
+Opens n f = (log : LogState AnyValue) → n.part.mode ≡ Up log → f ≡ open_at log
+
+open_past : (n : LogView) (pending : List (Option Entry)) (f : ℕ) (part : MidPart) → n.tier ≡ InMid → IsRanged n → Opens n f → 0 < f → mid_mode n.part.mode pending ≡ Up part → open_at part.log ≡ 1
+open_past n pending f part tier range opens l e =
+    let q = mid_up n.part.mode pending part e in
+    let r : IsLogIn (CanStand InMid) FitsBallot part.log = subst (λ t. IsLogIn (CanStand t) FitsBallot part.log) tier (range part.log q.0) in
+    omega (arith, at_most_one part.log r, opens part.log q.0)
+
+open_first : (n : LogView) (pending : List (Option Entry)) (f : ℕ) (part : MidPart) → Opens n f → f ≤ 0 → mid_mode n.part.mode pending ≡ Up part → open_at part.log ≡ 0
+open_first n pending f part opens l e = omega (arith, opens part.log (mid_up n.part.mode pending part e).0)
+
+pub own_past : (n : LogView) (depth : ℕ) (pending : List (Option Entry)) (now : MidView) (f : ℕ) → mid_view n depth pending ≡ now → n.tier ≡ InMid → IsRanged n → Opens n f → 0 < f
+    → (part : MidPart) → now.part.mode ≡ Up part → None ≡ own_value now.faults booking_service (as_mid now.depth part)
+own_past n depth pending now f v tier range opens l = subst (λ (z : MidView). (part : MidPart) → z.part.mode ≡ Up part → None ≡ own_value z.faults booking_service (as_mid z.depth part)) v
+    (λ part e. sym (value_past n.faults depth part (open_past n pending f part tier range opens l e)))
+
+pub own_empty : (n : LogView) (depth : ℕ) (pending : List (Option Entry)) (now : MidView) (f : ℕ) (es : List Entry) → mid_view n depth pending ≡ now → Opens n f → f ≤ 0 → ((d : ℕ) → es ≡ batch_of booking_service (tables0 d) pending) → es ≡ []
+    → (part : MidPart) → now.part.mode ≡ Up part → None ≡ own_value now.faults booking_service (as_mid now.depth part)
+own_empty n depth pending now f es v opens l made none = subst (λ (z : MidView). (part : MidPart) → z.part.mode ≡ Up part → None ≡ own_value z.faults booking_service (as_mid z.depth part)) v
+    (λ part e. sym (value_empty n.faults depth part es (open_first n pending f part opens l e) (made depth ∙ ap (λ z. batch_of booking_service (tables0 depth) z) (sym (mid_up n.part.mode pending part e).1)) none))
+
+pub own_batched : (n : LogView) (depth : ℕ) (pending : List (Option Entry)) (now : MidView) (f : ℕ) (es : List Entry) → mid_view n depth pending ≡ now → Opens n f → f ≤ 0 → ((d : ℕ) → es ≡ batch_of booking_service (tables0 d) pending) → (es ≡ [] → ⊥)
+    → (part : MidPart) → now.part.mode ≡ Up part → Some (values.Mid (Batch es)) ≡ own_value now.faults booking_service (as_mid now.depth part)
+own_batched n depth pending now f es v opens l made some = subst (λ (z : MidView). (part : MidPart) → z.part.mode ≡ Up part → Some (values.Mid (Batch es)) ≡ own_value z.faults booking_service (as_mid z.depth part)) v
+    (λ part e. sym (value_batch n.faults depth part es (open_first n pending f part opens l e) (made depth ∙ ap (λ z. batch_of booking_service (tables0 depth) z) (sym (mid_up n.part.mode pending part e).1)) some))
+
+pub past_cause : (n : LogView) (depth : ℕ) (pending : List (Option Entry)) (now : MidView) (f : ℕ) → mid_view n depth pending ≡ now → n.tier ≡ InMid → IsRanged n → Opens n f → 0 < f
+    → (part : MidPart) → now.part.mode ≡ Up part → why.NoTokens 0 ≡ own_cause now.faults (as_mid now.depth part)
+past_cause n depth pending now f v tier range opens l = subst (λ (z : MidView). (part : MidPart) → z.part.mode ≡ Up part → why.NoTokens 0 ≡ own_cause z.faults (as_mid z.depth part)) v
+    (λ part e. cause_past n.faults depth part (open_past n pending f part tier range opens l e))
+
+-- what is known of a part that is up is known of the log
+pub wants_at : (n : LogView) (depth : ℕ) (pending : List (Option Entry)) (now : MidView) (w : Offering) → mid_view n depth pending ≡ now → ((log : LogState AnyValue) → n.part.mode ≡ Up log → w ≡ log_wants n.faults log) → (part : MidPart) → now.part.mode ≡ Up part → w ≡ log_wants now.faults part.log
+wants_at n depth pending now w v f = subst (λ (z : MidView). (part : MidPart) → z.part.mode ≡ Up part → w ≡ log_wants z.faults part.log) v (λ part e. f part.log (mid_up n.part.mode pending part e).0)
+
+pub offers_row : (n : LogView) (depth : ℕ) (pending : List (Option Entry)) (now : MidView) (w : Offering) (own : Option AnyValue) → mid_view n depth pending ≡ now → ((log : LogState AnyValue) → n.part.mode ≡ Up log → w ≡ log_wants n.faults log) → offer_cause w ≡ None
+    → ((part : MidPart) → now.part.mode ≡ Up part → own ≡ own_value now.faults booking_service (as_mid now.depth part)) → (is_some own ≡ true) ⊎ (needs_own w ≡ false) → (log : LogState AnyValue) → n.part.mode ≡ Up log
+    → offers n.faults booking_service n.me (as_mid depth (record { log = log; pending = pending })) ≡ in_log n.faults booking_service n.me (as_mid depth (record { log = log; pending = pending })) (offer n.faults n.me log own)
+offers_row n depth pending now w own v f c g k log e = offers_log n.faults n.me depth (record { log = log; pending = pending }) w own (f log e) c
+    (subst (λ (z : MidView). ((part : MidPart) → z.part.mode ≡ Up part → own ≡ own_value z.faults booking_service (as_mid z.depth part))) (sym v) g (record { log = log; pending = pending }) (ap (λ z. mid_mode z pending) e)) k
+
+-- what an own value is by its tests
+pub none_of : (o : Option AnyValue) (b : Bool) → std_some o ≡ not b → b ≡ true → o ≡ None
+none_of None b e f = refl
+none_of (Some v) true e f = absurd (cc)
+none_of (Some v) false e f = absurd (cc)
+
+pub some_of : (o : Option AnyValue) (b : Bool) → std_some o ≡ not b → b ≡ false → is_some o ≡ true
+some_of (Some v) b e f = refl
+some_of None true e f = absurd (cc)
+some_of None false e f = absurd (cc)
+
+pub nil_if : (xs : List Entry) → length xs ≡ 0 → xs ≡ []
+nil_if [] e = refl
+nil_if (x ∷ xs) e = absurd (omega arith)
+
+pub some_if : (xs : List Entry) → (length xs ≡ 0 → ⊥) → xs ≡ [] → ⊥
+some_if xs n e = n (ap length e)

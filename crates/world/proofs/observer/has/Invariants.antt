@@ -1,0 +1,7 @@
+use Rattle.std.proofs.Common.{◌≡◌, drop}
+use Rattle.round_model.specs.Lists.{mem}
+use Rattle.world.proofs.observer.has.Given as goal
+
+-- what is left tells what all tell
+abbrev pub invariant-loop-sender : goal.invariant-loop-sender
+invariant-loop-sender l = mem l.from (drop l.sender-index l.senders) ≡ mem l.from l.senders

@@ -1,0 +1,8 @@
+use Rattle.std.proofs.lemmas.Result.{on_ok_weaker}
+use Rattle.run_model.specs.declared.trace.Fared.TheVariants.{Fine}
+use Rattle.run_model.specs.declared.trace.TraceEvent.TheVariants as events
+use Rattle.world.proofs.Stepping.{one_more}
+use Rattle.world.proofs.progress.Progress.offer.Goals as goal
+
+pub returns : goal.returns
+returns c = on_ok_weaker c.note.result (λ e. one_more c.args.self.now c.note.new.self c.offer.new.self (events.Offer c.args.node Fine) c.args.self.now.cursor c.args.lines.now c.offer.new.lines c.requires.step c.in_ok-offer.ensures e) c.note.ensures

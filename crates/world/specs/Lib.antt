@@ -1,0 +1,11 @@
+pub mod Parts
+pub mod Tallies
+pub mod Run
+pub mod Going
+pub mod Watching
+pub mod Standing
+pub mod NodeLists
+pub mod Telling
+pub mod Packets
+pub mod LogNodes
+pub mod PendingEntries

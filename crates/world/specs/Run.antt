@@ -1,0 +1,89 @@
+-- What contracts see of a world: the events that it has made, and where it stands in a script. What its calls do.
+use Rattle.std.specs.Prelude.{◌≡◌, ℕ, ◌≤◌, ◌<◌, Bool, true, false, List, [], ◌∷◌, ◌++◌, length, Option, Some, None}
+use Rattle.std.specs.declared.result.Result.{Result}
+use Rattle.std.specs.declared.result.Result.TheVariants.{Ok, Err}
+use Rattle.aeg_base.specs.declared.limits.TheConstants.{PACKETS_BEFORE}
+use Rattle.run_model.specs.declared.line.Event.{Event}
+use Rattle.run_model.specs.declared.line.Event.TheVariants as lines
+use Rattle.run_model.specs.declared.trace.TraceEvent.{TraceEvent}
+use Rattle.run_model.specs.Runs.{world}
+use Rattle.run_model.specs.Text.{event_text, closing}
+use Rattle.run_model.specs.Resolving.{Place, Turned, turn, goes_on, starts, first_place}
+use Rattle.world.specs.declared.stop.Stop.{Stop}
+use Rattle.world.specs.declared.stop.Stop.TheVariants as stops
+use Rattle.run_model.specs.BookingRuns.{config, BookingWorld}
+
+-- the list of the events that were made is all that it is known by
+pub record Run : Type 0 where
+  pub u : ℕ
+  pub depth : ℕ
+  pub trace : List TraceEvent
+  pub place : Place
+
+-- the world after these events
+abbrev pub world_of : Run → BookingWorld
+world_of r = world (config r.u r.depth) r.trace
+
+abbrev pub new_run : ℕ → ℕ → Run
+new_run u depth = record { u = u; depth = depth; trace = []; place = first_place }
+
+-- every node was restarted
+abbrev pub started : ℕ → ℕ → Run
+started u depth = record { u = u; depth = depth; trace = starts u; place = first_place }
+
+abbrev pub at_place : Run → Place → Run
+at_place r place = record { u = r.u; depth = r.depth; trace = r.trace; place = place }
+
+-- one event more
+abbrev pub with_event : Run → TraceEvent → Place → Run
+with_event r event place = record { u = r.u; depth = r.depth; trace = r.trace ++ event ∷ []; place = place }
+
+-- A line that has an event here, or none at all. Nodes neither run jobs nor go down, and no disk is stopped.
+abbrev pub is_made : Event → Bool
+is_made (lines.Submit client body) = true
+is_made (lines.Deliver packet) = true
+is_made (lines.Short packet bytes) = true
+is_made (lines.Cut nth keep line) = false
+is_made (lines.Lead n) = true
+is_made (lines.Offer n) = true
+is_made (lines.Retry end) = true
+is_made (lines.Work n by) = false
+is_made (lines.Crash n) = false
+is_made (lines.Restart n) = false
+is_made (lines.Wipe n) = false
+is_made lines.Flow = true
+is_made lines.Calm = false
+is_made lines.Lose = true
+
+-- the line's turn now
+abbrev pub turn_of : Run → Event → Turned
+turn_of r line = turn (config r.u r.depth) (world_of r) r.place line
+
+-- what the event prints
+abbrev pub text_of : Run → TraceEvent → List ℕ
+text_of r event = event_text (config r.u r.depth) (world_of r) event
+
+-- The line's event was made and what it prints was added. An event begins only where no more packets than the limit were
+-- sent; else nothing is changed. Want of memory says nothing.
+abbrev pub AppliesEvent : Run → Run → List ℕ → List ℕ → Event → Place → TraceEvent → Result Bool Stop → Type 0
+AppliesEvent old new before now line place event (Ok again) = (length (world_of old).soup ≤ PACKETS_BEFORE) × (new ≡ with_event old event place) × (now ≡ before ++ text_of old event) × (again ≡ goes_on line)
+AppliesEvent old new before now line place event (Err stops.Limit) = (PACKETS_BEFORE < length (world_of old).soup) × (new ≡ old) × (now ≡ before)
+AppliesEvent old new before now line place event (Err stops.Memory) = Unit {0}
+
+-- nothing is left to do for the line
+abbrev pub AppliesNothing : Run → Run → List ℕ → List ℕ → Place → Result Bool Stop → Type 0
+AppliesNothing old new before now place (Ok again) = (new ≡ at_place old place) × (now ≡ before) × (again ≡ false)
+AppliesNothing old new before now place (Err stops.Limit) = ⊥
+AppliesNothing old new before now place (Err stops.Memory) = Unit {0}
+
+abbrev pub AppliesBy : Run → Run → List ℕ → List ℕ → Event → Place → Option TraceEvent → Result Bool Stop → Type 0
+AppliesBy old new before now line place None answer = AppliesNothing old new before now place answer
+AppliesBy old new before now line place (Some event) answer = AppliesEvent old new before now line place event answer
+
+-- a call of `apply` with this line
+abbrev pub Applies : Run → Run → List ℕ → List ℕ → Event → Result Bool Stop → Type 0
+Applies old new before now line answer = AppliesBy old new before now line (turn_of old line).place (turn_of old line).event answer
+
+-- the closing lines
+abbrev pub closing_of : Run → List ℕ
+closing_of r = closing (world_of r)

@@ -1,0 +1,147 @@
+// The nodes of the three tiers.
+ghost use Rattle.std.specs.Prelude.{◌≡◌, ℕ, ◌+◌, ◌*◌, ◌<◌, ◌≤◌, ◌++◌, List, IfOk};
+ghost use Rattle.svc_api.specs.Plan.{IsBackend};
+ghost use Rattle.aeg_base.specs.declared.names.End.{End};
+ghost use Rattle.log_model.specs.Log.{nobody};
+ghost use Rattle.round_model.specs.Lists.{each};
+ghost use Rattle.tier_model.specs.MidRows as mids;
+ghost use Rattle.tier_model.specs.BackRows as backs;
+ghost use Rattle.run_model.specs.BookingRuns.{booking_service};
+ghost use Rattle.world.specs.NodeLists.{new_mid, new_back, AreNew, HasNode, up_at, IsUpAt, NodesMove, CanReachAt, IsNewAt, Restarts};
+
+use super::back_node::BackNode;
+use super::mid_node::MidNode;
+use aeg_base::limits::MAX_FAULTS;
+use aeg_base::{End, Memory, NodeId, Tier};
+use frames::{Fault, Msg, Outbox, Turn};
+use std::alloc::Global;
+
+/// The nodes of each tier by their indexes.
+#[derive(Drop)]
+pub struct Nodes {
+    mids: Vec<MidNode>,
+    invs: Vec<BackNode>,
+    pays: Vec<BackNode>,
+}
+
+/// The middle nodes of a tier of 2u+1.
+fn new_mids(alloc: Global, u: u8, depth: u8) -> Result<Vec<MidNode>, Memory>
+    requires { u ≤ MAX_FAULTS }
+    ensures { IfOk result (λ nodes. nodes.items ≡ each (2 * u + 1) nobody (new_mid u depth)) }
+{
+    let mut nodes = Vec::new(alloc);
+    for me in 0..2 * u + 1 {
+        nodes.push(MidNode::new(alloc, u, depth, me))?;
+    }
+    Ok(nodes)
+}
+
+/// The nodes of a backend's tier of 2u+1.
+fn new_backs(alloc: Global, u: u8, tier: Tier) -> Result<Vec<BackNode>, Memory>
+    requires few { u ≤ MAX_FAULTS }
+    requires tier { IsBackend tier }
+    ensures { IfOk result (λ nodes. nodes.items ≡ each (2 * u + 1) nobody (new_back u tier)) }
+{
+    let mut nodes = Vec::new(alloc);
+    for me in 0..2 * u + 1 {
+        nodes.push(BackNode::new(alloc, u, tier, me))?;
+    }
+    Ok(nodes)
+}
+
+impl Nodes {
+    /// All are down, on blank disks.
+    pub fn new(alloc: Global, u: u8, depth: u8) -> Result<Self, Memory>
+        requires { u ≤ MAX_FAULTS }
+        ensures { IfOk result (λ nodes. AreNew u depth nodes) }
+    {
+        let mids = new_mids(alloc, u, depth)?;
+        let invs = new_backs(alloc, u, Tier::Inv)?;
+        let pays = new_backs(alloc, u, Tier::Pay)?;
+        Ok(Nodes { mids, invs, pays })
+    }
+
+    pub fn is_up(&self, node: NodeId) -> bool
+        requires { HasNode self.now node }
+        ensures { result ≡ up_at self.now node }
+    {
+        let x = usize::from(node.index);
+        match node.tier {
+            Tier::Mid => self.mids[x].is_up(),
+            Tier::Inv => self.invs[x].is_up(),
+            Tier::Pay => self.pays[x].is_up(),
+        }
+    }
+
+    /// The node comes up from a blank disk.
+    pub fn restart(&mut self, node: NodeId)
+        requires { IsNewAt self.old node }
+        ensures { Restarts self.old self.new node }
+    {
+        let x = usize::from(node.index);
+        match node.tier {
+            Tier::Mid => self.mids[x].restart(),
+            Tier::Inv => self.invs[x].restart(),
+            Tier::Pay => self.pays[x].restart(),
+        }
+    }
+
+    /// The node takes a packet.
+    pub fn deliver(
+        &mut self,
+        node: NodeId,
+        from: End,
+        msg: &Msg,
+        out: &mut Outbox,
+    ) -> Result<Turn, Fault>
+        requires up { IsUpAt self.old node }
+        requires reach { CanReachAt self.old node from msg.now }
+        ensures { NodesMove self.old self.new node out.old out.new (λ m σ. mids.on_frame m.faults booking_service m.me σ from msg.now) (λ b σ. backs.on_frame b.faults booking_service b.tier b.me σ from msg.now) result }
+    {
+        let x = usize::from(node.index);
+        match node.tier {
+            Tier::Mid => self.mids[x].deliver(from, msg, out),
+            Tier::Inv => self.invs[x].deliver(from, msg, out),
+            Tier::Pay => self.pays[x].deliver(from, msg, out),
+        }
+    }
+
+    /// The node begins to lead.
+    pub fn lead(&mut self, node: NodeId, out: &mut Outbox) -> Result<Turn, Fault>
+        requires { IsUpAt self.old node }
+        ensures { NodesMove self.old self.new node out.old out.new (λ m σ. mids.leads m.faults booking_service m.me σ) (λ b σ. backs.leads b.faults booking_service b.tier b.me σ) result }
+    {
+        let x = usize::from(node.index);
+        match node.tier {
+            Tier::Mid => self.mids[x].lead(out),
+            Tier::Inv => self.invs[x].lead(out),
+            Tier::Pay => self.pays[x].lead(out),
+        }
+    }
+
+    /// The node offers a value, where it can.
+    pub fn offer(&mut self, node: NodeId, out: &mut Outbox) -> Result<Turn, Fault>
+        requires { IsUpAt self.old node }
+        ensures { NodesMove self.old self.new node out.old out.new (λ m σ. mids.offers m.faults booking_service m.me σ) (λ b σ. backs.offers b.faults booking_service b.tier b.me σ) result }
+    {
+        let x = usize::from(node.index);
+        match node.tier {
+            Tier::Mid => self.mids[x].offer(out),
+            Tier::Inv => Ok(self.invs[x].offer()),
+            Tier::Pay => Ok(self.pays[x].offer()),
+        }
+    }
+
+    /// The node tells again what may be lost.
+    pub fn retry(&mut self, node: NodeId, out: &mut Outbox) -> Result<Turn, Fault>
+        requires { IsUpAt self.old node }
+        ensures { NodesMove self.old self.new node out.old out.new (λ m σ. mids.retry m.faults m.me σ) (λ b σ. backs.retry b.faults b.tier b.me σ) result }
+    {
+        let x = usize::from(node.index);
+        match node.tier {
+            Tier::Mid => self.mids[x].retry(out),
+            Tier::Inv => self.invs[x].retry(out),
+            Tier::Pay => self.pays[x].retry(out),
+        }
+    }
+}

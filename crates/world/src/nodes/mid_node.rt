@@ -1,0 +1,192 @@
+// A middle node.
+ghost use Rattle.std.specs.Prelude.{◌≡◌, ℕ, ◌+◌, ◌*◌, ◌<◌, ◌≤◌, List, [], true, IfOk};
+ghost use Rattle.aeg_base.specs.declared.names.Tier.TheVariants as tiers;
+ghost use Rattle.aeg_base.specs.declared.names.End.{End};
+ghost use Rattle.log_model.specs.Log.{open_at};
+ghost use Rattle.log_model.specs.Ranges.{IsOwnIn};
+ghost use Rattle.log_model.specs.World.Mode.{Up};
+ghost use Rattle.frames.specs.declared.message.Msg.TheVariants as msgs;
+ghost use Rattle.tier_model.specs.MidRows.{on_frame, leads, offers, retry, recovered, own_value, own_cause};
+ghost use Rattle.run_model.specs.BookingRuns.{booking_service};
+ghost use Rattle.world.specs.Parts.{CanReach, CanStand, IsAsked, MidMoves, MidPart, as_mid, is_up, new_part};
+
+use super::log_node::LogNode;
+use super::pending::Pending;
+use super::telling::{needs_own, offer_cause};
+use aeg_base::limits::{MAX_DEPTH, MAX_FAULTS};
+use aeg_base::{Bytes, End, Memory, NodeId, Seq, Tier};
+use booking::read_request;
+use frames::{Fault, Idle, Msg, Outbox, Refused, Turn};
+use log_values::{AnyValue, Entry, MidValue};
+use paxos_log::PaxMsg;
+use std::alloc::Global;
+use std::marker::Model;
+
+/// A middle node while nothing is run: its log, and the requests that wait for their round.
+#[derive(Drop)]
+pub struct MidNode {
+    alloc: Global,
+    depth: u8,
+    node: LogNode,
+    pending: Pending,
+}
+
+impl Model for MidNode {
+    ghost use Rattle.std.specs.Prelude.{◌≡◌, ◌+◌, ◌*◌, ◌<◌, ◌≤◌};
+    ghost use Rattle.aeg_base.specs.declared.limits.TheConstants.{MAX_FAULTS};
+    ghost use Rattle.aeg_base.specs.declared.names.Tier.TheVariants as tiers;
+    ghost use Rattle.world.specs.Parts.{MidView};
+    ghost use Rattle.world.specs.LogNodes.{mid_part};
+
+    ghost Value = { MidView };
+
+    ghost view = { λ n. record { faults = n.node.faults; depth = n.depth; me = n.node.me; part = mid_part n.node.part n.pending } };
+
+    ghost invariant = { λ n. (n.node.tier ≡ tiers.Mid) × (n.node.me < 2 * n.node.faults + 1) × (n.node.faults ≤ MAX_FAULTS) };
+}
+
+impl MidNode {
+    /// A node that is down, on a blank disk.
+    pub fn new(alloc: Global, u: u8, depth: u8, me: u8) -> Self
+        requires faults { u ≤ MAX_FAULTS }
+        requires node { me < 2 * u + 1 }
+        ensures { result ≡ record { faults = u; depth = depth; me = me; part = new_part } }
+    {
+        let id = NodeId {
+            tier: Tier::Mid,
+            index: me,
+        };
+        MidNode {
+            alloc,
+            depth,
+            node: LogNode::new(alloc, u, id),
+            pending: Pending::new(),
+        }
+    }
+
+    pub fn is_up(&self) -> bool
+        ensures { result ≡ is_up self.now.part }
+    {
+        self.node.is_up()
+    }
+
+    /// Comes up from a blank disk.
+    pub fn restart(&mut self)
+        requires { self.old.part ≡ new_part }
+        ensures part { (part : MidPart) × ((self.new.part ≡ record { mode = Up part; written = 1 }) × (as_mid self.old.depth part ≡ recovered self.old.faults booking_service self.old.depth [])) }
+        ensures same { (self.new.faults ≡ self.old.faults) × ((self.new.depth ≡ self.old.depth) × (self.new.me ≡ self.old.me)) }
+    {
+        self.node.restart();
+        self.pending = Pending::new();
+    }
+
+    /// Takes a packet.
+    pub fn deliver(&mut self, from: End, msg: &Msg, out: &mut Outbox) -> Result<Turn, Fault>
+        requires up { is_up self.old.part ≡ true }
+        requires reach { CanReach self.old.faults from tiers.Mid msg.now }
+        ensures { MidMoves self.old self.new out.old out.new (λ σ. on_frame self.old.faults booking_service self.old.me σ from msg.now) result }
+    {
+        match msg {
+            Msg::Log(message) => self.on_log(from, message, out),
+            Msg::Request { seq, body } => self.on_request(from, *seq, body),
+            _ => Ok(Turn::Dropped(Refused::Row(7))),
+        }
+    }
+
+    /// Begins to lead.
+    pub fn lead(&mut self, out: &mut Outbox) -> Result<Turn, Fault>
+        requires { is_up self.old.part ≡ true }
+        ensures { MidMoves self.old self.new out.old out.new (λ σ. leads self.old.faults booking_service self.old.me σ) result }
+    {
+        self.node.lead(out)
+    }
+
+    /// Offers the value that was reported, or its own.
+    pub fn offer(&mut self, out: &mut Outbox) -> Result<Turn, Fault>
+        requires { is_up self.old.part ≡ true }
+        ensures { MidMoves self.old self.new out.old out.new (λ σ. offers self.old.faults booking_service self.old.me σ) result }
+    {
+        let wants = self.node.wants();
+        if let Some(cause) = offer_cause(wants) {
+            return Ok(Turn::Idle(cause));
+        }
+        let own = self.own_value()?;
+        if own.is_none() && needs_own(wants) {
+            return Ok(Turn::Idle(self.own_cause()));
+        }
+        self.node.offer(own.as_ref(), out)
+    }
+
+    /// Tells again what may be lost: while nothing is run, its Asks alone.
+    pub fn retry(&self, out: &mut Outbox) -> Result<Turn, Fault>
+        requires { is_up self.now.part ≡ true }
+        ensures { MidMoves self.now self.now out.old out.new (λ σ. retry self.now.faults self.now.me σ) result }
+    {
+        self.node.ask(out)?;
+        Ok(Turn::Did)
+    }
+
+    fn on_log(
+        &mut self,
+        from: End,
+        message: &PaxMsg<AnyValue>,
+        out: &mut Outbox,
+    ) -> Result<Turn, Fault>
+        requires up { is_up self.old.part ≡ true }
+        requires reach { CanReach self.old.faults from tiers.Mid (msgs.Log message.now) }
+        ensures { MidMoves self.old self.new out.old out.new (λ σ. on_frame self.old.faults booking_service self.old.me σ from (msgs.Log message.now)) result }
+    {
+        let Some(index) = self.node.peer(from) else {
+            return Ok(Turn::Dropped(Refused::Row(7)));
+        };
+        self.node.on_msg(index, message, out)
+    }
+
+    fn on_request(&mut self, from: End, seq: u32, body: &Bytes) -> Result<Turn, Fault>
+        requires { IsAsked from seq body.now }
+        ensures { (out : List (End × List ℕ)) → MidMoves self.old self.new out out (λ σ. on_frame self.old.faults booking_service self.old.me σ from (msgs.Request seq body.now)) result }
+    {
+        let End::Client(client) = from else {
+            return Ok(Turn::Dropped(Refused::Row(7)));
+        };
+        if read_request(body.items()).is_err() {
+            return Ok(Turn::Dropped(Refused::Row(8)));
+        }
+        // No request was done, so each client's first one is its next.
+        if seq != 1 || self.pending.has(client, seq) {
+            return Ok(Turn::Idle(Idle::Nothing));
+        }
+        let body = body.copy()?;
+        self.pending.set(Entry { client, seq, body });
+        Ok(Turn::Did)
+    }
+
+    /// Its own value for the first open position. No round has a verdict while nothing is run, so only the batch of the
+    /// first one can be offered.
+    fn own_value(&self) -> Result<Option<AnyValue>, Memory>
+        requires { is_up self.now.part ≡ true }
+        ensures value { (part : MidPart) → self.now.part.mode ≡ Up part → IfOk result (λ own. own ≡ own_value self.now.faults booking_service (as_mid self.now.depth part)) }
+        ensures range { (part : MidPart) → self.now.part.mode ≡ Up part → IfOk result (λ own. IsOwnIn (CanStand tiers.Mid) (open_at part.log) own) }
+    {
+        if self.node.first_open() > 0 {
+            return Ok(None);
+        }
+        let batch = self.pending.batch(self.alloc)?;
+        if batch.is_empty() {
+            return Ok(None);
+        }
+        let batch = MidValue::Batch(Seq::of(batch));
+        Ok(Some(AnyValue::Mid(batch)))
+    }
+
+    /// Why it has none.
+    fn own_cause(&self) -> Idle
+        requires { is_up self.now.part ≡ true }
+        ensures { (part : MidPart) → self.now.part.mode ≡ Up part → result ≡ own_cause self.now.faults (as_mid self.now.depth part) }
+    {
+        if self.node.first_open() > 0 {
+            return Idle::NoTokens { have: 0 };
+        }
+        Idle::Nothing
+    }
+}

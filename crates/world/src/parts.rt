@@ -1,0 +1,76 @@
+// The nodes, the clients and the packets of a run.
+ghost use Rattle.std.specs.Prelude.{◌≡◌, ℕ, ◌+◌, ◌*◌, ◌<◌, ◌≤◌, ◌++◌, length, OnOk};
+ghost use Rattle.round_model.specs.Lists.{of_tier};
+ghost use Rattle.world.specs.Watching.{hears_packets, all_grown};
+
+mod clients;
+mod commands;
+mod deliveries;
+mod flow;
+mod starting;
+
+use crate::nodes::Nodes;
+use crate::watch::Watch;
+use aeg_base::limits::PACKETS;
+use aeg_base::{Bytes, End, Memory, Tier};
+use frames::Outbox;
+use net_script::{ClientEnd, Soup};
+use std::alloc::Global;
+
+/// The nodes, the client ends by the clients' numbers, all packets, and what is seen of them.
+#[derive(Drop)]
+pub struct Parts {
+    alloc: Global,
+    u: u8,
+    nodes: Nodes,
+    clients: Vec<ClientEnd>,
+    soup: Soup,
+    watch: Watch,
+}
+
+/// Adds the packets to the list of all, and takes note of them.
+fn join(soup: &mut Soup, watch: &mut Watch, packets: Vec<(End, Bytes)>) -> Result<(), Memory>
+    ensures { OnOk result ((soup.new ≡ soup.old ++ packets.items) × (watch.new ≡ hears_packets watch.old packets.items)) }
+{
+    for (to, bytes) in packets {
+        // No event sends so many, but no clause of the nodes counts what they send.
+        if soup.len() >= PACKETS {
+            return Err(Memory);
+        }
+        watch.hear(bytes.items())?;
+        soup.push(to, bytes)?;
+    }
+    Ok(())
+}
+
+impl Parts {
+    /// How many nodes of a tier of 2u+1 can fail.
+    pub fn faults(&self) -> u8
+        ensures { result ≡ self.now.u }
+    {
+        self.u
+    }
+
+    /// How many packets were sent.
+    pub fn packets(&self) -> u32
+        ensures { result ≡ length self.now.soup }
+    {
+        self.soup.len()
+    }
+
+    /// How many positions of the tier's log are chosen.
+    pub fn chosen(&self, tier: Tier) -> u32
+        ensures { result ≡ (of_tier self.now.watch tier).chosen }
+    {
+        self.watch.chosen(tier)
+    }
+
+    /// Ends an event: its packets are on their way, and the logs go on by what they let be chosen.
+    fn send(&mut self, out: Outbox) -> Result<(), Memory>
+        ensures { OnOk result (self.new ≡ record self.old { soup = self.old.soup ++ out; watch = all_grown (hears_packets self.old.watch out) }) }
+    {
+        join(&mut self.soup, &mut self.watch, out.into_vec())?;
+        self.watch.grow();
+        Ok(())
+    }
+}

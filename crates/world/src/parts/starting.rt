@@ -1,0 +1,60 @@
+// A run before its first event, and restarts.
+ghost use Rattle.std.specs.Prelude.{◌≡◌, ◌≤◌, OnOk, IfOk};
+ghost use Rattle.log_model.specs.Log.{nobody};
+ghost use Rattle.net_script.specs.Clients.{fresh};
+ghost use Rattle.round_model.specs.Lists.{each};
+ghost use Rattle.run_model.specs.World.{start};
+ghost use Rattle.run_model.specs.declared.trace.Found.TheVariants.{Reads};
+ghost use Rattle.run_model.specs.declared.trace.TraceEvent.TheVariants as events;
+ghost use Rattle.world.specs.NodeLists.{IsNewAt, Restarts};
+ghost use Rattle.world.specs.Standing.{AreShown, Shows, PlaysQuietly};
+
+use super::Parts;
+use crate::nodes::Nodes;
+use crate::watch::Watch;
+use aeg_base::limits::MAX_FAULTS;
+use aeg_base::{Memory, NodeId};
+use frames::Outbox;
+use net_script::{ClientEnd, Soup};
+use std::alloc::Global;
+
+/// A client end for each number up to 16. None has the number 0.
+fn new_clients(alloc: Global) -> Result<Vec<ClientEnd>, Memory>
+    ensures { IfOk result (λ clients. clients.items ≡ each 17 nobody fresh) }
+{
+    let mut clients = Vec::new(alloc);
+    for client in 0..17u8 {
+        clients.push(ClientEnd::new(alloc, client))?;
+    }
+    Ok(clients)
+}
+
+impl Parts {
+    /// All nodes are down on blank disks, and nothing was sent.
+    pub fn new(alloc: Global, u: u8, depth: u8) -> Result<Self, Memory>
+        requires { u ≤ MAX_FAULTS }
+        ensures { IfOk result (Shows u depth start) }
+    {
+        let nodes = Nodes::new(alloc, u, depth)?;
+        let clients = new_clients(alloc)?;
+        Ok(Parts {
+            alloc,
+            u,
+            nodes,
+            clients,
+            soup: Soup::new(alloc),
+            watch: Watch::new(alloc, u),
+        })
+    }
+
+    /// The node restarts on its blank disk, and prints nothing.
+    pub fn restart(&mut self, node: NodeId) -> Result<(), Memory>
+        requires shown { AreShown self.old }
+        requires blank { IsNewAt self.old.nodes node }
+        ensures event { PlaysQuietly self.old self.new (events.Restart node (Reads 0)) result }
+        ensures nodes { OnOk result (Restarts self.old.nodes self.new.nodes node) }
+    {
+        self.nodes.restart(node);
+        self.send(Outbox::new(self.alloc))
+    }
+}

@@ -1,0 +1,152 @@
+// A run so far.
+ghost use Rattle.std.specs.Prelude.{◌≡◌, ◌∷◌, [], ◌++◌, ◌+◌, ◌*◌, ◌<◌, ◌≤◌, true, OnOk, IfOk};
+ghost use Rattle.aeg_base.specs.declared.names.End.TheVariants as ends;
+ghost use Rattle.log_values.specs.Fields.{IsClient};
+ghost use Rattle.run_model.specs.Script.{is_asked};
+ghost use Rattle.run_model.specs.declared.line.Event.TheVariants as script;
+ghost use Rattle.run_model.specs.declared.trace.Fared.TheVariants.{Fine};
+ghost use Rattle.run_model.specs.declared.trace.TraceEvent.TheVariants as events;
+ghost use Rattle.world.specs.Run.{new_run, closing_of};
+ghost use Rattle.world.specs.Going.{place_at, run_of, IsInStep, Adds};
+
+mod lines;
+mod starting;
+
+use crate::parts::Parts;
+use crate::text::add_closing;
+use aeg_base::limits::MAX_FAULTS;
+use aeg_base::{Bytes, End, Memory, NodeId, Seq, Tier};
+use run_model::{Fared, TraceEvent};
+use std::alloc::Global;
+
+/// Its events, the parts as they left them, and the packet that `flow` delivers next.
+#[derive(Drop)]
+pub struct Progress {
+    depth: u8,
+    cursor: u32,
+    trace: Seq<TraceEvent>,
+    parts: Parts,
+}
+
+impl Progress {
+    /// No event was made.
+    pub fn new(alloc: Global, u: u8, depth: u8) -> Result<Self, Memory>
+        requires { u ≤ MAX_FAULTS }
+        ensures { IfOk result (λ progress. (run_of progress ≡ new_run u depth) × IsInStep progress) }
+    {
+        let parts = Parts::new(alloc, u, depth)?;
+        Ok(Progress {
+            depth,
+            cursor: 0,
+            trace: Seq::new(alloc),
+            parts,
+        })
+    }
+
+    /// The events so far.
+    pub fn trace(&self) -> &[TraceEvent]
+        ensures { result.now ≡ self.now.trace }
+    {
+        self.trace.items()
+    }
+
+    /// Adds the closing lines.
+    pub fn close(&self, lines: &mut Bytes) -> Result<(), Memory>
+        requires { IsInStep self.now }
+        ensures { OnOk result (lines.new ≡ lines.old ++ closing_of (run_of self.now)) }
+    {
+        let mid = self.parts.chosen(Tier::Mid);
+        let inv = self.parts.chosen(Tier::Inv);
+        let pay = self.parts.chosen(Tier::Pay);
+        add_closing(lines, mid, inv, pay, self.parts.packets())
+    }
+
+    /// Takes note of an event that was made.
+    fn note(&mut self, event: TraceEvent, cursor: u32) -> Result<(), Memory>
+        ensures { OnOk result (self.new ≡ record self.old { trace = self.old.trace ++ event ∷ []; cursor = cursor }) }
+    {
+        self.trace.push(event)?;
+        self.cursor = cursor;
+        Ok(())
+    }
+
+    fn submit(&mut self, client: u8, body: &Bytes, lines: &mut Bytes) -> Result<(), Memory>
+        requires step { IsInStep self.old }
+        requires client { IsClient client }
+        requires asked { is_asked (script.Submit client body.now) ≡ true }
+        ensures { OnOk result (Adds self.old self.new lines.old lines.new (events.Submit client body.now) (place_at self.old.cursor)) }
+    {
+        let cursor = self.cursor;
+        self.parts.submit(client, body, lines)?;
+        let body = body.copy()?;
+        self.note(TraceEvent::Submit { client, body }, cursor)
+    }
+
+    fn deliver(&mut self, packet: u32, cursor: u32, lines: &mut Bytes) -> Result<(), Memory>
+        requires { IsInStep self.old }
+        ensures { OnOk result (Adds self.old self.new lines.old lines.new (events.Deliver packet Fine) (place_at cursor)) }
+    {
+        self.parts.deliver(packet, lines)?;
+        let fared = Fared::Fine;
+        self.note(TraceEvent::Deliver { packet, fared }, cursor)
+    }
+
+    fn short(&mut self, packet: u32, bytes: u32, lines: &mut Bytes) -> Result<(), Memory>
+        requires { IsInStep self.old }
+        ensures { OnOk result (Adds self.old self.new lines.old lines.new (events.Short packet bytes Fine) (place_at self.old.cursor)) }
+    {
+        let cursor = self.cursor;
+        self.parts.short(packet, bytes, lines)?;
+        let fared = Fared::Fine;
+        let event = TraceEvent::Short {
+            packet,
+            bytes,
+            fared,
+        };
+        self.note(event, cursor)
+    }
+
+    fn lead(&mut self, node: NodeId, lines: &mut Bytes) -> Result<(), Memory>
+        requires step { IsInStep self.old }
+        requires there { node.index < 2 * self.old.parts.u + 1 }
+        ensures { OnOk result (Adds self.old self.new lines.old lines.new (events.Lead node Fine) (place_at self.old.cursor)) }
+    {
+        let cursor = self.cursor;
+        self.parts.lead(node, lines)?;
+        let fared = Fared::Fine;
+        self.note(TraceEvent::Lead { node, fared }, cursor)
+    }
+
+    fn offer(&mut self, node: NodeId, lines: &mut Bytes) -> Result<(), Memory>
+        requires step { IsInStep self.old }
+        requires there { node.index < 2 * self.old.parts.u + 1 }
+        ensures { OnOk result (Adds self.old self.new lines.old lines.new (events.Offer node Fine) (place_at self.old.cursor)) }
+    {
+        let cursor = self.cursor;
+        self.parts.offer(node, lines)?;
+        let fared = Fared::Fine;
+        self.note(TraceEvent::Offer { node, fared }, cursor)
+    }
+
+    fn retry(&mut self, node: NodeId, lines: &mut Bytes) -> Result<(), Memory>
+        requires step { IsInStep self.old }
+        requires there { node.index < 2 * self.old.parts.u + 1 }
+        ensures { OnOk result (Adds self.old self.new lines.old lines.new (events.Retry (ends.Node node)) (place_at self.old.cursor)) }
+    {
+        let cursor = self.cursor;
+        self.parts.retry(node, lines)?;
+        let end = End::Node(node);
+        self.note(TraceEvent::Retry { end }, cursor)
+    }
+
+    fn ask_again(&mut self, client: u8, lines: &mut Bytes) -> Result<(), Memory>
+        requires step { IsInStep self.old }
+        requires client { IsClient client }
+        ensures { OnOk result (Adds self.old self.new lines.old lines.new (events.Retry (ends.Client client)) (place_at self.old.cursor)) }
+    {
+        let cursor = self.cursor;
+        self.parts.ask_again(client, lines)?;
+        let end = End::Client(client);
+        self.note(TraceEvent::Retry { end }, cursor)
+    }
+}

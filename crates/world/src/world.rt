@@ -1,0 +1,90 @@
+// The world that a script's lines are played in.
+ghost use Rattle.std.specs.Prelude.{◌≡◌, ◌++◌, ◌≤◌, true, IfOk, OnOk};
+ghost use Rattle.net_script.specs.Events.{IsProper};
+ghost use Rattle.world.specs.Run.{new_run, started, is_made, Applies, closing_of};
+
+use crate::progress::Progress;
+use crate::stop::Stop;
+use aeg_base::limits::MAX_FAULTS;
+use aeg_base::{Bytes, Memory};
+use run_model::{Event, TraceEvent};
+use std::alloc::Global;
+use std::marker::Model;
+
+/// The nodes of the three tiers, the clients and all packets, and the events that they went through. Once a call wants
+/// memory the world has ended, and each later one answers that too.
+#[derive(Drop)]
+pub struct World {
+    has_ended: bool,
+    progress: Progress,
+}
+
+impl Model for World {
+    ghost use Rattle.std.specs.Prelude.{◌≡◌, false};
+    ghost use Rattle.world.specs.Run.{Run};
+    ghost use Rattle.world.specs.Going.{run_of, IsInStep};
+
+    ghost Value = { Run };
+
+    ghost view = { λ w. run_of w.progress };
+
+    ghost invariant = { λ w. w.has_ended ≡ false → IsInStep w.progress };
+}
+
+impl World {
+    /// All nodes are down on blank disks, and nothing was sent.
+    pub fn new(alloc: Global, u: u8, depth: u8) -> Result<Self, Memory>
+        requires { u ≤ MAX_FAULTS }
+        ensures { IfOk result (λ world. world ≡ new_run u depth) }
+    {
+        let progress = Progress::new(alloc, u, depth)?;
+        Ok(World {
+            has_ended: false,
+            progress,
+        })
+    }
+
+    /// Each node restarts on its blank disk.
+    pub fn start(&mut self) -> Result<(), Memory>
+        requires { self.old ≡ new_run self.old.u self.old.depth }
+        ensures { OnOk result (self.new ≡ started self.old.u self.old.depth) }
+    {
+        if self.has_ended {
+            return Err(Memory);
+        }
+        let answer = self.progress.start();
+        self.has_ended = answer.is_err();
+        answer
+    }
+
+    /// Does what is next for the line, at most one event, and answers whether more may be left of it.
+    pub fn apply(&mut self, line: &Event, lines: &mut Bytes) -> Result<bool, Stop>
+        requires proper { IsProper self.old.u line.now }
+        requires made { is_made line.now ≡ true }
+        ensures { Applies self.old self.new lines.old lines.new line.now result }
+    {
+        if self.has_ended {
+            return Err(Stop::Memory);
+        }
+        let answer = self.progress.apply(line, lines);
+        self.has_ended = matches!(answer, Err(Stop::Memory));
+        answer
+    }
+
+    /// Adds the closing lines.
+    pub fn close(&self, lines: &mut Bytes) -> Result<(), Memory>
+        ensures { OnOk result (lines.new ≡ lines.old ++ closing_of self.now) }
+    {
+        if self.has_ended {
+            return Err(Memory);
+        }
+        self.progress.close(lines)
+    }
+
+    /// The events so far.
+    pub fn trace(&self) -> &[TraceEvent]
+        ensures { result.now ≡ self.now.trace }
+    {
+        self.progress.trace()
+    }
+}
