@@ -15,7 +15,7 @@ use Rattle.round_model.specs.Lists.{each}
 use Rattle.run_model.specs.declared.trace.Found.TheVariants.{Reads}
 use Rattle.run_model.specs.declared.trace.TraceEvent.{TraceEvent}
 use Rattle.run_model.specs.declared.trace.TraceEvent.TheVariants.{Restart}
-use Rattle.run_model.specs.World.{start, happens, restarts, restarted}
+use Rattle.run_model.specs.World.{start, happens, restarts}
 use Rattle.run_model.specs.Runs.{mid_chosen, back_chosen, mid_grows, back_grows, grows, world}
 use Rattle.run_model.specs.BookingRuns.{config, BookingWorld}
 use Rattle.world.specs.declared.nodes.all_nodes.Nodes.{Nodes}

@@ -15,7 +15,7 @@ use Rattle.world.specs.declared.parts.Parts.{Parts}
 use Rattle.world.specs.declared.progress.Progress.{Progress}
 use Rattle.world.specs.declared.stop.Stop.TheVariants as stops
 use Rattle.world.specs.Parts.{sealed}
-use Rattle.world.specs.Run.{Run, world_of, with_event, at_place, AppliesEvent, AppliesNothing, AppliesBy}
+use Rattle.world.specs.Run.{world_of, with_event, at_place, AppliesEvent, AppliesNothing, AppliesBy}
 use Rattle.world.specs.Standing.{AreShown, Shows}
 use Rattle.world.specs.Going.{place_at, run_of, IsInStep, Adds, GoesBy}
 

@@ -1,4 +1,3 @@
-use Rattle.std.proofs.Common.{rules}
 use Rattle.aeg_base.specs.declared.names.Tier.TheVariants.{Mid, Inv, Pay}
 use Rattle.world.proofs.Blanks.{tier_after, blank_start}
 use Rattle.world.proofs.progress.Progress.start.Goals as goal
