@@ -1,5 +1,5 @@
 -- Scripts that the definitions play to their whole text: each event's lines in turn, and the closing lines.
-use Rattle.std.proofs.Common.{◌≡◌, ℕ, zero, suc, List, [], ◌∷◌, ◌++◌, refl, Option, Some, None}
+use Rattle.std.proofs.Common.{◌≡◌, ℕ, zero, suc, List, [], ◌∷◌, ◌++◌, refl, Some, None}
 use Rattle.std.specs.Prelude.{codes}
 use Rattle.std.specs.Fmt.{digits}
 use Rattle.aeg_base.specs.Numbers.{checked, number_at, with_number}
@@ -14,7 +14,7 @@ use Rattle.aeg_wire.specs.Formats.{list_at}
 use Rattle.run_model.specs.declared.line.Event.TheVariants.{Submit, Lead, Calm}
 use Rattle.run_model.specs.Script.{Script, Read, Reads, Fails, script_of}
 use Rattle.run_model.specs.Text.{event_text, closing}
-use Rattle.run_model.specs.Resolving.{Standing, Due, next, stands_after, first_standing}
+use Rattle.run_model.specs.Resolving.{Standing, next, stands_after, first_standing}
 use Rattle.run_model.proofs.Driving.{conf}
 
 -- at most so many events

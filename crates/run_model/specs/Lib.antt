@@ -5,3 +5,4 @@ pub mod Runs
 pub mod Text
 pub mod Resolving
 pub mod BookingRuns
+pub mod Standings

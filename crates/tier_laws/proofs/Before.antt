@@ -16,7 +16,8 @@ use Rattle.tier_laws.specs.Said.{Laws, FewGone, UsedBefore}
 use Rattle.tier_laws.proofs.Core.{Inv as WorldOk, Mid_event, past}
 use Rattle.tier_laws.proofs.Events.{happens_ok, world_ok}
 use Rattle.tier_laws.proofs.Grow.{served_same}
-use Rattle.tier_laws.proofs.Later.{happens_keeps, run-append}
+use Rattle.run_model.proofs.Appending.{run-append}
+use Rattle.tier_laws.proofs.Later.{happens_keeps}
 use Rattle.tier_laws.proofs.Ledger.{get-last}
 use Rattle.tier_laws.proofs.Legal.{within_get}
 use Rattle.tier_laws.proofs.Logs.{chosen_now, meets_good}

@@ -30,6 +30,7 @@ use Rattle.run_model.specs.declared.trace.TraceEvent.TheVariants.{Submit, Delive
 use Rattle.run_model.specs.World.{Config, World, start, fate, unwritten, no_run, crashed, restarted, at_mid, mid_up, at_back, back_up, mid_node, back_node, with_mid, with_back, opens, is_client_number, submits, reopens, takes_reply, client_gets, node_gets, arrives, delivered, shortened, leads, offers, works, node_retries, retries, crashes, restarts, wipes, can_fare, if_can, happens}
 use Rattle.run_model.specs.Runs.{back_chosen, back_grows, grows, mid_chosen, mid_grows, run, world}
 use Rattle.run_model.specs.Histories.{HistoryStep}
+use Rattle.run_model.proofs.Appending.{run-append}
 use Rattle.tier_laws.specs.Said.{Laws}
 use Rattle.tier_laws.proofs.Events.{world_ok}
 use Rattle.tier_laws.proofs.Ledger.{get-left}
@@ -183,10 +184,6 @@ run_longer {B} c (e ∷ es) w = record { at = λ i k f. (run_longer c es (grows 
 
     three : (i : ℕ) (k : HistoryStep) → slice_get (back_grows c Inv (mid_grows c (happens c w e))).hist i ≡ Some k → slice_get (grows c (happens c w e)).hist i ≡ Some k
     three i k f = (back_longer (back_grows c Inv (mid_grows c (happens c w e))) Pay (chosen_among c.u (back_soup Pay (back_grows c Inv (mid_grows c (happens c w e))).soup) (length ((back_grows c Inv (mid_grows c (happens c w e))).logs Pay)) (back_soup Pay (back_grows c Inv (mid_grows c (happens c w e))).soup))).at i k f
-
-pub run-append : {B : Type 0} (c : Config B) (es fs : List TraceEvent) (w : World B) → run c (es ++ fs) w ≡ run c fs (run c es w)
-run-append c [] fs w = refl
-run-append c (e ∷ es) fs w = run-append c es fs (grows c (happens c w e))
 
 pub hist_later : {B : Type 0} (c : Config B) (es fs : List TraceEvent) (i : ℕ) (k : HistoryStep) → slice_get (world c es).hist i ≡ Some k → slice_get (world c (es ++ fs)).hist i ≡ Some k
 hist_later {B} c es fs i k e = ap (λ (z : World B). slice_get z.hist i) (run-append c es fs start) ∙ (run_longer c fs (world c es)).at i k e

@@ -26,7 +26,7 @@ use Rattle.tier_laws.proofs.Before.{verdict_before}
 use Rattle.tier_laws.proofs.Core.{Inv as WorldOk, Mid_event, past}
 use Rattle.tier_laws.proofs.Events.{happens_ok, start_ok, start_codes}
 use Rattle.tier_laws.proofs.Grow.{grows_ok, grows_codes, served_same}
-use Rattle.tier_laws.proofs.Later.{run-append}
+use Rattle.run_model.proofs.Appending.{run-append}
 use Rattle.tier_laws.proofs.Logs.{meets_good}
 use Rattle.tier_laws.proofs.Past.{BackOk, FloorOk, ManyHold, VerdictOk}
 use Rattle.tier_laws.proofs.Soups.{back_soup}
