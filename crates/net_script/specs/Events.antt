@@ -1,5 +1,5 @@
 -- What holds of each event of a script.
-use Rattle.std.specs.Prelude.{◌≡◌, ℕ, ◌≤◌, ◌<◌, true, List, Option, None, Some, length}
+use Rattle.std.specs.Prelude.{◌≡◌, ℕ, ◌≤◌, ◌<◌, Bool, true, false, List, Option, None, Some, length}
 use Rattle.std.specs.List.{All}
 use Rattle.aeg_base.specs.declared.limits.TheConstants.{CLIENTS, PACKETS, MAX_FAULTS, MAX_DEPTH}
 use Rattle.aeg_base.specs.declared.names.End.{End}
@@ -47,11 +47,32 @@ IsInRange Flow = Unit {0}
 IsInRange Calm = Unit {0}
 IsInRange Lose = Unit {0}
 
--- its nodes are in tiers of 2u+1, what is submitted is a request, and its numbers are in their ranges
+-- So far nodes neither run jobs nor go down, and no disk is stopped: the line asks for nothing of this.
+abbrev pub is_playable : Event → Bool
+is_playable (Submit client body) = true
+is_playable (Deliver packet) = true
+is_playable (Short packet bytes) = true
+is_playable (Cut nth keep line) = false
+is_playable (Lead n) = true
+is_playable (Offer n) = true
+is_playable (Retry end) = true
+is_playable (Work n by) = false
+is_playable (Crash n) = false
+is_playable (Restart n) = false
+is_playable (Wipe n) = false
+is_playable Flow = true
+is_playable Calm = false
+is_playable Lose = true
+
+abbrev pub IsPlayable : Event → Type 0
+IsPlayable event = is_playable event ≡ true
+
+-- its nodes are in tiers of 2u+1, what is submitted is a request, its numbers are in their ranges, and it can be played
 pub record IsProper (u : ℕ) (event : Event) : Type 0 where
   pub placed : is_placed u event ≡ true
   pub asked : is_asked event ≡ true
   pub in_range : IsInRange event
+  pub playable : IsPlayable event
 
 -- the sizes that a header can have
 abbrev pub AreSizes : ℕ → ℕ → Type 0

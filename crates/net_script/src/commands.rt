@@ -5,7 +5,7 @@ ghost use Rattle.server_model.specs.Further.{further_parts};
 ghost use Rattle.run_model.specs.declared.line.Event.{Event};
 ghost use Rattle.run_model.specs.declared.line.Event.TheVariants.{Submit, Lead, Offer};
 ghost use Rattle.run_model.specs.Script.{submit_in, deliver_in, short_in, at_node, retry_in, alone as alone_in, is_later_command as later_command, is_later_submit as later_submit, is_later as later};
-ghost use Rattle.net_script.specs.Events.{IsClient, IsInRange};
+ghost use Rattle.net_script.specs.Events.{IsClient, IsInRange, IsPlayable};
 
 use crate::words::{client_number, end_of, node_of, packet_of};
 use aeg_base::NodeId;
@@ -33,6 +33,7 @@ pub fn submit_of(rest: Option<&[u8]>) -> Option<(u8, &[u8])>
 pub fn deliver_of(rest: Option<&[u8]>) -> Option<Event>
     ensures is { result ≡ deliver_in (further_parts 32 rest.entry) }
     ensures in_range { IfSome result IsInRange }
+    ensures playable { IfSome result IsPlayable }
 {
     let (packet, rest) = next_part(rest, b' ')?;
     if let Some(_) = next_part(rest, b' ') {
@@ -46,6 +47,7 @@ pub fn deliver_of(rest: Option<&[u8]>) -> Option<Event>
 pub fn short_of(rest: Option<&[u8]>) -> Option<Event>
     ensures is { result ≡ short_in (further_parts 32 rest.entry) }
     ensures in_range { IfSome result IsInRange }
+    ensures playable { IfSome result IsPlayable }
 {
     let (packet, rest) = next_part(rest, b' ')?;
     let (bytes, rest) = next_part(rest, b' ')?;
@@ -71,6 +73,7 @@ fn only_node(rest: Option<&[u8]>) -> Option<NodeId>
 pub fn lead_of(rest: Option<&[u8]>) -> Option<Event>
     ensures is { result ≡ at_node (λ n. Lead n) (further_parts 32 rest.entry) }
     ensures in_range { IfSome result IsInRange }
+    ensures playable { IfSome result IsPlayable }
 {
     let node = only_node(rest)?;
     Some(Event::Lead { node })
@@ -79,6 +82,7 @@ pub fn lead_of(rest: Option<&[u8]>) -> Option<Event>
 pub fn offer_of(rest: Option<&[u8]>) -> Option<Event>
     ensures is { result ≡ at_node (λ n. Offer n) (further_parts 32 rest.entry) }
     ensures in_range { IfSome result IsInRange }
+    ensures playable { IfSome result IsPlayable }
 {
     let node = only_node(rest)?;
     Some(Event::Offer { node })
@@ -88,6 +92,7 @@ pub fn offer_of(rest: Option<&[u8]>) -> Option<Event>
 pub fn retry_of(rest: Option<&[u8]>) -> Option<Event>
     ensures is { result ≡ retry_in (further_parts 32 rest.entry) }
     ensures in_range { IfSome result IsInRange }
+    ensures playable { IfSome result IsPlayable }
 {
     let (end, rest) = next_part(rest, b' ')?;
     if let Some(_) = next_part(rest, b' ') {

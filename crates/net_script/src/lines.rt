@@ -3,7 +3,7 @@ ghost use Rattle.std.specs.Prelude.{◌≡◌, ◌≤◌, Some, false, IfOk, IfS
 ghost use Rattle.server_model.specs.Further.{further_parts};
 ghost use Rattle.server_model.specs.Words.{words_of};
 ghost use Rattle.run_model.specs.Script.{is_blank as blank, is_later_command as later_command, submit_in, line_with, event_in, command_line, line_in};
-ghost use Rattle.net_script.specs.Events.{IsInRange, IsProper};
+ghost use Rattle.net_script.specs.Events.{IsInRange, IsPlayable, IsProper};
 ghost use Rattle.net_script.specs.Reading.{IsLine, IsCommand};
 
 use crate::commands::{
@@ -21,6 +21,7 @@ use std::alloc::Global;
 fn placed(u: u8, event: Option<Event>) -> Result<Event, LineErr>
     requires faults { u ≤ MAX_FAULTS }
     requires in_range { IfSome event IsInRange }
+    requires playable { IfSome event IsPlayable }
     ensures is { IsLine (line_with u (Some event)) result }
     ensures proper { IfOk result (IsProper u) }
 {
@@ -40,6 +41,7 @@ fn placed(u: u8, event: Option<Event>) -> Result<Event, LineErr>
 fn submitted(alloc: Global, rest: Option<&[u8]>) -> Result<Option<Event>, Memory>
     ensures is { IfOk result (λ event. event ≡ submit_in (further_parts 32 rest.entry)) }
     ensures in_range { IfOk result (λ event. IfSome event IsInRange) }
+    ensures playable { IfOk result (λ event. IfSome event IsPlayable) }
 {
     let Some((client, text)) = submit_of(rest) else {
         return Ok(None);
@@ -53,6 +55,7 @@ fn event_of(alloc: Global, command: &[u8], rest: Option<&[u8]>) -> Result<Option
     requires { later_command command.now ≡ false }
     ensures is { IsCommand (event_in command.now (further_parts 32 rest.entry)) result }
     ensures in_range { IfOk result (λ event. IfSome event IsInRange) }
+    ensures playable { IfOk result (λ event. IfSome event IsPlayable) }
 {
     if command == b"submit".as_slice() {
         return Ok(submitted(alloc, rest)?);

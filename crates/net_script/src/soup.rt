@@ -1,5 +1,5 @@
 // The list of all packets.
-ghost use Rattle.std.specs.Prelude.{◌≡◌, ◌<◌, ◌++◌, ◌∷◌, [], length, slice_get, option_map, OnOk, OnErr};
+ghost use Rattle.std.specs.Prelude.{◌≡◌, ◌<◌, ◌≤◌, ◌++◌, ◌∷◌, [], length, slice_get, option_map, OnOk, OnErr};
 
 use aeg_base::limits::PACKETS;
 use aeg_base::{Bytes, End, Memory, Seq};
@@ -43,8 +43,10 @@ impl Soup {
         self.packets.push((to, bytes))
     }
 
+    /// How many packets were sent.
     pub fn len(&self) -> u32
-        ensures { result ≡ length self.now }
+        ensures is { result ≡ length self.now }
+        ensures few { result ≤ PACKETS }
     {
         self.packets.items().len() as u32
     }
