@@ -1,7 +1,8 @@
 -- Clients that ask: what their requests make of the world.
-use Rattle.std.proofs.Common.{◌≡◌, ℕ, ◌+◌, ◌*◌, ◌<◌, ◌≤◌, Bool, true, false, cond, List, [], ◌∷◌, ◌++◌, refl, sym, ap, ◌∙◌, subst, inl, inr, append-nil, arith, get_or, Option, Some, None, Result, Ok, Err, zero, suc}
+use Rattle.std.proofs.Common.{◌≡◌, ℕ, ◌+◌, ◌*◌, ◌<◌, ◌≤◌, Bool, true, false, cond, List, [], ◌∷◌, ◌++◌, length, refl, sym, ap, ◌∙◌, subst, inl, inr, append-nil, arith, get_or, Option, Some, None, Result, Ok, Err, zero, suc}
 use Rattle.std.specs.Prelude.{slice_get, slice_set, map, option_map, nat_lt, nat_le, not, ◌&&◌, ◌⊎◌}
 use Rattle.std.proofs.lemmas.Bool.{cond-true, and_from, lt-ltb, le-leb}
+use Rattle.aeg_base.specs.declared.limits.TheConstants.{PACKETS}
 use Rattle.aeg_base.specs.declared.names.End.TheVariants.{Client}
 use Rattle.server_model.specs.Requests.{request_of}
 use Rattle.server_model.specs.Booking.{stages_in}
@@ -158,10 +159,10 @@ asked_once y end text k e = subst (AsksOnce y end.last) e k
 abbrev pub clients_after : Parts → Parts → List Packet → Parts
 clients_after old new ks = record old { clients = new.clients; soup = old.soup ++ map sealed ks; watch = all_grown (hears_packets old.watch (map sealed ks)) }
 
-pub asked : (u depth : ℕ) (w w1 : BookingWorld) (old new : Parts) (ks : List Packet) (event : TraceEvent) (told before now : List ℕ) → Shows u depth w old → happens (config u depth) w event ≡ w1 → own_text (config u depth) w event ≡ told → Leads u depth w w1 old.nodes ks → AreAll 17 IsClientEnd w1.clients new.clients.items
+pub asked : (u depth : ℕ) (w w1 : BookingWorld) (old new : Parts) (ks : List Packet) (event : TraceEvent) (told before now : List ℕ) → Shows u depth w old → length new.soup ≤ PACKETS → happens (config u depth) w event ≡ w1 → own_text (config u depth) w event ≡ told → Leads u depth w w1 old.nodes ks → AreAll 17 IsClientEnd w1.clients new.clients.items
     → new ≡ clients_after old new ks → now ≡ before ++ told → Shows u depth (grows (config u depth) (happens (config u depth) w event)) new × (now ≡ before ++ event_text (config u depth) w event)
-asked u depth w w1 old new ks event told before now s h o l clients e t =
-    let ended : Ended old new old.nodes (map sealed ks) = record { size = ap (λ (p : Parts). p.u) e; is = ap (λ (p : Parts). p.nodes) e; soup = ap (λ (p : Parts). p.soup) e; watch = ap (λ (p : Parts). p.watch) e } in
+asked u depth w w1 old new ks event told before now s within h o l clients e t =
+    let ended : Ended old new old.nodes (map sealed ks) = record { size = ap (λ (p : Parts). p.u) e; is = ap (λ (p : Parts). p.nodes) e; soup = ap (λ (p : Parts). p.soup) e; within = within; watch = ap (λ (p : Parts). p.watch) e } in
     let r = ends u depth w w1 old new old.nodes ks s l ended clients in
     let grew : growth_text w (grows (config u depth) (happens (config u depth) w event)) ≡ [] = ap (λ z. growth_text w (grows (config u depth) z)) h ∙ r.1 in (
       subst (λ z. Shows u depth (grows (config u depth) z) new) (sym h) r.0,

@@ -1,7 +1,8 @@
 -- Each command at a node of any tier.
-use Rattle.std.proofs.Common.{◌≡◌, ℕ, ◌+◌, ◌*◌, ◌<◌, true, false, List, [], ◌∷◌, ◌++◌, refl, sym, ap, ◌∙◌, subst, length, append-nil, arith, Some, Result, Ok, Err, zero, suc}
+use Rattle.std.proofs.Common.{◌≡◌, ℕ, ◌+◌, ◌*◌, ◌<◌, ◌≤◌, true, false, List, [], ◌∷◌, ◌++◌, refl, sym, ap, ◌∙◌, subst, length, append-nil, arith, Some, Result, Ok, Err, zero, suc}
 use Rattle.std.specs.Prelude.{slice_get, map, nat_lt, codes}
 use Rattle.std.proofs.lemmas.Bool.{cond-true, cond_both, lt-ltb, or_right}
+use Rattle.aeg_base.specs.declared.limits.TheConstants.{PACKETS}
 use Rattle.aeg_base.specs.declared.names.Tier.{Tier}
 use Rattle.aeg_base.specs.declared.names.Tier.TheVariants.{Mid as MidTier, Inv, Pay}
 use Rattle.aeg_base.specs.declared.names.NodeId.{NodeId}
@@ -190,10 +191,10 @@ retry_rests u depth w nodes n Pay k l e = back_rests u depth w nodes n Pay nodes
 abbrev pub parts_after : Parts → Nodes → List (End × List ℕ) → Parts
 parts_after old nodes packets = record old { nodes = nodes; soup = old.soup ++ packets; watch = all_grown (hears_packets old.watch packets) }
 
-pub played : (u depth : ℕ) (w : BookingWorld) (old new : Parts) (nodes : Nodes) (packets : List (End × List ℕ)) (event : TraceEvent) (told before now : List ℕ) → Shows u depth w old → Commanded u depth w (happens (config u depth) w event) nodes packets (own_text (config u depth) w event) told
+pub played : (u depth : ℕ) (w : BookingWorld) (old new : Parts) (nodes : Nodes) (packets : List (End × List ℕ)) (event : TraceEvent) (told before now : List ℕ) → Shows u depth w old → length new.soup ≤ PACKETS → Commanded u depth w (happens (config u depth) w event) nodes packets (own_text (config u depth) w event) told
     → new ≡ parts_after old nodes packets → now ≡ before ++ told → Shows u depth (grows (config u depth) (happens (config u depth) w event)) new × (now ≡ before ++ event_text (config u depth) w event)
-played u depth w old new nodes packets event told before now s k e t =
-    let ended : Ended old (parts_after old nodes (map sealed k.packets)) nodes (map sealed k.packets) = record { size = refl; is = refl; soup = refl; watch = refl } in
+played u depth w old new nodes packets event told before now s within k e t =
+    let ended : Ended old (parts_after old nodes (map sealed k.packets)) nodes (map sealed k.packets) = record { size = refl; is = refl; soup = refl; within = subst (λ (p : Parts). length p.soup ≤ PACKETS) (e ∙ ap (parts_after old nodes) k.sends) within; watch = refl } in
     let r = ends u depth w (happens (config u depth) w event) old (parts_after old nodes (map sealed k.packets)) nodes k.packets s k.leads ended (rw k.clients s.clients) in (
       subst (Shows u depth (grows (config u depth) (happens (config u depth) w event))) (sym (e ∙ ap (parts_after old nodes) k.sends)) r.0,
       t ∙ ap (λ z. before ++ z) (sym (ap (λ z. own_text (config u depth) w event ++ z) r.1 ∙ append-nil (own_text (config u depth) w event) ∙ k.text_is)),

@@ -35,10 +35,11 @@ use Rattle.tier_model.specs.Moves.{index_of, is_node_of, Move, idles, drops, say
 use Rattle.tier_model.specs.Back.{Back, with_log, new_value, value_state, value_tells, in_log}
 use Rattle.tier_model.specs.BackRows.{recovered, on_frame, own_value, offers_as, offers, retry}
 use Rattle.run_model.specs.BookingRuns.{booking_service}
-use Rattle.world.specs.Parts.{CanStand, AllReach, NodePart, as_back, Makes, BackView, BackMoves, new_part, sealed}
+use Rattle.world.specs.Parts.{CanStand, AllReach, NodePart, as_back, Makes, BackView, BackMoves, HaveRoom, new_part, sealed}
 use Rattle.world.specs.LogNodes.{LogView, IsRanged, log_itself, log_move, Turns}
 use Rattle.world.proofs.Sending.{all_reach, sends_fit, are_fit}
-use Rattle.world.proofs.MidMoves.{nothing_more, on_ok, none_fit, none_reach}
+use Rattle.world.proofs.Few.{IsFew, log_room, asks_room}
+use Rattle.world.proofs.MidMoves.{nothing_more, on_ok, none_fit, none_reach, none_room}
 use Rattle.world.proofs.MidOffers.{asks_in}
 
 -- what contracts see of a backend node with this log
@@ -87,12 +88,13 @@ back_makes u t x old new before after turn (Err faults.Disk) k = absurd k
 back_makes u t x old new before after turn (Err (faults.BadRecord n)) k = absurd k
 
 pub back_turns : (old new : LogView) (now : BackView) (before after : List (End × List ℕ)) (t : LogState AnyValue → Turn AnyValue) (move : ℕ → Tier → ℕ → Back Amounts → Move (Back Amounts)) (result : Result Answer Fault)
-    → back_view old ≡ now → IsBackend old.tier → old.me < 2 * old.faults + 1 → Turns old new before after t result
+    → back_view old ≡ now → IsBackend old.tier → old.me < 2 * old.faults + 1 → old.faults ≤ 2 → Turns old new before after t result → ((log : LogState AnyValue) → IsFew old.faults (t log))
     → ((log : LogState AnyValue) → old.part.mode ≡ Up log → move old.faults old.tier old.me (as_back old.faults old.tier log) ≡ in_log old.faults booking_service old.tier old.me (as_back old.faults old.tier log) (t log))
     → BackMoves now (back_view new) before after (move now.faults now.tier now.me) result
-back_turns old new now before after t move result v b l k f = subst (λ (z : BackView). BackMoves z (back_view new) before after (move z.faults z.tier z.me) result) v (record {
+back_turns old new now before after t move result v b l small k few f = subst (λ (z : BackView). BackMoves z (back_view new) before after (move z.faults z.tier z.me) result) v (record {
   row = λ log e. subst (λ z. Makes (as_back old.faults old.tier) old.part new.part before after z result) (sym (is log e)) (back_makes old.faults old.tier old.me old.part new.part before after (t log) result (k.row log e));
   reach = on_ok result (λ log e. subst (λ (z : Move (Back Amounts)). AllReach old.faults z.sends) (sym (is log e)) (all_reach old.faults old.tier old.me (t log).sends l (k.range log e).sends));
+  few = on_ok result (λ log e. subst (λ (z : Move (Back Amounts)). HaveRoom z.sends) (sym (is log e)) (log_room old.faults old.tier old.me (t log).sends small (few log).most));
   same = k.same;
 })
   where
@@ -104,6 +106,7 @@ pub back_quiet : (now : BackView) (out : List (End × List ℕ)) (move : Back Am
 back_quiet now out move answer f = record {
   row = λ log e. subst (λ z. Makes (as_back now.faults now.tier) now.part now.part out out z (Ok answer)) (sym (f log e)) (refl, (log, e, refl), refl, sym (nothing_more out), none_fit, refl);
   reach = λ log e. subst (λ (z : Move (Back Amounts)). AllReach now.faults z.sends) (sym (f log e)) (none_reach now.faults);
+  few = λ log e. subst (λ (z : Move (Back Amounts)). HaveRoom z.sends) (sym (f log e)) none_room;
   same = (refl, (refl, refl));
 }
 
@@ -193,6 +196,7 @@ retries n now before after v l few range sent = subst (λ (z : BackView). BackMo
   row = λ log e. subst (λ z. Makes (as_back n.faults n.tier) n.part n.part before after z (Ok Did)) (sym (retry_is n.faults n.tier n.me log))
       (refl, (log, e, refl), refl, sent log e, are_fit n.tier n.me (asks n.faults n.me (open_at log)) (omega arith) (sends_fit n.faults n.tier (asks n.faults n.me (open_at log)) (fits log e)), refl);
   reach = λ log e. subst (λ (z : Move (Back Amounts)). AllReach n.faults z.sends) (sym (retry_is n.faults n.tier n.me log)) (all_reach n.faults n.tier n.me (asks n.faults n.me (open_at log)) l (fits log e));
+  few = λ log e. subst (λ (z : Move (Back Amounts)). HaveRoom z.sends) (sym (retry_is n.faults n.tier n.me log)) (asks_room n.faults n.tier n.me (open_at log) few);
   same = (refl, (refl, refl));
 })
   where

@@ -62,6 +62,7 @@ begins u depth parts few size k c s w = record {
   };
   clients = all_each 17 IsClientEnd (λ x. record { last = 0; opened = None }) fresh parts.clients.items c (λ y. record { is = refl; asks = refl });
   soup = s;
+  within = omega (arith, ap length s);
   fit = λ i p e. absurd (cc);
   reach = λ i p e. absurd (cc);
   watch = w;

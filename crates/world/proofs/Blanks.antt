@@ -27,7 +27,7 @@ use Rattle.world.specs.declared.progress.Progress.{Progress}
 use Rattle.world.specs.Run.{world_of, new_run}
 use Rattle.world.specs.Going.{run_of, IsBlankAt, AreBlank, Restarted}
 use Rattle.world.proofs.AtCommands.{some_get}
-use Rattle.world.proofs.Stepping.{run-last}
+use Rattle.run_model.proofs.Appending.{run-append}
 
 -- A NODE THAT IS NEW
 
@@ -115,7 +115,7 @@ blank_later u depth es t (suc i) s x h k =
     let rest : IsBlankAt before s x = blank_later u depth es t i s x (λ j l. h j (omega (arith, l))) k in
     let one : IsBlankAt (restarts (config u depth) before (Reads 0) t i) s x = restart_leaves u depth before t i s x (h i (omega arith)) rest in
     let after : IsBlankAt (grows (config u depth) (happens (config u depth) before (again (node_in t i)))) s x = blank_by _ (happens (config u depth) before (again (node_in t i))) s x (grown_same u depth (happens (config u depth) before (again (node_in t i)))) one in
-    subst (λ z. IsBlankAt (world (config u depth) z) s x) (sym (one_further es t i)) (subst (λ z. IsBlankAt z s x) (sym (run-last (config u depth) (with_first es t i) (again (node_in t i)) start)) after)
+    subst (λ z. IsBlankAt (world (config u depth) z) s x) (sym (one_further es t i)) (subst (λ z. IsBlankAt z s x) (sym (run-append (config u depth) (with_first es t i) (again (node_in t i) ∷ []) start)) after)
 
 -- a tier stays blank while another is restarted
 pub tier_after : (old new : Progress) (t s : Tier) → (t ≡ s → ⊥) → Restarted old new (nodes_of old.parts.u t) → AreBlank (world_of (run_of old)) s → AreBlank (world_of (run_of new)) s

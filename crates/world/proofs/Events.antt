@@ -1,6 +1,7 @@
 -- An event ends: its packets join all others, the logs go on, and the parts are again the world's.
-use Rattle.std.proofs.Common.{◌≡◌, ℕ, List, [], ◌∷◌, ◌++◌, refl, sym, ap, ◌∙◌, subst, inl, inr, Some, zero, suc}
+use Rattle.std.proofs.Common.{◌≡◌, ℕ, ◌≤◌, length, List, [], ◌∷◌, ◌++◌, refl, sym, ap, ◌∙◌, subst, inl, inr, Some, zero, suc}
 use Rattle.std.specs.Prelude.{slice_get, map, ◌⊎◌}
+use Rattle.aeg_base.specs.declared.limits.TheConstants.{PACKETS}
 use Rattle.aeg_base.specs.declared.names.End.{End}
 use Rattle.log_values.specs.declared.any_value.AnyValue.{AnyValue}
 use Rattle.frames.specs.Frames.{FitsFrame}
@@ -55,6 +56,7 @@ pub record Ended (old new : Parts) (nodes : Nodes) (packets : List (End × List 
   pub size : new.u ≡ old.u
   pub is : new.nodes ≡ nodes
   pub soup : new.soup ≡ old.soup ++ packets
+  pub within : length new.soup ≤ PACKETS
   pub watch : new.watch ≡ all_grown (hears_packets old.watch packets)
 
 pub ends : (u depth : ℕ) (w w1 : BookingWorld) (old new : Parts) (nodes : Nodes) (ks : List Packet) → Shows u depth w old → Leads u depth w w1 nodes ks → Ended old new nodes (map sealed ks) → AreAll 17 IsClientEnd w1.clients new.clients.items
@@ -80,6 +82,7 @@ ends u depth w w1 old new nodes ks s l e clients = (subst (λ z. Shows u depth z
       nodes = subst (λ z. AreNodes u depth (record w1 { log = g.0 }) z) (sym e.is) (record { mids = l.are.mids; invs = l.are.invs; pays = l.are.pays });
       clients = clients;
       soup = e.soup ∙ ap (λ z. z ++ map sealed ks) s.soup ∙ sym (map-append sealed w.soup ks) ∙ ap (map sealed) (sym l.soup);
+      within = e.within;
       fit = subst AreFit (sym l.soup) (fit-append w.soup ks s.fit l.fit);
       reach = reach;
       watch = watch ∙ ap (seen_in (config u depth)) g.1;

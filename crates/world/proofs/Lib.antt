@@ -16,6 +16,8 @@ pub mod Restarting
 pub mod Beginning
 pub mod Places
 pub mod Sending
+pub mod Few
+pub mod Room
 pub mod Turning
 pub mod MidMoves
 pub mod MidOffers

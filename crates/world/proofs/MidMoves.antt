@@ -26,12 +26,13 @@ use Rattle.frames.specs.declared.turn.Fault.TheVariants as faults
 use Rattle.round_model.specs.Lists.{is_some, put_at}
 use Rattle.round_model.specs.Service.{is_request}
 use Rattle.round_model.specs.Tables.{tables0, kept_of, pending_of}
-use Rattle.tier_model.specs.Moves.{index_of, is_node_of, Move, idles, drops, says, becomes, log_packets, as_fact, log_answer}
+use Rattle.tier_model.specs.Moves.{index_of, is_node_of, Packet, Move, idles, drops, says, becomes, log_packets, as_fact, log_answer}
 use Rattle.tier_model.specs.Mid.{Mid, with_log, in_log, is_due, due_round, ready, apply_state, apply_sends}
 use Rattle.tier_model.specs.MidRows.{recovered, has_seq, pends, tells_again, on_request, on_frame}
 use Rattle.run_model.specs.BookingRuns.{booking_service}
-use Rattle.world.specs.Parts.{CanStand, IsAsked, AllReach, NodePart, MidPart, as_mid, Makes, MidView, MidMoves, new_part, AreFit}
+use Rattle.world.specs.Parts.{CanStand, IsAsked, AllReach, NodePart, MidPart, as_mid, Makes, MidView, MidMoves, new_part, AreFit, HaveRoom}
 use Rattle.world.specs.LogNodes.{LogView, log_itself, log_move, Turns, mid_mode, mid_part}
+use Rattle.world.proofs.Few.{IsFew, log_room}
 use Rattle.world.proofs.Sending.{all_reach}
 use Rattle.world.proofs.Places.{at-none, at-zero}
 
@@ -106,15 +107,17 @@ mid_up Gone pending part e = absurd (cc)
 
 -- a call of the log's node that makes a turn is the node's, where the row is that turn
 pub mid_turns : (depth : ℕ) (pending : List (Option Entry)) (old new : LogView) (now : MidView) (before after : List (End × List ℕ)) (t : LogState AnyValue → Turn AnyValue) (move : ℕ → ℕ → Mid → Move Mid) (result : Result Answer Fault)
-    → mid_view old depth pending ≡ now → old.tier ≡ InMid → old.me < 2 * old.faults + 1 → Turns old new before after t result
+    → mid_view old depth pending ≡ now → old.tier ≡ InMid → old.me < 2 * old.faults + 1 → old.faults ≤ 2 → Turns old new before after t result → ((log : LogState AnyValue) → IsFew old.faults (t log))
     → ((log : LogState AnyValue) → old.part.mode ≡ Up log → move old.faults old.me (as_mid depth (part_of log pending)) ≡ in_log old.faults booking_service old.me (as_mid depth (part_of log pending)) (t log))
     → MidMoves now (mid_view new depth pending) before after (move now.faults now.me) result
-mid_turns depth pending old new now before after t move result v tier l k f = subst (λ (z : MidView). MidMoves z (mid_view new depth pending) before after (move z.faults z.me) result) v (record {
+mid_turns depth pending old new now before after t move result v tier l small k few f = subst (λ (z : MidView). MidMoves z (mid_view new depth pending) before after (move z.faults z.me) result) v (record {
   row = λ part e. let q = mid_up old.part.mode pending part e in
       at part q.1 (subst (λ z. Makes (as_mid depth) (mid_part old.part pending) (mid_part new.part pending) before after z result) (sym (is part.log q.0))
       (mid_makes depth old.me pending old.part new.part before after (t part.log) result (subst (λ z. Makes log_itself old.part new.part before after (log_move z old.me (t part.log)) result) tier (k.row part.log q.0))));
   reach = on_ok result (λ part e. let q = mid_up old.part.mode pending part e in
       reach_at part q.1 (subst (λ (z : Move Mid). AllReach old.faults z.sends) (sym (is part.log q.0)) (all_reach old.faults InMid old.me (t part.log).sends l (range part.log q.0).sends)));
+  few = on_ok result (λ part e. let q = mid_up old.part.mode pending part e in
+      room_at part q.1 (subst (λ (z : Move Mid). HaveRoom z.sends) (sym (is part.log q.0)) (log_room old.faults InMid old.me (t part.log).sends small (few part.log).most)));
   same = (k.same.0, (refl, k.same.1.1));
 })
   where
@@ -130,17 +133,24 @@ mid_turns depth pending old new now before after t move result v tier l k f = su
     reach_at : (part : MidPart) → part.pending ≡ pending → AllReach old.faults (move old.faults old.me (as_mid depth (part_of part.log pending))).sends → AllReach old.faults (move old.faults old.me (as_mid depth part)).sends
     reach_at part e m = subst (λ z. AllReach old.faults (move old.faults old.me (as_mid depth (part_of part.log z))).sends) (sym e) m
 
+    room_at : (part : MidPart) → part.pending ≡ pending → HaveRoom (move old.faults old.me (as_mid depth (part_of part.log pending))).sends → HaveRoom (move old.faults old.me (as_mid depth part)).sends
+    room_at part e m = subst (λ z. HaveRoom (move old.faults old.me (as_mid depth (part_of part.log z))).sends) (sym e) m
+
 pub none_fit : AreFit []
 none_fit = λ i k e. absurd (cc)
 
 pub none_reach : (u : ℕ) → AllReach u []
 none_reach u = λ i k e. absurd (cc)
 
+pub none_room : HaveRoom {A = Packet} []
+none_room = omega arith
+
 -- a call that answers without a turn: it is idle, or drops the packet
 pub mid_quiet : (now : MidView) (out : List (End × List ℕ)) (move : Mid → Move Mid) (answer : Answer) → ((part : MidPart) → now.part.mode ≡ Up part → move (as_mid now.depth part) ≡ record { state = as_mid now.depth part; facts = []; sends = []; answer = answer }) → MidMoves now now out out move (Ok answer)
 mid_quiet now out move answer f = record {
   row = λ part e. subst (λ z. Makes (as_mid now.depth) now.part now.part out out z (Ok answer)) (sym (f part e)) (refl, (part, e, refl), refl, sym (nothing_more out), none_fit, refl);
   reach = λ part e. subst (λ (z : Move Mid). AllReach now.faults z.sends) (sym (f part e)) (none_reach now.faults);
+  few = λ part e. subst (λ (z : Move Mid). HaveRoom z.sends) (sym (f part e)) none_room;
   same = (refl, (refl, refl));
 }
 
@@ -199,6 +209,7 @@ request_taken n depth pending new now out from c s text v f r one h p = subst (�
           subst (λ z. Makes (as_mid depth) (mid_part n.part pending) (mid_part n.part new) out out z (Ok Did)) (sym (is part q.1))
           (refl, (part_of part.log new, ap (λ z. mid_mode z new) q.0, state part q.1), refl, sym (nothing_more out), none_fit, refl);
       reach = λ part e. let q = mid_up n.part.mode pending part e in subst (λ (z : Move Mid). AllReach n.faults z.sends) (sym (is part q.1)) (none_reach n.faults);
+      few = λ part e. let q = mid_up n.part.mode pending part e in subst (λ (z : Move Mid). HaveRoom z.sends) (sym (is part q.1)) none_room;
       same = (refl, (refl, refl));
     }))
   where

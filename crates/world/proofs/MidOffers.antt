@@ -33,8 +33,9 @@ use Rattle.tier_model.specs.Mid.{Mid, in_log}
 use Rattle.tier_model.specs.MidRows.{own_batch, own_verdict, own_value, own_cause, offers_as, offers, again, retry, calls_again, by_number, open_calls, haves_again, settle_to, floor_here}
 use Rattle.round_model.specs.Answers.{highest}
 use Rattle.run_model.specs.BookingRuns.{booking_service}
-use Rattle.world.specs.Parts.{CanStand, MidPart, as_mid, Makes, MidView, MidMoves, AllReach, sealed}
+use Rattle.world.specs.Parts.{CanStand, MidPart, as_mid, Makes, MidView, MidMoves, AllReach, HaveRoom, sealed}
 use Rattle.world.specs.LogNodes.{LogView, IsRanged, needs_own, mid_mode, mid_part}
+use Rattle.world.proofs.Few.{asks_room}
 use Rattle.world.proofs.Sending.{all_reach, sends_fit, are_fit}
 use Rattle.world.proofs.Places.{all-both, no_queue}
 use Rattle.world.proofs.MidMoves.{mid_view, mid_up, mid_quiet, nothing_more, at_most_one}
@@ -180,6 +181,7 @@ retries n depth pending now before after v tier l few range sent = subst (λ (z 
       );
   reach = λ part e. let q = mid_up n.part.mode pending part e in
       subst (λ (z : Move Mid). AllReach n.faults z.sends) (sym (retry_is n.faults n.me depth part)) (all_reach n.faults InMid n.me (asks n.faults n.me (open_at part.log)) l (fits part q.0));
+  few = λ part e. subst (λ (z : Move Mid). HaveRoom z.sends) (sym (retry_is n.faults n.me depth part)) (asks_room n.faults InMid n.me (open_at part.log) few);
   same = (refl, (refl, refl));
 })
   where

@@ -7,8 +7,9 @@ use Rattle.run_model.specs.declared.trace.Fared.TheVariants.{Fine}
 use Rattle.run_model.specs.declared.trace.TraceEvent.TheVariants.{Deliver}
 use Rattle.run_model.specs.Resolving.{next_packet, flow_by, at_end}
 use Rattle.run_model.specs.declared.trace.TraceEvent.{TraceEvent}
-use Rattle.run_model.specs.World.{Config, World, start, happens}
-use Rattle.run_model.specs.Runs.{run, world, grows}
+use Rattle.run_model.specs.World.{start}
+use Rattle.run_model.specs.Runs.{world}
+use Rattle.run_model.proofs.Appending.{run-append}
 use Rattle.run_model.specs.Text.{after, event_text}
 use Rattle.run_model.specs.BookingRuns.{config, BookingWorld}
 use Rattle.world.specs.declared.parts.Parts.{Parts}
@@ -18,10 +19,6 @@ use Rattle.world.specs.Parts.{sealed}
 use Rattle.world.specs.Run.{world_of, with_event, at_place, AppliesEvent, AppliesNothing, AppliesBy}
 use Rattle.world.specs.Standing.{AreShown, Shows}
 use Rattle.world.specs.Going.{place_at, run_of, IsInStep, Adds, GoesBy}
-
-pub run-last : {B : Type 0} (c : Config B) (es : List TraceEvent) (e : TraceEvent) (w : World B) → run c (es ++ e ∷ []) w ≡ after c (run c es w) e
-run-last c [] e w = refl
-run-last c (f ∷ es) e w = run-last c es e (grows c (happens c w f))
 
 pub shown : (p : Progress) → IsInStep p → AreShown p.parts
 shown p s = (p.parts.u, p.depth, world_of (run_of p), s)
@@ -36,7 +33,7 @@ pub one_more : (old new : Progress) (parts : Parts) (event : TraceEvent) (cursor
 one_more old new parts event cursor before now s h e =
     let r = h old.parts.u old.depth (world_of (run_of old)) s in
     let is : run_of (noted old parts event cursor) ≡ with_event (run_of old) event (place_at cursor) = (λ i. record { u = r.0.size i; depth = old.depth; trace = old.trace ++ event ∷ []; place = place_at cursor }) in
-    let later : Shows old.parts.u old.depth (world (config old.parts.u old.depth) (old.trace ++ event ∷ [])) parts = subst (λ z. Shows old.parts.u old.depth z parts) (sym (run-last (config old.parts.u old.depth) old.trace event start)) r.0 in
+    let later : Shows old.parts.u old.depth (world (config old.parts.u old.depth) (old.trace ++ event ∷ [])) parts = subst (λ z. Shows old.parts.u old.depth z parts) (sym (run-append (config old.parts.u old.depth) old.trace (event ∷ []) start)) r.0 in
     let step : IsInStep (noted old parts event cursor) = subst (λ z. Shows z old.depth (world (config z old.depth) (old.trace ++ event ∷ [])) parts) (sym r.0.size) later in
     (subst IsInStep (sym e) step, (ap run_of e ∙ is, r.1))
 

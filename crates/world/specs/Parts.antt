@@ -1,8 +1,8 @@
 -- The nodes of the tiers, as far as they go while nothing is run: a node has its log, and a middle node its pending entries.
-use Rattle.std.specs.Prelude.{◌≡◌, ℕ, ◌+◌, ◌*◌, ◌<◌, Bool, true, false, List, [], ◌∷◌, ◌++◌, length, map, nat_lt, replicate, Option, Some, None, OnOk, slice_get}
+use Rattle.std.specs.Prelude.{◌≡◌, ℕ, ◌+◌, ◌*◌, ◌<◌, ◌≤◌, Bool, true, false, List, [], ◌∷◌, ◌++◌, length, map, nat_lt, replicate, Option, Some, None, OnOk, slice_get}
 use Rattle.std.specs.declared.result.Result.{Result}
 use Rattle.std.specs.declared.result.Result.TheVariants.{Ok, Err}
-use Rattle.aeg_base.specs.declared.limits.TheConstants.{JOURNAL_BYTES}
+use Rattle.aeg_base.specs.declared.limits.TheConstants.{JOURNAL_BYTES, PACKETS, PACKETS_BEFORE}
 use Rattle.aeg_base.specs.declared.names.Tier.{Tier}
 use Rattle.aeg_base.specs.declared.names.Tier.TheVariants as tiers
 use Rattle.aeg_base.specs.declared.names.End.{End}
@@ -122,6 +122,10 @@ sealed k = (k.to, frame k.from k.message)
 abbrev pub AreFit : List Packet → Type 0
 AreFit packets = (i : ℕ) (k : Packet) → slice_get packets i ≡ Some k → FitsFrame k.from k.message
 
+-- they fit wherever an event may begin
+abbrev pub HaveRoom : {A : Type 0} → List A → Type 0
+HaveRoom packets = PACKETS_BEFORE + length packets ≤ PACKETS
+
 -- A node: down or up with a state, and the length of its journal.
 pub record NodePart (S : Type 0) : Type 0 where
   pub mode : Mode S
@@ -164,13 +168,15 @@ pub record BackView : Type 0 where
   pub me : ℕ
   pub part : NodePart (LogState AnyValue)
 
--- A call of a node that is up makes the move, and what the move sends reaches nodes. All but its part stays.
+-- A call of a node that is up makes the move. What the move sends reaches nodes, and has room. All but its part stays.
 pub record MidMoves (old new : MidView) (before after : List (End × List ℕ)) (move : Mid → Move Mid) (result : Result Answer Fault) : Type 0 where
   pub row : (part : MidPart) → old.part.mode ≡ Up part → Makes (as_mid old.depth) old.part new.part before after (move (as_mid old.depth part)) result
   pub reach : OnOk result ((part : MidPart) → old.part.mode ≡ Up part → AllReach old.faults (move (as_mid old.depth part)).sends)
+  pub few : OnOk result ((part : MidPart) → old.part.mode ≡ Up part → HaveRoom (move (as_mid old.depth part)).sends)
   pub same : (new.faults ≡ old.faults) × ((new.depth ≡ old.depth) × (new.me ≡ old.me))
 
 pub record BackMoves (old new : BackView) (before after : List (End × List ℕ)) (move : Back Amounts → Move (Back Amounts)) (result : Result Answer Fault) : Type 0 where
   pub row : (log : LogState AnyValue) → old.part.mode ≡ Up log → Makes (as_back old.faults old.tier) old.part new.part before after (move (as_back old.faults old.tier log)) result
   pub reach : OnOk result ((log : LogState AnyValue) → old.part.mode ≡ Up log → AllReach old.faults (move (as_back old.faults old.tier log)).sends)
+  pub few : OnOk result ((log : LogState AnyValue) → old.part.mode ≡ Up log → HaveRoom (move (as_back old.faults old.tier log)).sends)
   pub same : (new.faults ≡ old.faults) × ((new.tier ≡ old.tier) × (new.me ≡ old.me))

@@ -2,9 +2,8 @@
 use Rattle.std.specs.Prelude.{◌≡◌, ℕ, ◌≤◌, ◌<◌, Bool, true, false, List, [], ◌∷◌, ◌++◌, length, Option, Some, None}
 use Rattle.std.specs.declared.result.Result.{Result}
 use Rattle.std.specs.declared.result.Result.TheVariants.{Ok, Err}
-use Rattle.aeg_base.specs.declared.limits.TheConstants.{PACKETS_BEFORE}
+use Rattle.aeg_base.specs.declared.limits.TheConstants.{PACKETS, PACKETS_BEFORE}
 use Rattle.run_model.specs.declared.line.Event.{Event}
-use Rattle.run_model.specs.declared.line.Event.TheVariants as lines
 use Rattle.run_model.specs.declared.trace.TraceEvent.{TraceEvent}
 use Rattle.run_model.specs.Runs.{world}
 use Rattle.run_model.specs.Text.{event_text, closing}
@@ -38,23 +37,6 @@ at_place r place = record { u = r.u; depth = r.depth; trace = r.trace; place = p
 abbrev pub with_event : Run → TraceEvent → Place → Run
 with_event r event place = record { u = r.u; depth = r.depth; trace = r.trace ++ event ∷ []; place = place }
 
--- A line that has an event here, or none at all. Nodes neither run jobs nor go down, and no disk is stopped.
-abbrev pub is_made : Event → Bool
-is_made (lines.Submit client body) = true
-is_made (lines.Deliver packet) = true
-is_made (lines.Short packet bytes) = true
-is_made (lines.Cut nth keep line) = false
-is_made (lines.Lead n) = true
-is_made (lines.Offer n) = true
-is_made (lines.Retry end) = true
-is_made (lines.Work n by) = false
-is_made (lines.Crash n) = false
-is_made (lines.Restart n) = false
-is_made (lines.Wipe n) = false
-is_made lines.Flow = true
-is_made lines.Calm = false
-is_made lines.Lose = true
-
 -- the line's turn now
 abbrev pub turn_of : Run → Event → Turned
 turn_of r line = turn (config r.u r.depth) (world_of r) r.place line
@@ -87,3 +69,9 @@ Applies old new before now line answer = AppliesBy old new before now line (turn
 -- the closing lines
 abbrev pub closing_of : Run → List ℕ
 closing_of r = closing (world_of r)
+
+-- where more may be left of a line, `flow` has come further, and not past the last packet that there can be
+abbrev pub ComesFurther : {E : Type 0} → Run → Run → Result Bool E → Type 0
+ComesFurther old new (Ok true) = (old.place.cursor < new.place.cursor) × (new.place.cursor ≤ PACKETS)
+ComesFurther old new (Ok false) = Unit {0}
+ComesFurther old new (Err stop) = Unit {0}

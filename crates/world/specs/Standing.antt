@@ -2,7 +2,7 @@
 use Rattle.std.specs.Prelude.{◌≡◌, ℕ, ◌+◌, ◌*◌, ◌≤◌, true, List, [], ◌++◌, length, map, Option, Some, None, slice_get}
 use Rattle.std.specs.declared.result.Result.{Result}
 use Rattle.std.specs.Result.{OnOk}
-use Rattle.aeg_base.specs.declared.limits.TheConstants.{JOURNAL_BYTES}
+use Rattle.aeg_base.specs.declared.limits.TheConstants.{JOURNAL_BYTES, PACKETS}
 use Rattle.aeg_base.specs.declared.memory.Memory.{Memory}
 use Rattle.aeg_base.specs.declared.names.Tier.{Tier}
 use Rattle.aeg_base.specs.declared.names.Tier.TheVariants as tiers
@@ -86,13 +86,14 @@ pub record IsClientEnd (y : ℕ) (end : ClientEnd) (c : ClientState) : Type 0 wh
 
 -- ALL PARTS
 
--- The parts are the world's, and each packet is one that its sender can send and that can reach its end.
+-- The parts are the world's. Each packet is one that its sender can send and that can reach its end, and they aren't too many.
 pub record Shows (u depth : ℕ) (w : BookingWorld) (parts : Parts) : Type 0 where
   pub size : parts.u ≡ u
   pub few : u ≤ 2
   pub nodes : AreNodes u depth w parts.nodes
   pub clients : AreAll 17 IsClientEnd w.clients parts.clients.items
   pub soup : parts.soup ≡ map sealed w.soup
+  pub within : length parts.soup ≤ PACKETS
   pub fit : AreFit w.soup
   pub reach : AllReach u w.soup
   pub watch : parts.watch ≡ seen_in (config u depth) w

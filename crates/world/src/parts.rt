@@ -30,13 +30,10 @@ pub struct Parts {
 
 /// Adds the packets to the list of all, and takes note of them.
 fn join(soup: &mut Soup, watch: &mut Watch, packets: Vec<(End, Bytes)>) -> Result<(), Memory>
+    requires { length soup.old + length packets.items ≤ PACKETS }
     ensures { OnOk result ((soup.new ≡ soup.old ++ packets.items) × (watch.new ≡ hears_packets watch.old packets.items)) }
 {
     for (to, bytes) in packets {
-        // No event sends so many, but no clause of the nodes counts what they send.
-        if soup.len() >= PACKETS {
-            return Err(Memory);
-        }
         watch.hear(bytes.items())?;
         soup.push(to, bytes)?;
     }
@@ -53,7 +50,8 @@ impl Parts {
 
     /// How many packets were sent.
     pub fn packets(&self) -> u32
-        ensures { result ≡ length self.now.soup }
+        ensures is { result ≡ length self.now.soup }
+        ensures few { result ≤ PACKETS }
     {
         self.soup.len()
     }
@@ -67,7 +65,8 @@ impl Parts {
 
     /// Ends an event: its packets are on their way, and the logs go on by what they let be chosen.
     fn send(&mut self, out: Outbox) -> Result<(), Memory>
-        ensures { OnOk result (self.new ≡ record self.old { soup = self.old.soup ++ out; watch = all_grown (hears_packets self.old.watch out) }) }
+        requires { length self.old.soup + length out ≤ PACKETS }
+        ensures { OnOk result ((self.new ≡ record self.old { soup = self.old.soup ++ out; watch = all_grown (hears_packets self.old.watch out) }) × (length self.new.soup ≤ PACKETS)) }
     {
         join(&mut self.soup, &mut self.watch, out.into_vec())?;
         self.watch.grow();

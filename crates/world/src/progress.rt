@@ -1,5 +1,5 @@
 // A run so far.
-ghost use Rattle.std.specs.Prelude.{◌≡◌, ◌∷◌, [], ◌++◌, ◌+◌, ◌*◌, ◌<◌, ◌≤◌, true, OnOk, IfOk};
+ghost use Rattle.std.specs.Prelude.{◌≡◌, ◌∷◌, [], ◌++◌, ◌+◌, ◌*◌, ◌<◌, ◌≤◌, true, length, OnOk, IfOk};
 ghost use Rattle.aeg_base.specs.declared.names.End.TheVariants as ends;
 ghost use Rattle.log_values.specs.Fields.{IsClient};
 ghost use Rattle.run_model.specs.Script.{is_asked};
@@ -14,7 +14,7 @@ mod starting;
 
 use crate::parts::Parts;
 use crate::text::add_closing;
-use aeg_base::limits::MAX_FAULTS;
+use aeg_base::limits::{MAX_FAULTS, PACKETS_BEFORE};
 use aeg_base::{Bytes, End, Memory, NodeId, Seq, Tier};
 use run_model::{Fared, TraceEvent};
 use std::alloc::Global;
@@ -72,6 +72,7 @@ impl Progress {
 
     fn submit(&mut self, client: u8, body: &Bytes, lines: &mut Bytes) -> Result<(), Memory>
         requires step { IsInStep self.old }
+        requires few { length self.old.parts.soup ≤ PACKETS_BEFORE }
         requires client { IsClient client }
         requires asked { is_asked (script.Submit client body.now) ≡ true }
         ensures { OnOk result (Adds self.old self.new lines.old lines.new (events.Submit client body.now) (place_at self.old.cursor)) }
@@ -83,7 +84,8 @@ impl Progress {
     }
 
     fn deliver(&mut self, packet: u32, cursor: u32, lines: &mut Bytes) -> Result<(), Memory>
-        requires { IsInStep self.old }
+        requires step { IsInStep self.old }
+        requires few { length self.old.parts.soup ≤ PACKETS_BEFORE }
         ensures { OnOk result (Adds self.old self.new lines.old lines.new (events.Deliver packet Fine) (place_at cursor)) }
     {
         self.parts.deliver(packet, lines)?;
@@ -92,7 +94,8 @@ impl Progress {
     }
 
     fn short(&mut self, packet: u32, bytes: u32, lines: &mut Bytes) -> Result<(), Memory>
-        requires { IsInStep self.old }
+        requires step { IsInStep self.old }
+        requires few { length self.old.parts.soup ≤ PACKETS_BEFORE }
         ensures { OnOk result (Adds self.old self.new lines.old lines.new (events.Short packet bytes Fine) (place_at self.old.cursor)) }
     {
         let cursor = self.cursor;
@@ -108,6 +111,7 @@ impl Progress {
 
     fn lead(&mut self, node: NodeId, lines: &mut Bytes) -> Result<(), Memory>
         requires step { IsInStep self.old }
+        requires few { length self.old.parts.soup ≤ PACKETS_BEFORE }
         requires there { node.index < 2 * self.old.parts.u + 1 }
         ensures { OnOk result (Adds self.old self.new lines.old lines.new (events.Lead node Fine) (place_at self.old.cursor)) }
     {
@@ -119,6 +123,7 @@ impl Progress {
 
     fn offer(&mut self, node: NodeId, lines: &mut Bytes) -> Result<(), Memory>
         requires step { IsInStep self.old }
+        requires few { length self.old.parts.soup ≤ PACKETS_BEFORE }
         requires there { node.index < 2 * self.old.parts.u + 1 }
         ensures { OnOk result (Adds self.old self.new lines.old lines.new (events.Offer node Fine) (place_at self.old.cursor)) }
     {
@@ -130,6 +135,7 @@ impl Progress {
 
     fn retry(&mut self, node: NodeId, lines: &mut Bytes) -> Result<(), Memory>
         requires step { IsInStep self.old }
+        requires few { length self.old.parts.soup ≤ PACKETS_BEFORE }
         requires there { node.index < 2 * self.old.parts.u + 1 }
         ensures { OnOk result (Adds self.old self.new lines.old lines.new (events.Retry (ends.Node node)) (place_at self.old.cursor)) }
     {
@@ -141,6 +147,7 @@ impl Progress {
 
     fn ask_again(&mut self, client: u8, lines: &mut Bytes) -> Result<(), Memory>
         requires step { IsInStep self.old }
+        requires few { length self.old.parts.soup ≤ PACKETS_BEFORE }
         requires client { IsClient client }
         ensures { OnOk result (Adds self.old self.new lines.old lines.new (events.Retry (ends.Client client)) (place_at self.old.cursor)) }
     {

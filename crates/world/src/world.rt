@@ -1,11 +1,11 @@
 // The world that a script's lines are played in.
-ghost use Rattle.std.specs.Prelude.{◌≡◌, ◌++◌, ◌≤◌, true, IfOk, OnOk};
+ghost use Rattle.std.specs.Prelude.{◌≡◌, ◌++◌, ◌≤◌, length, IfOk, OnOk};
 ghost use Rattle.net_script.specs.Events.{IsProper};
-ghost use Rattle.world.specs.Run.{new_run, started, is_made, Applies, closing_of};
+ghost use Rattle.world.specs.Run.{new_run, world_of, started, Applies, ComesFurther, closing_of};
 
 use crate::progress::Progress;
 use crate::stop::Stop;
-use aeg_base::limits::MAX_FAULTS;
+use aeg_base::limits::{MAX_FAULTS, PACKETS};
 use aeg_base::{Bytes, Memory};
 use run_model::{Event, TraceEvent};
 use std::alloc::Global;
@@ -59,9 +59,10 @@ impl World {
 
     /// Does what is next for the line, at most one event, and answers whether more may be left of it.
     pub fn apply(&mut self, line: &Event, lines: &mut Bytes) -> Result<bool, Stop>
-        requires proper { IsProper self.old.u line.now }
-        requires made { is_made line.now ≡ true }
-        ensures { Applies self.old self.new lines.old lines.new line.now result }
+        requires { IsProper self.old.u line.now }
+        ensures applies { Applies self.old self.new lines.old lines.new line.now result }
+        ensures further { ComesFurther self.old self.new result }
+        ensures within { OnOk result (length (world_of self.new).soup ≤ PACKETS) }
     {
         if self.has_ended {
             return Err(Stop::Memory);

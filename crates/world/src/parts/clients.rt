@@ -1,5 +1,5 @@
 // Client ends.
-ghost use Rattle.std.specs.Prelude.{◌≡◌, ℕ, ◌+◌, ◌*◌, ◌≤◌, ◌++◌, true, map, OnOk};
+ghost use Rattle.std.specs.Prelude.{◌≡◌, ℕ, ◌+◌, ◌*◌, ◌≤◌, ◌++◌, true, length, map, OnOk};
 ghost use Rattle.aeg_base.specs.declared.names.End.TheVariants as ends;
 ghost use Rattle.frames.specs.declared.message.Msg.TheVariants as msgs;
 ghost use Rattle.frames.specs.Frames.{FitsFrame};
@@ -13,7 +13,7 @@ ghost use Rattle.world.specs.Standing.{AreShown, Plays};
 
 use super::Parts;
 use crate::text::{add_busy, add_idle};
-use aeg_base::limits::MAX_FAULTS;
+use aeg_base::limits::{MAX_FAULTS, PACKETS_BEFORE};
 use aeg_base::{Bytes, End, Memory, NodeId, Tier};
 use frames::{Idle, Msg, Outbox, encode};
 use std::alloc::Global;
@@ -45,6 +45,7 @@ impl Parts {
     /// `submit CLIENT REQUEST`
     pub fn submit(&mut self, client: u8, body: &Bytes, lines: &mut Bytes) -> Result<(), Memory>
         requires shown { AreShown self.old }
+        requires few { length self.old.soup ≤ PACKETS_BEFORE }
         requires client { IsClient client }
         requires asked { is_asked (script.Submit client body.now) ≡ true }
         ensures { Plays self.old self.new lines.old lines.new (events.Submit client body.now) result }
@@ -61,6 +62,7 @@ impl Parts {
     /// `retry CLIENT`
     pub fn ask_again(&mut self, client: u8, lines: &mut Bytes) -> Result<(), Memory>
         requires shown { AreShown self.old }
+        requires few { length self.old.soup ≤ PACKETS_BEFORE }
         requires client { IsClient client }
         ensures { Plays self.old self.new lines.old lines.new (events.Retry (ends.Client client)) result }
     {

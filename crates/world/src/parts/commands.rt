@@ -1,5 +1,5 @@
 // Commands at nodes.
-ghost use Rattle.std.specs.Prelude.{◌≡◌, ◌+◌, ◌*◌, ◌<◌};
+ghost use Rattle.std.specs.Prelude.{◌≡◌, ◌+◌, ◌*◌, ◌<◌, ◌≤◌, length};
 ghost use Rattle.aeg_base.specs.declared.names.End.TheVariants as ends;
 ghost use Rattle.run_model.specs.declared.trace.Fared.TheVariants.{Fine};
 ghost use Rattle.run_model.specs.declared.trace.TraceEvent.TheVariants as events;
@@ -7,6 +7,7 @@ ghost use Rattle.world.specs.Standing.{AreShown, Plays};
 
 use super::Parts;
 use crate::text::{add_command, add_idle_down};
+use aeg_base::limits::PACKETS_BEFORE;
 use aeg_base::{Bytes, Memory, NodeId};
 use frames::Outbox;
 
@@ -15,6 +16,7 @@ impl Parts {
     pub fn lead(&mut self, node: NodeId, lines: &mut Bytes) -> Result<(), Memory>
         requires shown { AreShown self.old }
         requires there { node.index < 2 * self.old.u + 1 }
+        requires few { length self.old.soup ≤ PACKETS_BEFORE }
         ensures { Plays self.old self.new lines.old lines.new (events.Lead node Fine) result }
     {
         let mut out = Outbox::new(self.alloc);
@@ -31,6 +33,7 @@ impl Parts {
     pub fn offer(&mut self, node: NodeId, lines: &mut Bytes) -> Result<(), Memory>
         requires shown { AreShown self.old }
         requires there { node.index < 2 * self.old.u + 1 }
+        requires few { length self.old.soup ≤ PACKETS_BEFORE }
         ensures { Plays self.old self.new lines.old lines.new (events.Offer node Fine) result }
     {
         let mut out = Outbox::new(self.alloc);
@@ -47,6 +50,7 @@ impl Parts {
     pub fn retry(&mut self, node: NodeId, lines: &mut Bytes) -> Result<(), Memory>
         requires shown { AreShown self.old }
         requires there { node.index < 2 * self.old.u + 1 }
+        requires few { length self.old.soup ≤ PACKETS_BEFORE }
         ensures { Plays self.old self.new lines.old lines.new (events.Retry (ends.Node node)) result }
     {
         let mut out = Outbox::new(self.alloc);

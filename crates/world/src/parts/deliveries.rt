@@ -1,5 +1,5 @@
 // Packets that reach their ends.
-ghost use Rattle.std.specs.Prelude.{◌≡◌, slice_get, IfOk};
+ghost use Rattle.std.specs.Prelude.{◌≡◌, ◌≤◌, length, slice_get, IfOk};
 ghost use Rattle.run_model.specs.declared.trace.Fared.TheVariants.{Fine};
 ghost use Rattle.run_model.specs.declared.trace.TraceEvent.TheVariants as events;
 ghost use Rattle.world.specs.Packets.{receiver_in, message_in, is_cut_in};
@@ -7,6 +7,7 @@ ghost use Rattle.world.specs.Standing.{AreShown, Plays};
 
 use super::Parts;
 use crate::text::{add_drop, add_frame, add_lost, add_none};
+use aeg_base::limits::PACKETS_BEFORE;
 use aeg_base::{Bytes, End, Memory, NodeId};
 use frames::{FrameErr, Header, Msg, Outbox, Refused, decode};
 
@@ -48,7 +49,8 @@ impl Parts {
 
     /// `short PACKET BYTES`
     pub fn short(&mut self, packet: u32, bytes: u32, lines: &mut Bytes) -> Result<(), Memory>
-        requires { AreShown self.old }
+        requires shown { AreShown self.old }
+        requires few { length self.old.soup ≤ PACKETS_BEFORE }
         ensures { Plays self.old self.new lines.old lines.new (events.Short packet bytes Fine) result }
     {
         if !self.is_cut(packet, bytes) {
@@ -67,7 +69,8 @@ impl Parts {
 
     /// `deliver PACKET`
     pub fn deliver(&mut self, packet: u32, lines: &mut Bytes) -> Result<(), Memory>
-        requires { AreShown self.old }
+        requires shown { AreShown self.old }
+        requires few { length self.old.soup ≤ PACKETS_BEFORE }
         ensures { Plays self.old self.new lines.old lines.new (events.Deliver packet Fine) result }
     {
         let mut out = Outbox::new(self.alloc);

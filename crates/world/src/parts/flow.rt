@@ -1,5 +1,5 @@
 // The packets that `flow` delivers.
-ghost use Rattle.std.specs.Prelude.{◌≡◌, ℕ, ◌<◌, length, slice_get, IfSome};
+ghost use Rattle.std.specs.Prelude.{◌≡◌, ℕ, ◌<◌, ◌≤◌, length, slice_get, IfSome};
 ghost use Rattle.run_model.specs.BookingRuns.{BookingWorld};
 ghost use Rattle.run_model.specs.Resolving.{next_packet};
 ghost use Rattle.world.specs.Packets.{is_taken_in};
@@ -27,6 +27,7 @@ impl Parts {
     pub fn next(&self, cursor: u32) -> Option<u32>
         requires { AreShown self.now }
         ensures is { (u depth : ℕ) (w : BookingWorld) → Shows u depth w self.now → result ≡ next_packet w cursor }
+        ensures from { IfSome result (λ packet. cursor ≤ packet) }
         ensures within { IfSome result (λ packet. packet < length self.now.soup) }
     {
         for packet in cursor..self.soup.len() {

@@ -1,9 +1,9 @@
 // The lines of a script, one after another.
-ghost use Rattle.std.specs.Prelude.{◌≡◌, ℕ, ◌≤◌, true, List, OnOk, Ok, false};
+ghost use Rattle.std.specs.Prelude.{◌≡◌, ℕ, ◌≤◌, true, List, length, nat_lt, IfOk, OnOk, Ok, false};
 ghost use Rattle.net_script.specs.Events.{IsProper};
 ghost use Rattle.run_model.specs.declared.line.Event.TheVariants as script;
-ghost use Rattle.world.specs.Run.{is_made};
-ghost use Rattle.world.specs.Going.{IsInStep, AddsLine, is_one, GoesBy};
+ghost use Rattle.world.specs.Run.{ComesFurther};
+ghost use Rattle.world.specs.Going.{run_of, IsInStep, AddsLine, is_one, GoesBy};
 
 use super::Progress;
 use crate::stop::Stop;
@@ -15,6 +15,7 @@ impl Progress {
     /// Makes the line's one event.
     fn make(&mut self, line: &Event, lines: &mut Bytes) -> Result<(), Memory>
         requires step { IsInStep self.old }
+        requires few { length self.old.parts.soup ≤ PACKETS_BEFORE }
         requires proper { IsProper self.old.parts.u line.now }
         requires one { is_one line.now ≡ true }
         ensures { OnOk result (AddsLine self.old self.new lines.old lines.new line.now) }
@@ -43,14 +44,22 @@ impl Progress {
         }
     }
 
+    /// Whether what an event sends may have no room.
+    fn is_full(&self) -> bool
+        ensures { result ≡ nat_lt PACKETS_BEFORE (length self.now.parts.soup) }
+    {
+        self.parts.packets() > PACKETS_BEFORE
+    }
+
     /// A line that is one event.
     fn one(&mut self, line: &Event, lines: &mut Bytes) -> Result<bool, Stop>
         requires step { IsInStep self.old }
         requires proper { IsProper self.old.parts.u line.now }
         requires one { is_one line.now ≡ true }
-        ensures { GoesBy self.old self.new lines.old lines.new line.now result }
+        ensures goes { GoesBy self.old self.new lines.old lines.new line.now result }
+        ensures once { IfOk result (λ again. again ≡ false) }
     {
-        if self.parts.packets() > PACKETS_BEFORE {
+        if self.is_full() {
             return Err(Stop::Limit);
         }
         self.make(line, lines)?;
@@ -60,13 +69,14 @@ impl Progress {
     /// `flow`
     fn flow(&mut self, lines: &mut Bytes) -> Result<bool, Stop>
         requires { IsInStep self.old }
-        ensures { GoesBy self.old self.new lines.old lines.new script.Flow result }
+        ensures goes { GoesBy self.old self.new lines.old lines.new script.Flow result }
+        ensures further { ComesFurther (run_of self.old) (run_of self.new) result }
     {
         let Some(packet) = self.parts.next(self.cursor) else {
             self.cursor = self.parts.packets();
             return Ok(false);
         };
-        if self.parts.packets() > PACKETS_BEFORE {
+        if self.is_full() {
             return Err(Stop::Limit);
         }
         self.deliver(packet, packet + 1, lines)?;
@@ -85,8 +95,8 @@ impl Progress {
     pub fn apply(&mut self, line: &Event, lines: &mut Bytes) -> Result<bool, Stop>
         requires step { IsInStep self.old }
         requires proper { IsProper self.old.parts.u line.now }
-        requires made { is_made line.now ≡ true }
-        ensures { GoesBy self.old self.new lines.old lines.new line.now result }
+        ensures goes { GoesBy self.old self.new lines.old lines.new line.now result }
+        ensures further { ComesFurther (run_of self.old) (run_of self.new) result }
     {
         match line {
             Event::Flow => self.flow(lines),

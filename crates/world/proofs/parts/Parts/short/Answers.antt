@@ -21,13 +21,13 @@ returns-then-not-is_cut c =
 
 pub unreachable-requires : goal.unreachable-requires
 unreachable-requires c =
-    let r = c.requires in
+    let r = c.requires.shown in
     let cut : is_cut_in (slice_get c.args.self.now.soup c.args.packet) c.args.bytes ≡ true = sym c.is_cut.ensures ∙ search rules in
     cut_goes r.0 r.1 r.2 c.args.self.now c.args.packet c.args.bytes r.3 cut (sym c.receiver.ensures ∙ c.in_default.is)
 
 pub is_up-requires : goal.is_up-requires
 is_up-requires c =
-    let r = c.requires in
+    let r = c.requires.shown in
     let a = addressed r.0 r.1 r.2 c.args.self.now c.args.packet c.in-Some.node r.3 (sym c.receiver.ensures ∙ c.in-Some.is) in
     has_node r.0 r.1 r.2 c.args.self.now.nodes c.in-Some.node c.in-Some.node.tier r.3.nodes a.there
 
@@ -36,7 +36,7 @@ returns-then-not-is_up c =
     let cut : is_cut_in (slice_get c.args.self.now.soup c.args.packet) c.args.bytes ≡ true = sym c.is_cut.ensures ∙ search rules in
     let to : receiver_in (slice_get c.args.self.now.soup c.args.packet) ≡ Some c.in-Some.node = sym c.receiver.ensures ∙ c.in-Some.is in
     let down : up_at c.args.self.now.nodes c.in-Some.node ≡ false = sym c.is_up.ensures ∙ search rules in
-    on_ok_weaker c.send.result (λ e u depth w s. played u depth w c.args.self.now c.send.new.self c.args.self.now.nodes [] (events.Short c.args.packet c.args.bytes Fine) (lost_line c.args.packet) c.args.lines.now c.add_lost.new.out s
+    on_ok_weaker c.send.result (λ sent u depth w s. let e = sent.0 in played u depth w c.args.self.now c.send.new.self c.args.self.now.nodes [] (events.Short c.args.packet c.args.bytes Fine) (lost_line c.args.packet) c.args.lines.now c.add_lost.new.out s sent.1
     (short_lost u depth w c.args.self.now c.args.packet c.args.bytes c.in-Some.node s cut (addressed u depth w c.args.self.now c.args.packet c.in-Some.node s to) down) (e ∙ ap (parts_after c.args.self.now c.args.self.now.nodes) c.new.ensures) c.in_ok-add_lost.ensures) c.send.ensures
 
 pub returns : goal.returns
@@ -44,5 +44,5 @@ returns c =
     let cut : is_cut_in (slice_get c.args.self.now.soup c.args.packet) c.args.bytes ≡ true = sym c.is_cut.ensures ∙ search rules in
     let to : receiver_in (slice_get c.args.self.now.soup c.args.packet) ≡ Some c.in-Some.node = sym c.receiver.ensures ∙ c.in-Some.is in
     let up : up_at c.args.self.now.nodes c.in-Some.node ≡ true = sym c.is_up.ensures ∙ search rules in
-    on_ok_weaker c.send-2.result (λ e u depth w s. played u depth w c.args.self.now c.send-2.new.self c.args.self.now.nodes [] (events.Short c.args.packet c.args.bytes Fine) (drop_line (node_name c.in-Some.node) refusals.Short) c.args.lines.now c.add_drop.new.out s
+    on_ok_weaker c.send-2.result (λ sent u depth w s. let e = sent.0 in played u depth w c.args.self.now c.send-2.new.self c.args.self.now.nodes [] (events.Short c.args.packet c.args.bytes Fine) (drop_line (node_name c.in-Some.node) refusals.Short) c.args.lines.now c.add_drop.new.out s sent.1
     (short_refused u depth w c.args.self.now c.args.packet c.args.bytes c.in-Some.node s cut (addressed u depth w c.args.self.now c.args.packet c.in-Some.node s to) up) (e ∙ ap (parts_after c.args.self.now c.args.self.now.nodes) c.new-2.ensures) c.in_ok-add_drop.ensures) c.send-2.ensures

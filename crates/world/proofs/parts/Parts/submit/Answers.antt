@@ -13,20 +13,22 @@ use Rattle.world.specs.Parts.{sealed}
 use Rattle.world.specs.Watching.{hears_packets, all_grown}
 use Rattle.world.specs.Standing.{AreAll, IsClientEnd}
 use Rattle.world.proofs.Asking.{CanAsk, ask_fits, asked_is, submit_is, open_leads, busy_is, client_is, client_back, client_opened, asked_nothing, asked, nothing_leads}
+use Rattle.world.proofs.Room.{requests_fit}
 use Rattle.world.proofs.parts.Parts.submit.Goals as goal
 
 pub returns-in_default : goal.returns-in_default
 returns-in_default c =
     let h = subst (λ z. Submits c.index_mut.result.now c.submit.new.self c.args.body.now z) c.in_default.is c.in_ok-seq.ensures.ok in
     let at = subst (λ z. c.index_mut.result.now ≡ get_or c.args.self.now.clients.items z c.index_mut.result.now) c.from.ensures c.index_mut.ensures.value in
-    on_ok_weaker c.send.result (λ e u depth w s.
+    on_ok_weaker c.send.result (λ sent u depth w s.
+    let e = sent.0 in
     let i = client_is w c.args.self.now.clients.items c.args.client c.index_mut.result.now s.clients c.requires.client.1 at in
     let opened : is_some (w.clients c.args.client).opened ≡ true = ap (λ (v : ClientState). is_some v.end.opened) (sym i.is) ∙ h.0 in
     let kept : AreAll 17 IsClientEnd w.clients (slice_set c.args.self.now.clients.items c.from.result c.submit.new.self) = rw c.from.ensures (client_back w c.args.self.now.clients.items c.args.client c.index_mut.result.now c.submit.new.self s.clients c.requires.client.1 at h.1) in
     let list : c.send.new.self.clients.items ≡ slice_set c.args.self.now.clients.items c.from.result c.submit.new.self = ap (λ (p : Parts). p.clients.items) e in
     let back = subst (λ z. AreAll 17 IsClientEnd w.clients z) (sym list) kept in
     let same = sym (ap (λ (p : Parts). p.clients) e) in
-    asked u depth w w c.args.self.now c.send.new.self [] (events.Submit c.args.client c.args.body.now) (then_word (codes "busy") (decimal c.args.client ++ line_end)) c.args.lines.now c.add_busy.new.out s
+    asked u depth w w c.args.self.now c.send.new.self [] (events.Submit c.args.client c.args.body.now) (then_word (codes "busy") (decimal c.args.client ++ line_end)) c.args.lines.now c.add_busy.new.out s sent.1
     (busy_is u depth w c.args.client c.args.body.now opened) (cond-true (is_some (w.clients c.args.client).opened) _ _ opened) (nothing_leads u depth w c.args.self.now.nodes s.nodes) back
     (e ∙ (λ j. record c.args.self.now { clients = same j; soup = c.args.self.now.soup ++ c.new-out.ensures j; watch = all_grown (hears_packets c.args.self.now.watch (c.new-out.ensures j)) }))
     c.in_ok-add_busy.ensures) c.send.ensures
@@ -42,11 +44,17 @@ add_requests-requires-clause-fit c =
     let number : c.in-Some.seq ≡ suc (r.2.clients c.args.client).last = h.1.0 ∙ ap (λ (v : ClientState). suc v.end.last) i.is in
     ask_fits c.args.client c.in-Some.seq c.args.body.now (record { client = c.requires.client; seq_in = (omega (arith, number, first), omega (arith, number, first)); request = asked_is c.args.client c.in-Some.seq c.args.body.now c.requires.asked })
 
+pub send-requires-2 : goal.send-requires-2
+send-requires-2 c =
+    let s = c.requires.shown.3 in
+    requests_fit c.args.self.now.u c.args.client c.in-Some.seq c.args.body.now c.args.self.now.soup c.new-out.result c.add_requests.new.out (omega (arith, s.size, s.few)) c.requires.few c.new-out.ensures c.in_ok-add_requests.ensures
+
 pub returns : goal.returns
 returns c =
     let h = subst (λ z. Submits c.index_mut.result.now c.submit.new.self c.args.body.now z) c.in-Some.is c.in_ok-seq.ensures.ok in
     let at = subst (λ z. c.index_mut.result.now ≡ get_or c.args.self.now.clients.items z c.index_mut.result.now) c.from.ensures c.index_mut.ensures.value in
-    on_ok_weaker c.send-2.result (λ e u depth w s.
+    on_ok_weaker c.send-2.result (λ sent u depth w s.
+    let e = sent.0 in
     let i = client_is w c.args.self.now.clients.items c.args.client c.index_mut.result.now s.clients c.requires.client.1 at in
     let none : (w.clients c.args.client).opened ≡ None = ap (λ (v : ClientState). v.end.opened) (sym i.is) ∙ h.0 in
     let first : (w.clients c.args.client).last ≡ 0 = asked_nothing c.args.client (w.clients c.args.client) i.asks none in
@@ -58,7 +66,7 @@ returns c =
     let same = sym (ap (λ (p : Parts). p.clients) e) in
     let out : c.add_requests.new.out ≡ map sealed (requests u c.args.client (suc (w.clients c.args.client).last) c.args.body.now) =
     c.in_ok-add_requests.ensures ∙ ap (λ z. z ++ map sealed (requests c.args.self.now.u c.args.client c.in-Some.seq c.args.body.now)) c.new-out.ensures ∙ (λ j. map sealed (requests (s.size j) c.args.client (number j) c.args.body.now)) in
-    asked u depth w (opens u w c.args.client c.args.body.now) c.args.self.now c.send-2.new.self (requests u c.args.client (suc (w.clients c.args.client).last) c.args.body.now) (events.Submit c.args.client c.args.body.now) [] c.args.lines.now c.args.lines.now s
+    asked u depth w (opens u w c.args.client c.args.body.now) c.args.self.now c.send-2.new.self (requests u c.args.client (suc (w.clients c.args.client).last) c.args.body.now) (events.Submit c.args.client c.args.body.now) [] c.args.lines.now c.args.lines.now s sent.1
     (submit_is u depth w c.args.client c.args.body.now c.requires.client c.requires.asked none first) (cond-false (is_some (w.clients c.args.client).opened) _ _ (ap is_some none)) (open_leads u depth w c.args.self.now.nodes c.args.client c.args.body.now s.nodes can) now
     (e ∙ (λ j. record c.args.self.now { clients = same j; soup = c.args.self.now.soup ++ out j; watch = all_grown (hears_packets c.args.self.now.watch (out j)) }))
     (sym (append-nil c.args.lines.now))) c.send-2.ensures

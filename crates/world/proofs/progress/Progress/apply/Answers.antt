@@ -2,5 +2,5 @@ use Rattle.std.proofs.Common.{sym, subst, false, Ok}
 use Rattle.world.specs.Going.{GoesBy}
 use Rattle.world.proofs.progress.Progress.apply.Goals as goal
 
-pub returns-in-Lose : goal.returns-in-Lose
-returns-in-Lose c = subst (λ z. GoesBy c.args.self.now c.lose.new.self c.args.lines.now c.args.lines.now z (Ok false)) (sym c.in-Lose.is) (c.lose.ensures c.args.lines.now)
+pub returns-in-Lose-clause-goes : goal.returns-in-Lose-clause-goes
+returns-in-Lose-clause-goes c = subst (λ z. GoesBy c.args.self.now c.lose.new.self c.args.lines.now c.args.lines.now z (Ok false)) (sym c.in-Lose.is) (c.lose.ensures c.args.lines.now)

@@ -6,6 +6,7 @@ use Rattle.round_model.specs.Lists.{is_some}
 use Rattle.tier_model.specs.MidRows.{offers}
 use Rattle.run_model.specs.BookingRuns.{booking_service}
 use Rattle.world.specs.LogNodes.{needs_own}
+use Rattle.world.proofs.Few.{offer_few}
 use Rattle.world.proofs.MidMoves.{mid_turns}
 use Rattle.world.proofs.MidOffers.{offers_idle, offers_none, offers_row, wants_at, none_of, some_of}
 use Rattle.world.proofs.nodes.mid_node.MidNode.offer.Goals as goal
@@ -26,6 +27,6 @@ returns c =
       | else-is_none-via-else-is_none w ↦ inl (some_of c.in_ok-own.own c.is_none.result c.is_none.ensures w.if-is_none.false)
     ] in
     mid_turns c.self.inside.depth c.self.inside.pending c.self.inside.node c.offer.new.self c.args.self.now c.args.out.now c.offer.new.out (λ log. offer c.self.inside.node.faults c.self.inside.node.me log (option_copied c.as_ref.result)) (λ u x σ. offers u booking_service x σ) c.offer.result c.self.view_is
-    c.self.invariant.0 c.self.invariant.1 c.offer.ensures
+    c.self.invariant.0 c.self.invariant.1 c.self.invariant.2 c.offer.ensures (λ log. offer_few c.self.inside.node.faults c.self.inside.node.me log (option_copied c.as_ref.result))
     (offers_row c.self.inside.node c.self.inside.depth c.self.inside.pending c.args.self.now c.wants-wants.result (option_copied c.as_ref.result) c.self.view_is c.wants-wants.ensures.offering (sym c.offer_cause.ensures ∙ c.in_default.is) (λ part e. c.as_ref.ensures.value ∙ c.in_ok-own.ensures.value part e)
     (subst (λ (z : Option AnyValue). (is_some z ≡ true) ⊎ (needs_own c.wants-wants.result ≡ false)) (sym c.as_ref.ensures.value) k))
