@@ -1,4 +1,6 @@
 pub mod AnswerLaws
+pub mod PlayLaws
 pub mod ReadingLaws
+pub mod ReplayLaws
 pub mod RunLaws
 pub mod TopLaws

@@ -1,6 +1,9 @@
 pub mod Answer
 pub mod Counting
+pub mod Headline
+pub mod Playing
 pub mod Reading
+pub mod Replay
 pub mod Report
 pub mod Running
 pub mod Status

@@ -1,17 +1,24 @@
 -- What the top call does to its source and sinks, for each status.
-use Rattle.std.specs.Prelude.{◌≡◌, ℕ, ◌++◌, List, [], ◌∷◌, length, Option, codes}
+use Rattle.std.specs.Prelude.{◌≡◌, ◌⊎◌, ℕ, ◌++◌, List, [], ◌∷◌, length, Option, codes}
 use Rattle.aeg_io.specs.Bytes.{Gains, GainsFront}
 use Rattle.server_model.specs.declared.history.Numbered.{Numbered}
 use Rattle.server_model.specs.declared.history.Told.{Told}
 use Rattle.server_model.specs.History.{Legal, told}
 use Rattle.server_model.specs.Single.{booking_meaning, judgement, Reads, history_of, told_line, steps_line}
 use Rattle.aegean_main.specs.Answer.{Answer}
+use Rattle.aegean_main.specs.declared.status.LimitKind.TheVariants as limits
 use Rattle.aegean_main.specs.declared.status.Status.{Status}
 use Rattle.aegean_main.specs.declared.status.Status.TheVariants.{Done, Usage, Script, Plan, ReadFault, WriteFault, Limit, Illegal, Memory}
 
--- the command line is one word, `single`
+-- the command line is one word, `single` or `replay`
 abbrev pub IsSingle : List (List ℕ) → Type 0
 IsSingle words = words ≡ codes "single" ∷ []
+
+abbrev pub IsReplay : List (List ℕ) → Type 0
+IsReplay words = words ≡ codes "replay" ∷ []
+
+abbrev pub IsCommand : List (List ℕ) → Type 0
+IsCommand words = IsSingle words ⊎ IsReplay words
 
 -- the status is the answer's and its whole text was written; but after a failing write or want of memory a front of it,
 -- and after a failing read nothing
@@ -27,7 +34,9 @@ LeavesOut Usage old new = new ≡ old
 LeavesOut (Script line row) old new = new ≡ old
 LeavesOut (Plan row) old new = new ≡ old
 LeavesOut ReadFault old new = new ≡ old
-LeavesOut (Limit kind) old new = new ≡ old
+LeavesOut (Limit limits.Bytes) old new = new ≡ old
+LeavesOut (Limit limits.Lines) old new = new ≡ old
+LeavesOut (Limit limits.Packets) old new = Unit {0}
 LeavesOut Done old new = Unit {0}
 LeavesOut WriteFault old new = Unit {0}
 LeavesOut (Illegal line row) old new = Unit {0}

@@ -1,9 +1,12 @@
-//! The program: `aegean single` reads steps of the one server and writes what they tell.
+//! The program: `aegean single` reads steps of the one server and writes what they tell, and `aegean replay` plays a
+//! script in the three tiers and writes what its events print.
 #![tactic(auto)]
 
 mod count;
 mod lines;
+mod playing;
 mod reading;
+mod replay;
 mod report;
 mod run;
 mod status;
@@ -13,6 +16,7 @@ mod told;
 mod top;
 
 use aeg_io::{StdSink, StdSource};
+pub use replay::replay_call;
 pub use status::{LimitKind, Status};
 use std::process::ExitCode;
 use std::{env, io};

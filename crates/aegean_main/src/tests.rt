@@ -5,6 +5,21 @@ use aeg_io::{MemSink, MemSource};
 use std::alloc::{AllocError, Global};
 use std::test::Fail;
 
+/// Runs a command on an input whose read of this number fails.
+fn called(
+    alloc: Global,
+    command: &str,
+    input: Vec<u8>,
+    failing: u32,
+    out: &mut MemSink,
+    err: &mut MemSink,
+) -> Result<Status, AllocError> {
+    let words = vec![in alloc; String::from_str(alloc, command)?]?;
+    let fails = vec![in alloc; failing]?;
+    let mut source = MemSource::new(input, fails, 4096);
+    Ok(aegean(alloc, &words, &mut source, out, err))
+}
+
 /// Runs `single` on an input whose read of this number fails.
 fn single(
     alloc: Global,
@@ -13,10 +28,18 @@ fn single(
     out: &mut MemSink,
     err: &mut MemSink,
 ) -> Result<Status, AllocError> {
-    let words = vec![in alloc; String::from_str(alloc, "single")?]?;
-    let fails = vec![in alloc; failing]?;
-    let mut source = MemSource::new(input, fails, 4096);
-    Ok(aegean(alloc, &words, &mut source, out, err))
+    called(alloc, "single", input, failing, out, err)
+}
+
+/// Runs `replay` on an input whose read of this number fails.
+fn replay(
+    alloc: Global,
+    input: Vec<u8>,
+    failing: u32,
+    out: &mut MemSink,
+    err: &mut MemSink,
+) -> Result<Status, AllocError> {
+    called(alloc, "replay", input, failing, out, err)
 }
 
 #[test]
@@ -155,5 +178,100 @@ fn faults_limits_and_usage(rt: HostRuntime) -> Result<(), Fail> {
     let mut source = MemSource::new(Vec::new(alloc), Vec::new(alloc), 1);
     let status = aegean(alloc, &[], &mut source, &mut out, &mut err);
     assert_eq!(rt; status, Status::Usage);
+    Ok(())
+}
+
+#[test]
+fn worked_runs_of_scripts(rt: HostRuntime) -> Result<(), Fail> {
+    let alloc = rt.alloc();
+    let table = [
+        // A script with a header alone runs no event and prints the closing lines.
+        (
+            "tiers 0 depth 1\n",
+            0,
+            "log mid 0\nlog inv 0\nlog pay 0\npackets 0\n",
+            "",
+        ),
+        // Empty input has no header, so line 1 is refused.
+        ("", 2, "", "script: line 1 row 1\n"),
+        // A frame cut short is dropped; cut at its full length it is the whole frame.
+        (
+            "tiers 1 depth 1\nlead m0\nshort 0 0\nshort 0 12\nshort 0 13\n",
+            0,
+            "drop m1 short\ndrop m1 short\nlog mid 0\nlog inv 0\nlog pay 0\npackets 3\n",
+            "",
+        ),
+        // A leader offers one position at a time, and then has no tokens for the verdict.
+        (
+            "tiers 1 depth 1\nlead m0\nflow\nsubmit 1 open 1 5 10 0\nflow\noffer m0\noffer m0\nflow\noffer m0\n",
+            0,
+            "idle m0 in-flight 0\nidle m0 no-tokens 0\nlog mid 1\nlog inv 0\nlog pay 0\npackets 18\n",
+            "",
+        ),
+        // A line's first word is unknown.
+        (
+            "tiers 1 depth 1\njump m0\n",
+            2,
+            "",
+            "script: line 2 row 2\n",
+        ),
+        // Numbers have no leading zeros.
+        (
+            "tiers 1 depth 1\ndeliver 00\n",
+            2,
+            "",
+            "script: line 2 row 3\n",
+        ),
+    ];
+    for (input, code, text, note) in table {
+        let mut out = MemSink::new(alloc, Vec::new(alloc), 10);
+        let mut err = MemSink::new(alloc, Vec::new(alloc), 10);
+        let bytes = Vec::from_slice(alloc, input.as_bytes())?;
+        let status = replay(alloc, bytes, 99, &mut out, &mut err)?;
+        assert_eq!(rt; status.code(), code, "{input}");
+        assert_eq!(rt; out.taken(), text.as_bytes(), "{input}");
+        assert_eq!(rt; err.taken(), note.as_bytes(), "{input}");
+    }
+    Ok(())
+}
+
+#[test]
+fn scripts_with_faults_and_limits(rt: HostRuntime) -> Result<(), Fail> {
+    let alloc = rt.alloc();
+    let input = b"tiers 1 depth 1\nlead m0\nshort 0 0\nshort 0 12\n";
+    let mut out = MemSink::new(alloc, Vec::new(alloc), 10);
+    let mut err = MemSink::new(alloc, Vec::new(alloc), 10);
+    let status = replay(alloc, Vec::from_slice(alloc, input)?, 1, &mut out, &mut err)?;
+    assert_eq!(rt; status, Status::ReadFault);
+    assert_eq!(rt; out.taken(), b"".as_slice());
+    assert_eq!(rt; err.taken(), b"read fault\n".as_slice());
+
+    // The fourth write fails: an event's line has gone out, and a part of the next one's.
+    let mut full = MemSink::new(alloc, vec![in alloc; 3]?, 10);
+    let status = replay(
+        alloc,
+        Vec::from_slice(alloc, input)?,
+        99,
+        &mut full,
+        &mut err,
+    )?;
+    assert_eq!(rt; status, Status::WriteFault);
+    assert_eq!(rt; full.taken(), b"drop m1 short\ndrop m1 sh".as_slice());
+
+    // A script of line feeds alone has no header.
+    let blank = vec![in alloc; b'\n'; 200_000]?;
+    let mut note = MemSink::new(alloc, Vec::new(alloc), 99);
+    let status = replay(alloc, blank, 9_999, &mut out, &mut note)?;
+    assert_eq!(rt; status.code(), 2);
+    assert_eq!(rt; note.taken(), b"script: line 200001 row 1\n".as_slice());
+
+    let long = vec![in alloc; b'#'; INPUT_BYTES + 1]?;
+    let status = replay(alloc, long, 9_999, &mut out, &mut err)?;
+    assert_eq!(rt; status, Status::Limit(LimitKind::Bytes));
+
+    let lines = vec![in alloc; b'\n'; 200_001]?;
+    let status = replay(alloc, lines, 9_999, &mut out, &mut err)?;
+    assert_eq!(rt; status, Status::Limit(LimitKind::Lines));
+    assert_eq!(rt; out.taken(), b"".as_slice());
     Ok(())
 }

@@ -1,15 +1,17 @@
 // The top call.
-ghost use Rattle.std.specs.Prelude.{◌≡◌, ◌≤◌, ◌↔◌, ◌⊎◌, map, string_bytes, length, IfSome, IsTrue};
+ghost use Rattle.std.specs.Prelude.{◌≡◌, ◌≤◌, ◌↔◌, ◌⊎◌, ◌∷◌, [], map, string_bytes, length, IfSome, IsTrue};
 ghost use Rattle.aeg_base.specs.declared.limits.TheConstants.{INPUT_BYTES};
 ghost use Rattle.aeg_io.specs.Causes.{Rose};
 ghost use Rattle.aegean_main.specs.Answer.{answer_of};
 ghost use Rattle.aegean_main.specs.Report.{Tells};
 ghost use Rattle.aegean_main.specs.Running.{told_with};
 ghost use Rattle.aegean_main.specs.Status.{line_for};
-ghost use Rattle.aegean_main.specs.Top.{IsSingle, Follows, LeavesOut, TellsHistory};
+ghost use Rattle.aegean_main.specs.Replay.{Answers, PlaysOut, IsItsOwn};
+ghost use Rattle.aegean_main.specs.Top.{IsSingle, IsReplay, IsCommand, Follows, LeavesOut, TellsHistory};
 
 use crate::count::BadLine;
 use crate::lines::has_lines_within;
+use crate::replay::replay_call;
 use crate::report::report;
 use crate::run::{RunErr, Telling, run_lines};
 use crate::status::{LimitKind, Status};
@@ -24,6 +26,7 @@ fn send<K: Sink>(out: &mut K, telling: &Telling) -> Status
     ensures write { result ≡ Status.WriteFault → Rose (K.faults out.old) (K.faults out.new) }
     ensures read { ¬ (result ≡ Status.ReadFault) }
     ensures command { ¬ (result ≡ Status.Usage) }
+    ensures packets { ¬ (result ≡ Status.Limit LimitKind.Packets) }
 {
     if let Err(Failed) = put_all(out, &telling.text) {
         return Status::WriteFault;
@@ -42,6 +45,7 @@ fn answer<K: Sink>(alloc: Global, input: &[u8], out: &mut K) -> Status
     ensures write { result ≡ Status.WriteFault → Rose (K.faults out.old) (K.faults out.new) }
     ensures read { ¬ (result ≡ Status.ReadFault) }
     ensures command { ¬ (result ≡ Status.Usage) }
+    ensures packets { ¬ (result ≡ Status.Limit LimitKind.Packets) }
 {
     if !has_lines_within(input, INPUT_LINES) {
         return Status::Limit(LimitKind::Lines);
@@ -60,6 +64,7 @@ fn single_status<S: Source, K: Sink>(alloc: Global, source: &mut S, out: &mut K)
     ensures read { result ≡ Status.ReadFault → Rose (S.faults source.old) (S.faults source.new) }
     ensures write { result ≡ Status.WriteFault → Rose (K.faults out.old) (K.faults out.new) }
     ensures command { ¬ (result ≡ Status.Usage) }
+    ensures packets { ¬ (result ≡ Status.Limit LimitKind.Packets) }
 {
     match read_all(alloc, source, INPUT_BYTES) {
         Ok(input) => answer(alloc, input.items(), out),
@@ -81,6 +86,7 @@ pub fn single_call<S: Source, K: Sink, E: Sink>(
     ensures read { result ≡ Status.ReadFault → Rose (S.faults source.old) (S.faults source.new) }
     ensures write { result ≡ Status.WriteFault → Rose (K.faults out.old) (K.faults out.new) }
     ensures command { ¬ (result ≡ Status.Usage) }
+    ensures packets { ¬ (result ≡ Status.Limit LimitKind.Packets) }
     ensures tells { Tells (line_for result) (E.taken err.old) (E.taken err.new) (E.faults err.old) (E.faults err.new) }
 {
     let status = single_status(alloc, source, out);
@@ -88,12 +94,12 @@ pub fn single_call<S: Source, K: Sink, E: Sink>(
     status
 }
 
-/// Whether the command line is the word `single` alone.
-fn is_single(words: &[String]) -> bool
-    ensures { IsTrue result ↔ IsSingle (map string_bytes words.now) }
+/// Whether the command line is this word alone.
+fn is_word(words: &[String], name: &str) -> bool
+    ensures { IsTrue result ↔ (map string_bytes words.now ≡ name.now ∷ []) }
 {
     match words {
-        [word] => word.as_str() == "single",
+        [word] => word.as_str() == name,
         _ => false,
     }
 }
@@ -106,20 +112,29 @@ pub fn aegean<S: Source, K: Sink, E: Sink>(
     out: &mut K,
     err: &mut E,
 ) -> Status
-    ensures usage { (result ≡ Status.Usage) ↔ ¬ IsSingle (map string_bytes words.now) }
-    ensures follows { IsSingle (map string_bytes words.now) → IfSome (S.left source.old) (λ input. Follows (answer_of input) (K.taken out.old) (K.taken out.new) result) }
+    ensures usage { (result ≡ Status.Usage) ↔ ¬ IsCommand (map string_bytes words.now) }
     ensures nothing { LeavesOut result (K.taken out.old) (K.taken out.new) }
     ensures read { result ≡ Status.ReadFault → Rose (S.faults source.old) (S.faults source.new) }
     ensures write { result ≡ Status.WriteFault → Rose (K.faults out.old) (K.faults out.new) }
     ensures tells { Tells (line_for result) (E.taken err.old) (E.taken err.new) (E.faults err.old) (E.faults err.new) }
+    ensures packets { IsSingle (map string_bytes words.now) → ¬ (result ≡ Status.Limit LimitKind.Packets) }
+    ensures single { IsSingle (map string_bytes words.now) → IfSome (S.left source.old) (λ input. Follows (answer_of input) (K.taken out.old) (K.taken out.new) result) }
     // At the end of all input the history is legal, and what it tells was written.
-    ensures history { result ≡ Status.Done → IfSome (S.left source.old) (λ input. TellsHistory input (K.taken out.old) (K.taken out.new)) }
+    ensures single_history { IsSingle (map string_bytes words.now) → result ≡ Status.Done → IfSome (S.left source.old) (λ input. TellsHistory input (K.taken out.old) (K.taken out.new)) }
     // Without a fault and with memory the status is the one that the input has.
-    ensures complete { IsSingle (map string_bytes words.now) → ¬ Rose (S.faults source.old) (S.faults source.new) → ¬ Rose (K.faults out.old) (K.faults out.new)
+    ensures single_complete { IsSingle (map string_bytes words.now) → ¬ Rose (S.faults source.old) (S.faults source.new) → ¬ Rose (K.faults out.old) (K.faults out.new)
         → IfSome (S.left source.old) (λ input. (result ≡ (answer_of input).status) ⊎ (result ≡ Status.Memory)) }
+    ensures replay { IsReplay (map string_bytes words.now) → IfSome (S.left source.old) (λ input. Answers input (K.taken out.old) (K.taken out.new) result) }
+    // At the end of all input a whole run was written, and it keeps what every run keeps.
+    ensures replay_headline { IsReplay (map string_bytes words.now) → result ≡ Status.Done → IfSome (S.left source.old) (λ input. PlaysOut input (K.taken out.old) (K.taken out.new)) }
+    ensures replay_complete { IsReplay (map string_bytes words.now) → ¬ Rose (S.faults source.old) (S.faults source.new) → ¬ Rose (K.faults out.old) (K.faults out.new)
+        → IfSome (S.left source.old) (λ input. IsItsOwn input result) }
 {
-    if is_single(words) {
+    if is_word(words, "single") {
         return single_call(alloc, source, out, err);
+    }
+    if is_word(words, "replay") {
+        return replay_call(alloc, source, out, err);
     }
     report(err, Status::Usage);
     Status::Usage
