@@ -61,7 +61,7 @@ entries_length : (es : List Entry) → AllByRecursion FitsEntry es → length (f
 entries_length [] all = omega arith
 entries_length (e ∷ es) all = omega (arith, ap length (flat_map-cons entry e es), length-append (entry e) (flat_map entry es), entry_length e all.0, entries_length es all.1)
 
-any_length : (v : AnyValue) → FitsAny v → length (any_value v) ≤ 5029
+pub any_length : (v : AnyValue) → FitsAny v → length (any_value v) ≤ 5029
 any_length (values.Mid (mids.Batch es)) fits = omega (arith, entries_length es fits.1, fits.0)
 any_length (values.Mid (mids.Verdict (verdicts.Commit token order))) fits = omega (arith, commit_length token order fits)
 any_length (values.Mid (mids.Verdict verdicts.Serial)) fits = omega arith

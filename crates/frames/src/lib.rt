@@ -13,6 +13,7 @@ mod writing;
 
 pub use header::{FrameErr, Header, Refused, decode_header};
 pub use laws::no_frame_begins_another;
+pub use log_body::carries;
 pub use message::Msg;
 pub use outbox::Outbox;
 pub use reading::decode;

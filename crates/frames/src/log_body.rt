@@ -26,7 +26,7 @@ fn is_turn_of(pos: Pos, value: &MidValue) -> bool
 }
 
 /// Whether the log of this tier can have the value at the position.
-fn carries(tier: Tier, pos: Pos, value: &AnyValue) -> bool
+pub fn carries(tier: Tier, pos: Pos, value: &AnyValue) -> bool
     ensures { result ≡ is_carried tier pos value.now }
 {
     match tier {

@@ -112,7 +112,7 @@ accept_in u Q F log s b p v l k f w q = cond_both (nat_lt p (open_at log)) _ _ (
 
 -- LEARNING
 
-get_push : {V : Type 0} (xs : List V) (v : V) (p : ℕ) (w : V) → slice_get (xs ++ v ∷ []) p ≡ Some w → (slice_get xs p ≡ Some w) ⊎ ((p ≡ length xs) × (v ≡ w))
+pub get_push : {V : Type 0} (xs : List V) (v : V) (p : ℕ) (w : V) → slice_get (xs ++ v ∷ []) p ≡ Some w → (slice_get xs p ≡ Some w) ⊎ ((p ≡ length xs) × (v ≡ w))
 get_push [] v zero w e = inr (refl, cc)
 get_push [] v (suc p) w e = absurd (cc)
 get_push (x ∷ xs) v zero w e = inl e
@@ -122,7 +122,7 @@ get_push (x ∷ xs) v (suc p) w e = go (get_push xs v p w e)
     go (inl f) = inl f
     go (inr f) = inr (ap suc f.0, f.1)
 
-length_push : {V : Type 0} (xs : List V) (v : V) → length (xs ++ v ∷ []) ≡ suc (length xs)
+pub length_push : {V : Type 0} (xs : List V) (v : V) → length (xs ++ v ∷ []) ≡ suc (length xs)
 length_push [] v = refl
 length_push (x ∷ xs) v = ap suc (length_push xs v)
 

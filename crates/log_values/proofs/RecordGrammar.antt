@@ -177,7 +177,7 @@ lead_length (facts.Accepted p b v) rest = omega arith
 lead_length (facts.Learned p v) rest = omega arith
 lead_length (facts.Held tier number code) rest = omega arith
 
-no_more : (fs : List Fact) → length fs ≤ length (record_text fs)
+pub no_more : (fs : List Fact) → length fs ≤ length (record_text fs)
 no_more [] = omega arith
 no_more (f ∷ fs) = omega (arith, ap length (flat_map-cons fact f fs), length-append (fact f) (record_text fs), lead_length f [], no_more fs)
 

@@ -84,6 +84,13 @@ impl Record {
         self.facts.items()
     }
 
+    /// Gives the facts back.
+    pub fn into_facts(self) -> Vec<Fact>
+        ensures { result.items ≡ self }
+    {
+        self.facts.into_vec()
+    }
+
     /// Writes the one spelling of the record. After an error a front of it may have been written.
     pub fn encode(&self, out: &mut Bytes) -> Result<(), Memory>
         requires { FitsRecord self.now }
