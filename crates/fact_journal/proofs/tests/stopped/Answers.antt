@@ -1,0 +1,9 @@
+use Rattle.std.proofs.Common.{sym, ◌∙◌}
+use Rattle.fact_journal.proofs.Standing.{armed_same, same_facts}
+use Rattle.fact_journal.proofs.tests.stopped.Goals as goal
+
+pub append-requires-clause-ready : goal.append-requires-clause-ready
+append-requires-clause-ready g c = λ t.
+    let same = armed_same _ _ _ _ c.arm.ensures in
+    let w = c.in_ok-journal.ensures.facts (sym c.open_on.ensures.later.tells ∙ (sym same.1 ∙ t)) in
+    (w.0, same_facts w.0 _ _ _ w.4 same.0)
