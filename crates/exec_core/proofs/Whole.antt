@@ -20,6 +20,7 @@ use Rattle.exec_core.specs.declared.machine.Slot.{Slot}
 use Rattle.exec_core.specs.declared.machine.Machine.{Machine}
 use Rattle.exec_core.specs.States.{owner_of, progress_of, begun, AreMembers, AreBegun}
 use Rattle.exec_core.specs.Jobs.{run_in_groups}
+use Rattle.exec_core.specs.Underway.{left_by}
 use Rattle.exec_core.proofs.Orders.{order_once, order_groups}
 
 past_end : (sets : List (List Bool)) (j : ℕ) → length sets ≤ j → set_at sets j ≡ no_locks
@@ -63,7 +64,7 @@ past_slots plan [] j le = refl
 past_slots plan (x ∷ xs) zero le = absurd (omega arith)
 past_slots plan (x ∷ xs) (suc j) le = past_slots plan xs j (omega arith)
 
-begun_is : {P : Type 0} (plan : P → Option ℕ → Plan) (begins : Beginnings) (segs : List Seg) (m : Machine P) (s : Store) (groups : List (List ℕ)) → IsFresh plan begins segs m
+pub begun_is : {P : Type 0} (plan : P → Option ℕ → Plan) (begins : Beginnings) (segs : List Seg) (m : Machine P) (s : Store) (groups : List (List ℕ)) → IsFresh plan begins segs m
     → begun plan m s [] groups (start (plan_at begins segs) groups s) ≡ cut (length segs) (start (plan_at begins segs) groups s)
 begun_is plan begins segs m s groups f = λ k. record (start (plan_at begins segs) groups s) {
   owner = λ l. f.free l k;
@@ -86,6 +87,20 @@ pub record Comes (run : Run) (n : ℕ) (s : Store) (order steps : List ℕ) (red
   pub store_is : s ≡ run.store
   pub ends_are : map (λ i. unwrap_or (end_of (q i)) said_nothing) (below n) ≡ run.ends
 
+-- a state that is the run's, but for numbers that no segment has
+pub comes_cut : (begins : Beginnings) (segs : List Seg) (s : Store) (groups : List (List ℕ)) (schedule : List ℕ) (t : State)
+    → t ≡ cut (length segs) (run (plan_at begins segs) groups s schedule)
+    → Comes (run_in_groups begins segs groups s schedule) (length segs) t.store t.past t.steps t.redo t.progress
+comes_cut begins segs s groups schedule t end =
+    let n = length segs in
+    record {
+      steps_are = ap (λ (t : State). t.steps) end;
+      order_is = ap (λ (t : State). t.past) end;
+      redo_is = ap (λ (t : State). t.redo) end;
+      store_is = ap (λ (t : State). t.store) end;
+      ends_are = ap (λ (t : State). map (λ i. unwrap_or (end_of (t.progress i)) said_nothing) (below n)) end ∙ ends_cut n n (run (plan_at begins segs) groups s schedule).progress (omega arith);
+    }
+
 pub comes : {P : Type 0} (plan : P → Option ℕ → Plan) (begins : Beginnings) (segs : List Seg) (m m' : Machine P) (s s' : Store) (order : List ℕ) (groups : List (List ℕ)) (schedule : List ℕ)
     → IsFresh plan begins segs m → AreFull groups → IsOrder (length segs) (concat groups)
     → ((t : State) → begun plan m' s' order [] t ≡ complete (plan_at begins segs) (turns (plan_at begins segs) (begun plan m s [] groups t) schedule))
@@ -98,13 +113,18 @@ comes plan begins segs m m' s s' order groups schedule f full once goes =
     goes t0
     ∙ ap (λ (t : State). complete plans (turns plans t schedule)) (begun_is plan begins segs m s groups f)
     ∙ complete_cut plans s (concat groups) n (order_once n (concat groups) once) once t0 schedule (start-ready plans groups s full) in
-    record {
-      steps_are = ap (λ (t : State). t.steps) end;
-      order_is = ap (λ (t : State). t.past) end;
-      redo_is = ap (λ (t : State). t.redo) end;
-      store_is = ap (λ (t : State). t.store) end;
-      ends_are = ap (λ (t : State). map (λ i. unwrap_or (end_of (t.progress i)) said_nothing) (below n)) end ∙ ends_cut n n (run plans groups s schedule).progress (omega arith);
-    }
+    comes_cut begins segs s groups schedule (begun plan m' s' order [] t0) end
+
+-- what the machine's vectors tell is the run
+pub left_is : {P : Type 0} (plan : P → Option ℕ → Plan) (m : Machine P) (order : List ℕ) (s : Store) (r : Run) (n : ℕ)
+    → length m.slots.items ≡ n → Comes r n s order m.steps.items m.redo (progress_of plan m.slots.items) → left_by plan m order s ≡ r
+left_is plan m order s r n long z = λ k. record {
+  steps = z.steps_are k;
+  order = z.order_is k;
+  redo = z.redo_is k;
+  store = z.store_is k;
+  ends = (ap (λ n. map (λ i. unwrap_or (end_of (progress_of plan m.slots.items i)) said_nothing) (below n)) long ∙ z.ends_are) k;
+}
 
 -- THE GROUPS
 
@@ -117,7 +137,7 @@ all_small n [] h k d lt = absurd (omega arith)
 all_small n (x ∷ xs) h zero d lt = h x (let self : (x == x) ≡ true = grind (arith, nat_tests) in ap (λ b. b || mem x xs) self)
 all_small n (x ∷ xs) h (suc k) d lt = all_small n xs (λ j m. h j (or_right (x == j) (mem j xs) m)) k d (omega arith)
 
-are_members : (n : ℕ) (gs : List (List ℕ)) → n ≤ 255 → ((j : ℕ) → 0 < times j (concat gs) → j < n) → AreMembers n gs
+pub are_members : (n : ℕ) (gs : List (List ℕ)) → n ≤ 255 → ((j : ℕ) → 0 < times j (concat gs) → j < n) → AreMembers n gs
 are_members n [] few h = tt
 are_members n (g ∷ gs) few h = (
   all_small n g (λ j m. in_first j m),
@@ -128,10 +148,10 @@ are_members n (g ∷ gs) few h = (
     in_first : (j : ℕ) → mem j g ≡ true → j < n
     in_first j m = h j (let a = times-append j g (concat gs) in let b = times-mem j g m in omega arith)
 
-below_n : (j n : ℕ) → 0 < cond (nat_lt j n) 1 0 → j < n
+pub below_n : (j n : ℕ) → 0 < cond (nat_lt j n) 1 0 → j < n
 below_n j n h = grind (arith, nat_tests)
 
-length_lists : (groups : List (Vec ℕ Global)) → length (lists_of groups) ≡ length groups
+pub length_lists : (groups : List (Vec ℕ Global)) → length (lists_of groups) ≡ length groups
 length_lists [] = refl
 length_lists (g ∷ gs) = let h = length_lists gs in omega arith
 

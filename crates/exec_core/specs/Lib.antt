@@ -3,3 +3,5 @@ pub mod Jobs
 pub mod Batches
 pub mod Counts
 pub mod Given
+pub mod Underway
+pub mod Gates

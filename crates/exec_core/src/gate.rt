@@ -1,4 +1,7 @@
 // What is called round each step of a segment.
+ghost use Rattle.std.specs.Prelude.{◌≡◌};
+ghost use Rattle.exec_core.specs.Gates.{limit_of};
+
 use std::sync::atomic::AtomicU64;
 use std::sync::atomic::Ordering::SeqCst;
 
@@ -29,7 +32,9 @@ pub struct CrossGate {
 }
 
 impl CrossGate {
-    pub fn new(limit: u32) -> Self {
+    pub fn new(limit: u32) -> Self
+        ensures { limit_of result ≡ limit }
+    {
         CrossGate {
             limit,
             stepped: AtomicU64::new(0),

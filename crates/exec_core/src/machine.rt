@@ -55,6 +55,7 @@ impl<P: Program> Machine<P> {
         ensures slots { IfOk result (λ m. m.slots.items ≡ slots.items) }
         ensures free { IfOk result (λ m. (l : ℕ) → owner_of m.owner.items l ≡ 0) }
         ensures locks { IfOk result (λ m. length m.owner.items ≡ 256) }
+        ensures done { IfOk result (λ m. m.done.items ≡ []) }
         ensures steps { IfOk result (λ m. m.steps.items ≡ []) }
         ensures redo { IfOk result (λ m. m.redo ≡ 0) }
     {

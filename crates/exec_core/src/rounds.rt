@@ -17,7 +17,7 @@ use aeg_base::Memory;
 use exec_model::Seg;
 use svc_api::Service;
 
-fn contains(xs: &[u8], i: u8) -> bool
+pub fn contains(xs: &[u8], i: u8) -> bool
     ensures { result ≡ mem i xs.now }
 {
     for x in xs {
@@ -76,7 +76,7 @@ fn again<S: Service, C: Logged>(
 }
 
 /// One entry of the schedule, at a segment of the group. Answers whether the group is over with it.
-fn turn<S: Service, C: Logged>(
+pub fn turn<S: Service, C: Logged>(
     svc: &S,
     segs: &[Seg],
     group: &[u8],

@@ -7,6 +7,7 @@ ghost use Rattle.exec_model.specs.Jobs.{Run, locks_at, said_nothing, below, run_
 ghost use Rattle.key_mixer.specs.Lists.{lists_of, set_at};
 ghost use Rattle.exec_core.specs.States.{progress_of, slot_progress, AreBegun};
 ghost use Rattle.exec_core.specs.Jobs.{BeginsWell, IsRan, IsDone, run_in_groups, serial_run};
+ghost use Rattle.exec_core.specs.Underway.{left_by};
 
 use crate::batch::Batch;
 use crate::machine::{Machine, Slot};
@@ -63,7 +64,7 @@ pub fn run_serial<S: Service>(
 }
 
 // Hands the store back: with what was done, or as it was at the batch's start.
-fn leave(batch: Batch, done: Result<Done, Memory>, store: &mut Store) -> Result<Ran, Memory>
+pub fn leave(batch: Batch, done: Result<Done, Memory>, store: &mut Store) -> Result<Ran, Memory>
     ensures ran { (run : Run) → IfOk done (IsDone batch.start batch.now run) → IfOk result (IsRan batch.start store.new.map run) }
     ensures room { IfOk result (λ ran. ran.undo.top ≤ store.new.room) }
     ensures unchanged { OnErr result (store.new.map ≡ batch.start) }
@@ -88,7 +89,7 @@ fn leave(batch: Batch, done: Result<Done, Memory>, store: &mut Store) -> Result<
 }
 
 // Runs the segments in the mixer's groups.
-fn by_schedule<S: Service>(
+pub fn by_schedule<S: Service>(
     alloc: Global,
     svc: &S,
     segs: &[Seg],
@@ -146,6 +147,18 @@ fn in_groups<S: Service>(
     let mut m = Machine::new(alloc, slots)?;
     let mut order = Vec::new(alloc);
     run_groups(svc, segs, groups, schedule, &mut m, &mut order, batch)?;
+    done_of(alloc, m, order, batch)
+}
+
+/// What a run made, once its segments have ended.
+pub fn done_of<P: Program>(
+    alloc: Global,
+    m: Machine<P>,
+    order: Vec<u8>,
+    batch: &Batch,
+) -> Result<Done, Memory>
+    ensures { IfOk result (IsDone batch.now.start batch.now.now (left_by P.plan m order.items batch.now.now)) }
+{
     let ends = ends_of(alloc, m.slots)?;
     let pairs = batch.changed()?;
     Ok(Done {
@@ -160,7 +173,7 @@ fn in_groups<S: Service>(
 }
 
 // The programs of the segments, and the locks that they declare.
-fn begin_all<S: Service>(
+pub fn begin_all<S: Service>(
     alloc: Global,
     svc: &S,
     segs: &[Seg],
