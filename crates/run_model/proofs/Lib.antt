@@ -5,6 +5,8 @@ pub mod Examples
 pub mod FaultExamples
 pub mod OrderExamples
 pub mod QuorumExamples
+pub mod Resolved
 mod ScriptExamples
+pub mod Sole
 pub mod Standing
 mod TextExamples

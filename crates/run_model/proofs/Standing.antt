@@ -6,27 +6,35 @@ use Rattle.run_model.specs.Script.{Numbered, Script}
 use Rattle.run_model.specs.World.{Config, World, start}
 use Rattle.run_model.specs.Runs.{run, world}
 use Rattle.run_model.specs.Text.{after}
-use Rattle.run_model.specs.Resolving.{Place, Standing, Due, turn, left_of, due, due_by, next, stands_after, Goes, starts, first_place, first_standing, Reaches, Resolves}
+use Rattle.run_model.specs.Resolving.{Place, Standing, Due, turn, left_of, due, due_by, next, stands_after, Goes, Becomes, AllBecome, Finds, AllFind, starts, first_place, first_standing, Reaches, Resolves}
 use Rattle.run_model.specs.Standings.{IsBefore, keeps_limit}
 use Rattle.run_model.proofs.Appending.{run-append}
 
 -- a run's standing has the world of its events
 goes_world : {B : Type 0} (c : Config B) (s t : Standing B) (es : List TraceEvent) → Goes c s es t → t.world ≡ run c es s.world
 goes_world {B} c s t [] g = ap (λ (z : Standing B). z.world) (sym g)
-goes_world c s t (e ∷ es) g = goes_world c (stands_after c s.world g.0) t es g.3 ∙ ap (λ (z : TraceEvent). run c es (after c s.world z)) g.2
+goes_world c s t (e ∷ es) g = goes_world c (stands_after c s.world g.0 e) t es g.4
 
 pub reaches_world : {B : Type 0} (c : Config B) (script : Script) (es : List TraceEvent) (t : Standing B) → Reaches c script es t → t.world ≡ world c es
 reaches_world c script es t r =
-    goes_world c (first_standing c script) t r.0 r.2 ∙ sym (run-append c (starts c.u) r.0 start) ∙ ap (λ (z : List TraceEvent). world c z) (sym r.1)
+    goes_world c (first_standing (world c r.0) script) t r.1 r.5 ∙ sym (run-append c r.0 r.1 start) ∙ ap (λ (z : List TraceEvent). world c z) (sym r.2)
+
+-- what restarts found, one after another
+pub finds-append : {B : Type 0} (c : Config B) (w : World B) (es fs : List TraceEvent) → AllFind c w es → AllFind c (run c es w) fs → AllFind c w (es ++ fs)
+finds-append c w [] fs a b = b
+finds-append c w (e ∷ es) fs a b = (a.0, finds-append c (after c w e) es fs a.1 b)
+
+pub finds-last : {B : Type 0} (c : Config B) (w : World B) (es : List TraceEvent) (e : TraceEvent) → AllFind c w es → Finds (run c es w) e → AllFind c w (es ++ e ∷ [])
+finds-last c w es e a f = finds-append c w es (e ∷ []) a (f, tt)
 
 -- one event more
-goes-last : {B : Type 0} (c : Config B) (s t : Standing B) (es : List TraceEvent) (d : Due) → Goes c s es t → next c t ≡ Some d → Goes c s (es ++ d.event ∷ []) (stands_after c t.world d)
-goes-last {B} c s t [] d g n = subst (λ (z : Standing B). Goes c z (d.event ∷ []) (stands_after c t.world d)) (sym g) (d, n, refl, refl)
-goes-last c s t (e ∷ es) d g n = (g.0, g.1, g.2, goes-last c (stands_after c s.world g.0) t es d g.3 n)
+goes-last : {B : Type 0} (c : Config B) (s t : Standing B) (es : List TraceEvent) (d : Due) (e : TraceEvent) → Goes c s es t → next c t ≡ Some d → Becomes d.event e → Finds t.world e → Goes c s (es ++ e ∷ []) (stands_after c t.world d e)
+goes-last {B} c s t [] d e g n h f = subst (λ (z : Standing B). Goes c z (e ∷ []) (stands_after c t.world d e)) (sym g) (d, n, h, f, refl)
+goes-last c s t (x ∷ es) d e g n h f = (g.0, g.1, g.2, g.3, goes-last c (stands_after c s.world g.0 x) t es d e g.4 n h f)
 
 -- before the first line
-pub before_first : {B : Type 0} (c : Config B) (script : Script) → IsBefore c script (starts c.u) first_place script.events
-before_first c script = record { standing = first_standing c script; reached = ([], sym (append-nil (starts c.u)), refl); is_next = refl }
+pub before_first : {B : Type 0} (c : Config B) (script : Script) (first : List TraceEvent) → AllBecome (starts c.u) first → AllFind c start first → IsBefore c script first first_place script.events
+before_first c script first h f = record { standing = first_standing (world c first) script; reached = (first, [], sym (append-nil first), h, f, refl); is_next = refl }
 
 -- a line with nothing left to do is passed over
 pub before_rest : {B : Type 0} (c : Config B) (script : Script) (es : List TraceEvent) (place : Place) (line : Numbered) (rest : List Numbered)
@@ -43,21 +51,24 @@ pub next_is : {B : Type 0} (c : Config B) (script : Script) (es : List TraceEven
 next_is c script es place line rest event e b =
     b.is_next ∙ ap (λ z. due_by z (turn c (world c es) place line.1).place line rest (due c (world c es) (turn c (world c es) place line.1).place rest)) e
 
--- and is made
-pub before_more : {B : Type 0} (c : Config B) (script : Script) (es : List TraceEvent) (place : Place) (line : Numbered) (rest : List Numbered) (event : TraceEvent)
-    → (turn c (world c es) place line.1).event ≡ Some event → IsBefore c script es place (line ∷ rest) → IsBefore c script (es ++ event ∷ []) (turn c (world c es) place line.1).place (left_of line rest)
-before_more {B} c script es place line rest event e b =
-    let d : Due = record { event = event; place = (turn c (world c es) place line.1).place; left = left_of line rest } in
-    let n : next c b.standing ≡ Some d = next_is c script es place line rest event e b in
+-- and is made, or one that it became
+pub before_more : {B : Type 0} (c : Config B) (script : Script) (es : List TraceEvent) (place : Place) (line : Numbered) (rest : List Numbered) (due_event e : TraceEvent)
+    → (turn c (world c es) place line.1).event ≡ Some due_event → Becomes due_event e → Finds (world c es) e → IsBefore c script es place (line ∷ rest) → IsBefore c script (es ++ e ∷ []) (turn c (world c es) place line.1).place (left_of line rest)
+before_more {B} c script es place line rest due_event e t h f b =
+    let d : Due = record { event = due_event; place = (turn c (world c es) place line.1).place; left = left_of line rest } in
+    let n : next c b.standing ≡ Some d = next_is c script es place line rest due_event t b in
     let w : b.standing.world ≡ world c es = reaches_world c script es b.standing b.reached in
     record {
-      standing = stands_after c b.standing.world d;
+      standing = stands_after c b.standing.world d e;
       reached = (
-        b.reached.0 ++ event ∷ [],
-        ap (λ (z : List TraceEvent). z ++ event ∷ []) b.reached.1 ∙ append_assoc (starts c.u) b.reached.0 (event ∷ []),
-        goes-last c (first_standing c script) b.standing b.reached.0 d b.reached.2 n,
+        b.reached.0,
+        b.reached.1 ++ e ∷ [],
+        ap (λ (z : List TraceEvent). z ++ e ∷ []) b.reached.2 ∙ append_assoc b.reached.0 b.reached.1 (e ∷ []),
+        b.reached.3,
+        b.reached.4,
+        goes-last c (first_standing (world c b.reached.0) script) b.standing b.reached.1 d e b.reached.5 n h (subst (λ (z : World B). Finds z e) (sym w) f),
       );
-      is_next = ap (λ (z : World B). due c z d.place d.left) (ap (λ (z : World B). after c z event) w ∙ sym (run-append c es (event ∷ []) start));
+      is_next = ap (λ (z : World B). due c z d.place d.left) (ap (λ (z : World B). after c z e) w ∙ sym (run-append c es (e ∷ []) start));
     }
 
 -- no line is left

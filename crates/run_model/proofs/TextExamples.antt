@@ -14,16 +14,17 @@ use Rattle.aeg_wire.specs.Formats.{list_at}
 use Rattle.run_model.specs.declared.line.Event.TheVariants.{Submit, Lead, Calm}
 use Rattle.run_model.specs.Script.{Script, Read, Reads, Fails, script_of}
 use Rattle.run_model.specs.Text.{event_text, closing}
-use Rattle.run_model.specs.Resolving.{Standing, next, stands_after, first_standing}
+use Rattle.run_model.specs.Runs.{world}
+use Rattle.run_model.specs.Resolving.{Standing, next, stands_after, starts, first_standing}
 use Rattle.run_model.proofs.Driving.{conf}
 
 -- at most so many events
 abbrev plays : ℕ → ℕ → Standing Amounts → List ℕ
 plays zero u s = closing s.world
-plays (suc n) u s = elim (next (conf u) s) [ None ↦ closing s.world | Some d ↦ event_text (conf u) s.world d.event ++ plays n u (stands_after (conf u) s.world d) ]
+plays (suc n) u s = elim (next (conf u) s) [ None ↦ closing s.world | Some d ↦ event_text (conf u) s.world d.event ++ plays n u (stands_after (conf u) s.world d d.event) ]
 
 abbrev plays_script : ℕ → Script → List ℕ
-plays_script n script = plays n script.u (first_standing (conf script.u) script)
+plays_script n script = plays n script.u (first_standing (world (conf script.u) (starts script.u)) script)
 
 abbrev plays_read : ℕ → Read Script → List ℕ
 plays_read n (Reads script) = plays_script n script

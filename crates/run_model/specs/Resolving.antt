@@ -1,5 +1,5 @@
 -- What a script comes to: the events that its lines make, one after another.
-use Rattle.std.specs.Prelude.{◌≡◌, ℕ, ◌+◌, ◌*◌, Bool, true, false, List, [], ◌∷◌, ◌++◌, drop, length, map, replicate, Option, Some, None, if◌then◌else◌}
+use Rattle.std.specs.Prelude.{◌≡◌, ℕ, zero, suc, ◌≤◌, ◌+◌, ◌*◌, Bool, true, false, List, [], ◌∷◌, ◌++◌, drop, length, map, replicate, Option, Some, None, if◌then◌else◌}
 use Rattle.std.specs.List.{flat_map}
 use Rattle.aeg_base.specs.declared.names.Tier.{Tier}
 use Rattle.aeg_base.specs.declared.names.Tier.TheVariants.{Mid, Inv, Pay}
@@ -9,6 +9,7 @@ use Rattle.aeg_base.specs.declared.names.End.TheVariants.{Node, Client}
 use Rattle.log_model.specs.Log.{nobody}
 use Rattle.log_model.specs.World.{Mode}
 use Rattle.log_model.specs.World.Mode.{Up, Down, Gone}
+use Rattle.log_values.specs.declared.fact.Fact.{Fact}
 use Rattle.frames.specs.declared.turn.Turn.{Turn}
 use Rattle.frames.specs.declared.turn.Turn.TheVariants.{Did, Ran, Dropped, Idle as Idles}
 use Rattle.round_model.specs.Lists.{each}
@@ -21,13 +22,13 @@ use Rattle.run_model.specs.declared.line.Event.TheVariants as lines
 use Rattle.run_model.specs.declared.line.CutLine.{CutLine}
 use Rattle.run_model.specs.declared.line.CutLine.TheVariants as cuts
 use Rattle.run_model.specs.declared.trace.Fared.{Fared}
-use Rattle.run_model.specs.declared.trace.Fared.TheVariants.{Fine, Cut}
-use Rattle.run_model.specs.declared.trace.Found.TheVariants.{Reads}
+use Rattle.run_model.specs.declared.trace.Fared.TheVariants.{Fine, Cut, Fault}
+use Rattle.run_model.specs.declared.trace.Found.TheVariants.{Reads, Fault as Fails}
 use Rattle.run_model.specs.declared.trace.TraceEvent.{TraceEvent}
 use Rattle.run_model.specs.declared.trace.TraceEvent.TheVariants.{Submit, Deliver, Short, Lead, Offer, Work, Retry, Crash, Restart, Wipe}
 use Rattle.run_model.specs.Script.{Numbered, Script}
 use Rattle.run_model.specs.World.{Config, World, start}
-use Rattle.run_model.specs.Runs.{run}
+use Rattle.run_model.specs.Runs.{world}
 use Rattle.run_model.specs.Text.{after}
 
 -- WHERE A SCRIPT STANDS
@@ -243,24 +244,106 @@ due c w p (line ∷ rest) = due_by (turn c w p line.1).event (turn c w p line.1)
 abbrev pub next : {B : Type 0} → Config B → Standing B → Option Due
 next c s = due c s.world s.place s.left
 
-abbrev pub stands_after : {B : Type 0} → Config B → World B → Due → Standing B
-stands_after c w d = record { world = after c w d.event; place = d.place; left = d.left }
+-- HOW THE DISKS FARE
 
--- the events are the next ones, and lead from one standing to the other
+-- it fared as was due, or its disk met a fault
+abbrev pub Fares : (Fared → TraceEvent) → TraceEvent → Fared → Type 0
+Fares event due Fine = due ≡ event Fine
+Fares event due (Cut nth keep) = due ≡ event (Cut nth keep)
+Fares event due Fault = (fared : Fared) × (due ≡ event fared)
+
+-- what was due became this event: only its disk may have met a fault, and a restart found what it found
+abbrev pub Becomes : TraceEvent → TraceEvent → Type 0
+Becomes due (Deliver k fared) = Fares (Deliver k) due fared
+Becomes due (Short k bytes fared) = Fares (Short k bytes) due fared
+Becomes due (Lead n fared) = Fares (Lead n) due fared
+Becomes due (Offer n fared) = Fares (Offer n) due fared
+Becomes due (Restart n found) = due ≡ Restart n (Reads 0)
+Becomes due (Submit y text) = due ≡ Submit y text
+Becomes due (Work n schedule) = due ≡ Work n schedule
+Becomes due (Retry end) = due ≡ Retry end
+Becomes due (Crash n) = due ≡ Crash n
+Becomes due (Wipe n) = due ≡ Wipe n
+
+-- each in its turn
+abbrev pub AllBecome : List TraceEvent → List TraceEvent → Type 0
+AllBecome [] [] = Unit {0}
+AllBecome [] (e ∷ es) = ⊥
+AllBecome (due ∷ dues) [] = ⊥
+AllBecome (due ∷ dues) (e ∷ es) = Becomes due e × AllBecome dues es
+
+-- no fault of its disk
+abbrev pub is_fine : Fared → Bool
+is_fine Fine = true
+is_fine (Cut nth keep) = true
+is_fine Fault = false
+
+-- no disk met a fault, and a restart found the one list that its disk stood for
+abbrev pub is_sure : TraceEvent → Bool
+is_sure (Deliver k fared) = is_fine fared
+is_sure (Short k bytes fared) = is_fine fared
+is_sure (Lead n fared) = is_fine fared
+is_sure (Offer n fared) = is_fine fared
+is_sure (Restart n (Reads zero)) = true
+is_sure (Restart n (Reads (suc k))) = false
+is_sure (Restart n Fails) = false
+is_sure (Submit y text) = true
+is_sure (Work n schedule) = true
+is_sure (Retry end) = true
+is_sure (Crash n) = true
+is_sure (Wipe n) = true
+
+-- in none of these
+abbrev pub AllSure : List TraceEvent → Type 0
+AllSure [] = Unit {0}
+AllSure (e ∷ es) = (is_sure e ≡ true) × AllSure es
+
+abbrev pub others_at : {B : Type 0} → World B → Tier → ℕ → List (List (List Fact))
+others_at w Mid x = (w.mids x).others
+others_at w Inv x = (w.backs Inv x).others
+others_at w Pay x = (w.backs Pay x).others
+
+-- what a restart read is one of the lists that the disk stands for
+abbrev pub Finds : {B : Type 0} → World B → TraceEvent → Type 0
+Finds w (Restart n (Reads k)) = k ≤ length (others_at w n.tier n.index)
+Finds w (Restart n Fails) = Unit {0}
+Finds w (Deliver k fared) = Unit {0}
+Finds w (Short k bytes fared) = Unit {0}
+Finds w (Lead n fared) = Unit {0}
+Finds w (Offer n fared) = Unit {0}
+Finds w (Submit y text) = Unit {0}
+Finds w (Work n schedule) = Unit {0}
+Finds w (Retry end) = Unit {0}
+Finds w (Crash n) = Unit {0}
+Finds w (Wipe n) = Unit {0}
+
+-- each of these found what there was
+abbrev pub AllFind : {B : Type 0} → Config B → World B → List TraceEvent → Type 0
+AllFind c w [] = Unit {0}
+AllFind c w (e ∷ es) = Finds w e × AllFind c (after c w e) es
+
+-- RUNS GO ON
+
+-- the run once its next event became this one
+abbrev pub stands_after : {B : Type 0} → Config B → World B → Due → TraceEvent → Standing B
+stands_after c w d event = record { world = after c w event; place = d.place; left = d.left }
+
+-- the events came of the next ones, and lead from one standing to the other
 abbrev pub Goes : {B : Type 0} → Config B → Standing B → List TraceEvent → Standing B → Type 0
 Goes c s [] t = s ≡ t
-Goes c s (e ∷ es) t = (d : Due) × (next c s ≡ Some d) × (d.event ≡ e) × Goes c (stands_after c s.world d) es t
+Goes c s (e ∷ es) t = (d : Due) × (next c s ≡ Some d) × Becomes d.event e × Finds s.world e × Goes c (stands_after c s.world d e) es t
 
 -- every node restarts on its blank disk
 abbrev pub starts : ℕ → List TraceEvent
 starts u = map (λ n. Restart n (Reads 0)) (all_nodes u)
 
-abbrev pub first_standing : {B : Type 0} → Config B → Script → Standing B
-first_standing c script = record { world = run c (starts c.u) start; place = first_place; left = script.events }
+-- the script from the world after its first restarts
+abbrev pub first_standing : {B : Type 0} → World B → Script → Standing B
+first_standing w script = record { world = w; place = first_place; left = script.events }
 
 -- the run has come so far
 abbrev pub Reaches : {B : Type 0} → Config B → Script → List TraceEvent → Standing B → Type 0
-Reaches c script es t = (front : List TraceEvent) × (es ≡ starts c.u ++ front) × Goes c (first_standing c script) front t
+Reaches c script es t = (first : List TraceEvent) × (front : List TraceEvent) × (es ≡ first ++ front) × AllBecome (starts c.u) first × AllFind c start first × Goes c (first_standing (world c first) script) front t
 
 -- the events are all that the script comes to
 abbrev pub Resolves : {B : Type 0} → Config B → Script → List TraceEvent → Type 0

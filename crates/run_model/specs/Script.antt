@@ -203,9 +203,7 @@ line_with u (Some (Some event)) = placed u event
 
 -- The commands and requests of which the program knows nothing yet are refused by rule 9, before the other rules.
 abbrev pub is_later_command : List ℕ → Bool
-is_later_command command =
-    bytes_eq command (codes "work") || (bytes_eq command (codes "calm") || (bytes_eq command (codes "crash")
-    || (bytes_eq command (codes "restart") || (bytes_eq command (codes "wipe") || bytes_eq command (codes "cut")))))
+is_later_command command = bytes_eq command (codes "work") || bytes_eq command (codes "calm")
 
 abbrev pub is_later_request : List ℕ → Bool
 is_later_request word = bytes_eq word (codes "book") || bytes_eq word (codes "cancel")

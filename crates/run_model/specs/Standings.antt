@@ -1,6 +1,7 @@
 -- Where a run of a script stands between two of its events, and whether its events keep the limit on packets.
-use Rattle.std.specs.Prelude.{◌≡◌, ◌&&◌, nat_le, Bool, true, List, [], ◌∷◌, length}
+use Rattle.std.specs.Prelude.{◌≡◌, ◌&&◌, nat_le, ℕ, Bool, true, List, [], ◌∷◌, length}
 use Rattle.aeg_base.specs.declared.limits.TheConstants.{PACKETS_BEFORE}
+use Rattle.aeg_base.specs.declared.names.Tier.{Tier}
 use Rattle.run_model.specs.declared.trace.TraceEvent.{TraceEvent}
 use Rattle.run_model.specs.Script.{Numbered, Script}
 use Rattle.run_model.specs.World.{Config, World}
@@ -19,3 +20,8 @@ pub record IsBefore {B : Type 0} (c : Config B) (script : Script) (es : List Tra
 abbrev pub keeps_limit : {B : Type 0} → Config B → World B → List TraceEvent → Bool
 keeps_limit c w [] = true
 keeps_limit c w (e ∷ es) = nat_le (length w.soup) PACKETS_BEFORE && keeps_limit c (after c w e) es
+
+-- each node's disk stands for its list of records alone
+pub record IsSole {B : Type 0} (w : World B) : Type 0 where
+  pub mids : (x : ℕ) → (w.mids x).others ≡ []
+  pub backs : (t : Tier) (x : ℕ) → (w.backs t x).others ≡ []
