@@ -36,6 +36,13 @@ impl Model for FactJournal {
 }
 
 impl FactJournal {
+    /// The place of the shut gate that ends it.
+    pub fn place(&self) -> u64
+        ensures { result ≡ self.now }
+    {
+        self.journal.place()
+    }
+
     /// Writes down the facts of an event as one record, which is on the disk at `Ok`. Where there are none it does
     /// nothing. After `Disk` or `Memory` the journal is to be opened again.
     pub fn append<D: Disk>(&mut self, disk: &mut D, facts: &Record) -> Result<(), AppendErr>

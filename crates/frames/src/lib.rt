@@ -18,7 +18,7 @@ pub use message::Msg;
 pub use outbox::Outbox;
 pub use reading::decode;
 pub use turn::{Fault, Idle, RunNote, Turn};
-pub use writing::encode;
+pub use writing::{encode, encode_log};
 
 #[cfg(test)]
 mod tests;

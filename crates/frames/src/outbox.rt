@@ -1,9 +1,10 @@
 // The packets that a turn sends.
-ghost use Rattle.std.specs.Prelude.{◌≡◌, ◌++◌, ◌∷◌, [], OnOk, OnErr};
+ghost use Rattle.std.specs.Prelude.{◌≡◌, ◌++◌, ◌∷◌, [], take, OnOk, OnErr};
 
 use aeg_base::{Bytes, End, Memory, Seq};
 use std::alloc::Global;
 use std::marker::Model;
+use std::mem;
 
 /// The packets that a turn sends, in order, each with whom it goes to.
 #[derive(Debug, Drop)]
@@ -36,6 +37,16 @@ impl Outbox {
         ensures err { OnErr result (self.new ≡ self.old) }
     {
         self.packets.push((to, bytes))
+    }
+
+    /// Drops all but the first so many packets.
+    pub fn truncate(&mut self, count: usize)
+        ensures { self.new ≡ take count self.old }
+    {
+        let empty = Seq::new(self.packets.allocator());
+        let mut packets = mem::replace(&mut self.packets, empty).into_vec();
+        packets.truncate(count);
+        self.packets = Seq::of(packets);
     }
 
     pub fn items(&self) -> &[(End, Bytes)]

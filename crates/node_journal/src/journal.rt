@@ -70,6 +70,13 @@ fn write_entry<D: Disk>(disk: &mut D, gate: u64, piece: &[u8]) -> Result<(), Dis
 }
 
 impl Journal {
+    /// The place of the shut gate that ends it.
+    pub fn place(&self) -> u64
+        ensures { result ≡ self.now }
+    {
+        self.end
+    }
+
     /// Adds a record, which is on the disk at `Ok`. After `Disk` or `Memory` the journal is to be opened again.
     pub fn append<D: Disk>(&mut self, disk: &mut D, body: &Bytes) -> Result<(), AppendErr>
         requires filled { 0 < length body.now }

@@ -6,4 +6,4 @@ use Rattle.frames.proofs.writing.encode.Goals as goal
 pub with_length-requires-clause-high : goal.with_length-requires-clause-high
 with_length-requires-clause-high c =
     let size = body_length (tier_of c.args.from) c.args.msg.now c.requires.message in
-    rw (c.in_ok-put_body.ensures, c.in_ok-put_u16.ensures.ok, c.in_ok-put_u8-4.ensures.ok, c.in_ok-put_u8-3.ensures.ok, c.in_ok-put_u8-2.ensures.ok, c.in_ok-put_u8.ensures.ok, c.new-out.ensures) (omega (arith, size))
+    rw (c.in_ok-put_body.ensures, c.in_ok-out.ensures) (omega (arith, size))
