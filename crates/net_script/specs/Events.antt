@@ -47,19 +47,19 @@ IsInRange Flow = Unit {0}
 IsInRange Calm = Unit {0}
 IsInRange Lose = Unit {0}
 
--- So far nodes neither run jobs nor go down, and no disk is stopped: the line asks for nothing of this.
+-- So far nodes run no jobs: the line asks for none.
 abbrev pub is_playable : Event → Bool
 is_playable (Submit client body) = true
 is_playable (Deliver packet) = true
 is_playable (Short packet bytes) = true
-is_playable (Cut nth keep line) = false
+is_playable (Cut nth keep line) = true
 is_playable (Lead n) = true
 is_playable (Offer n) = true
 is_playable (Retry end) = true
 is_playable (Work n by) = false
-is_playable (Crash n) = false
-is_playable (Restart n) = false
-is_playable (Wipe n) = false
+is_playable (Crash n) = true
+is_playable (Restart n) = true
+is_playable (Wipe n) = true
 is_playable Flow = true
 is_playable Calm = false
 is_playable Lose = true

@@ -1,3 +1,4 @@
 pub mod Clients
 pub mod Events
 pub mod Reading
+pub mod Soups

@@ -1,5 +1,6 @@
 -- What lines and texts are read as.
-use Rattle.std.specs.Prelude.{◌≡◌, ℕ, List, ◌++◌, Option, Some, None}
+use Rattle.std.specs.Prelude.{◌≡◌, ℕ, Bool, ◌||◌, List, ◌++◌, Option, Some, None, codes}
+use Rattle.std.specs.Str.{bytes_eq}
 use Rattle.std.specs.declared.result.Result.{Result}
 use Rattle.std.specs.declared.result.Result.TheVariants.{Ok, Err}
 use Rattle.run_model.specs.declared.line.Event.{Event}
@@ -42,3 +43,7 @@ abbrev pub IsRead : {A : Type 0} → Read A → Result A ScriptErr → Type 0
 IsRead read (Ok value) = read ≡ Reads value
 IsRead read (Err (scripts.BadLine line row)) = read ≡ Fails line row
 IsRead read (Err scripts.Memory) = Unit {0}
+
+-- a command of a node's or a disk's power
+abbrev pub is_power : List ℕ → Bool
+is_power command = bytes_eq command (codes "cut") || (bytes_eq command (codes "crash") || (bytes_eq command (codes "restart") || bytes_eq command (codes "wipe")))

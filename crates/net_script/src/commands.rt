@@ -3,7 +3,7 @@ ghost use Rattle.std.specs.Prelude.{◌≡◌, ◌≤◌, List, ℕ, IfSome, opt
 ghost use Rattle.aeg_base.specs.declared.names.NodeId.{NodeId};
 ghost use Rattle.server_model.specs.Further.{further_parts};
 ghost use Rattle.run_model.specs.declared.line.Event.{Event};
-ghost use Rattle.run_model.specs.declared.line.Event.TheVariants.{Submit, Lead, Offer};
+ghost use Rattle.run_model.specs.declared.line.Event.TheVariants.{Submit, Lead, Offer, Crash, Restart, Wipe};
 ghost use Rattle.run_model.specs.Script.{submit_in, deliver_in, short_in, at_node, retry_in, alone as alone_in, is_later_command as later_command, is_later_submit as later_submit, is_later as later};
 ghost use Rattle.net_script.specs.Events.{IsClient, IsInRange, IsPlayable};
 
@@ -88,6 +88,33 @@ pub fn offer_of(rest: Option<&[u8]>) -> Option<Event>
     Some(Event::Offer { node })
 }
 
+pub fn crash_of(rest: Option<&[u8]>) -> Option<Event>
+    ensures is { result ≡ at_node (λ n. Crash n) (further_parts 32 rest.entry) }
+    ensures in_range { IfSome result IsInRange }
+    ensures playable { IfSome result IsPlayable }
+{
+    let node = only_node(rest)?;
+    Some(Event::Crash { node })
+}
+
+pub fn restart_of(rest: Option<&[u8]>) -> Option<Event>
+    ensures is { result ≡ at_node (λ n. Restart n) (further_parts 32 rest.entry) }
+    ensures in_range { IfSome result IsInRange }
+    ensures playable { IfSome result IsPlayable }
+{
+    let node = only_node(rest)?;
+    Some(Event::Restart { node })
+}
+
+pub fn wipe_of(rest: Option<&[u8]>) -> Option<Event>
+    ensures is { result ≡ at_node (λ n. Wipe n) (further_parts 32 rest.entry) }
+    ensures in_range { IfSome result IsInRange }
+    ensures playable { IfSome result IsPlayable }
+{
+    let node = only_node(rest)?;
+    Some(Event::Wipe { node })
+}
+
 /// `END`
 pub fn retry_of(rest: Option<&[u8]>) -> Option<Event>
     ensures is { result ≡ retry_in (further_parts 32 rest.entry) }
@@ -115,12 +142,7 @@ pub fn alone(rest: Option<&[u8]>, event: Event) -> Option<Event>
 fn is_later_command(command: &[u8]) -> bool
     ensures { result ≡ later_command command.now }
 {
-    command == b"work".as_slice()
-        || command == b"calm".as_slice()
-        || command == b"crash".as_slice()
-        || command == b"restart".as_slice()
-        || command == b"wipe".as_slice()
-        || command == b"cut".as_slice()
+    command == b"work".as_slice() || command == b"calm".as_slice()
 }
 
 fn is_later_submit(rest: Option<&[u8]>) -> bool

@@ -3,6 +3,7 @@
 
 mod client_end;
 mod commands;
+mod cutting;
 mod header;
 mod lines;
 mod parsing;

@@ -1,14 +1,16 @@
 // What a line of a script is.
-ghost use Rattle.std.specs.Prelude.{◌≡◌, ◌≤◌, Some, false, IfOk, IfSome};
+ghost use Rattle.std.specs.Prelude.{◌≡◌, ◌≤◌, Some, None, false, IfOk, IfSome};
 ghost use Rattle.server_model.specs.Further.{further_parts};
 ghost use Rattle.server_model.specs.Words.{words_of};
 ghost use Rattle.run_model.specs.Script.{is_blank as blank, is_later_command as later_command, submit_in, line_with, event_in, command_line, line_in};
 ghost use Rattle.net_script.specs.Events.{IsInRange, IsPlayable, IsProper};
-ghost use Rattle.net_script.specs.Reading.{IsLine, IsCommand};
+ghost use Rattle.net_script.specs.Reading.{IsLine, IsCommand, is_power};
 
 use crate::commands::{
-    alone, deliver_of, is_later, lead_of, offer_of, retry_of, short_of, submit_of,
+    alone, crash_of, deliver_of, is_later, lead_of, offer_of, restart_of, retry_of, short_of,
+    submit_of, wipe_of,
 };
+use crate::cutting::cut_of;
 use crate::placing::{is_asked, is_placed};
 use crate::refusal::{LATER, LineErr, NO_NODE, NO_REQUEST, UNKNOWN_COMMAND, WORDS};
 use aeg_base::limits::MAX_FAULTS;
@@ -50,6 +52,28 @@ fn submitted(alloc: Global, rest: Option<&[u8]>) -> Result<Option<Event>, Memory
     Ok(Some(Event::Submit { client, body }))
 }
 
+/// The event of a command of a node's or a disk's power, where its words are right; none where it is no such command.
+fn power_event(command: &[u8], rest: Option<&[u8]>) -> Option<Option<Event>>
+    ensures is { IfSome result (λ event. event_in command.now (further_parts 32 rest.entry) ≡ Some event) }
+    ensures in_range { IfSome result (λ event. IfSome event IsInRange) }
+    ensures playable { IfSome result (λ event. IfSome event IsPlayable) }
+    ensures none { result ≡ None → is_power command.now ≡ false }
+{
+    if command == b"cut".as_slice() {
+        return Some(cut_of(rest));
+    }
+    if command == b"crash".as_slice() {
+        return Some(crash_of(rest));
+    }
+    if command == b"restart".as_slice() {
+        return Some(restart_of(rest));
+    }
+    if command == b"wipe".as_slice() {
+        return Some(wipe_of(rest));
+    }
+    None
+}
+
 /// The event of a command, where its words are right.
 fn event_of(alloc: Global, command: &[u8], rest: Option<&[u8]>) -> Result<Option<Event>, LineErr>
     requires { later_command command.now ≡ false }
@@ -57,6 +81,9 @@ fn event_of(alloc: Global, command: &[u8], rest: Option<&[u8]>) -> Result<Option
     ensures in_range { IfOk result (λ event. IfSome event IsInRange) }
     ensures playable { IfOk result (λ event. IfSome event IsPlayable) }
 {
+    if let Some(event) = power_event(command, rest) {
+        return Ok(event);
+    }
     if command == b"submit".as_slice() {
         return Ok(submitted(alloc, rest)?);
     }

@@ -1,11 +1,11 @@
 // Scripts that are refused and read, the list of packets, and a client's end.
-use crate::{ClientEnd, Event, ScriptErr, Soup, parse_script};
+use crate::{ClientEnd, CutLine, Event, ScriptErr, Soup, parse_script};
 use aeg_base::{Bytes, End, NodeId, Tier};
 use std::alloc::Global;
 use std::test::Fail;
 
 /// A text, and the line and rule that it is refused with.
-const REFUSED: [(&str, u32, u8); 12] = [
+const REFUSED: [(&str, u32, u8); 20] = [
     ("", 1, 1),
     ("\n\n\n", 4, 1),
     ("lead m0\n", 1, 1),
@@ -18,6 +18,14 @@ const REFUSED: [(&str, u32, u8); 12] = [
     ("tiers 1 depth 1\noffer m5\n", 2, 3),
     ("tiers 1 depth 1\nsubmit 1\n", 2, 3),
     ("tiers 1 depth 1\noffer m3\n", 2, 4),
+    ("tiers 1 depth 1\ncut 1 keep flow\n", 2, 3),
+    ("tiers 1 depth 1\ncut 5 keep lead m0\n", 2, 3),
+    ("tiers 1 depth 1\ncut 0 drop lead m0\n", 2, 3),
+    ("tiers 1 depth 1\ncut 1 lose lead m0\n", 2, 3),
+    ("tiers 1 depth 1\nrestart m0 m1\n", 2, 3),
+    ("tiers 1 depth 1\nwipe\n", 2, 3),
+    ("tiers 1 depth 1\ncut 1 keep lead m3\n", 2, 4),
+    ("tiers 0 depth 1\ncrash p1\n", 2, 4),
 ];
 
 #[test]
@@ -48,6 +56,43 @@ fn a_script_has_its_header_and_its_events(rt: HostRuntime) -> Result<(), Fail> {
         matches!(script.event(2), Some((6, Event::Retry { end })) if *end == End::Client(16))
     );
     assert!(rt; script.event(3).is_none());
+    Ok(())
+}
+
+/// The lines of power, each with the event that it is.
+#[test]
+fn nodes_are_cut_crashed_restarted_and_wiped(rt: HostRuntime) -> Result<(), Fail> {
+    let text =
+        b"tiers 0 depth 1\ncut 3 keep deliver 7\ncut 1 drop offer i0\ncrash p0\nrestart p0\nwipe m0\n";
+    let Ok(script) = parse_script(rt.alloc(), text) else {
+        return Err("a script".into());
+    };
+    let pay = NodeId {
+        tier: Tier::Pay,
+        index: 0,
+    };
+    assert!(rt;
+        matches!(
+            script.event(0),
+            Some((
+                2,
+                Event::Cut {
+                    nth: 3,
+                    keep: true,
+                    line: CutLine::Deliver { packet: 7 }
+                }
+            ))
+        )
+    );
+    assert!(rt;
+        matches!(script.event(1), Some((3, Event::Cut { nth: 1, keep: false, line: CutLine::Offer { node } })) if node.tier == Tier::Inv)
+    );
+    assert!(rt; matches!(script.event(2), Some((4, Event::Crash { node })) if *node == pay));
+    assert!(rt; matches!(script.event(3), Some((5, Event::Restart { node })) if *node == pay));
+    assert!(rt;
+        matches!(script.event(4), Some((6, Event::Wipe { node })) if node.tier == Tier::Mid)
+    );
+    assert!(rt; script.event(5).is_none());
     Ok(())
 }
 
