@@ -19,8 +19,10 @@ use Rattle.tier_model.specs.Moves.{Packet}
 use Rattle.run_model.specs.Script.{is_read}
 use Rattle.run_model.specs.World as worlds
 use Rattle.run_model.specs.World.{ClientEnd, request_to, requests, opens, submits, reopens, happens}
+use Rattle.aeg_disk.specs.Disk.{DiskState}
+use Rattle.run_model.specs.Resolving.{Finds}
 use Rattle.run_model.specs.Runs.{grows}
-use Rattle.run_model.specs.Text.{own_text, growth_text, event_text}
+use Rattle.run_model.specs.Text.{own_text, growth_text}
 use Rattle.run_model.specs.declared.trace.TraceEvent.{TraceEvent}
 use Rattle.net_script.specs.Clients.{ClientState, opened_with, asked as open_request}
 use Rattle.world.specs.declared.nodes.all_nodes.Nodes.{Nodes}
@@ -28,10 +30,13 @@ use Rattle.world.specs.declared.parts.Parts.{Parts}
 use Rattle.world.specs.Watching.{hears_packets, all_grown}
 use Rattle.run_model.specs.BookingRuns.{config, booking_service, BookingWorld}
 use Rattle.world.specs.Parts.{Reaches, AreFit, AllReach, sealed}
-use Rattle.world.specs.Standing.{AsksOnce, IsClientEnd, AreAll, AreNodes, Shows}
+use Rattle.world.specs.Disks.{AreDisks, HasCause}
+use Rattle.world.specs.Standing.{Makes, AsksOnce, IsClientEnd, AreAll, AreNodes, Shows}
 use Rattle.world.proofs.AtNodes.{some_at, set_same}
 use Rattle.world.proofs.Doing.{set_one}
 use Rattle.world.proofs.Places.{request_short}
+use Rattle.world.proofs.Counted.{falls_none}
+use Rattle.world.proofs.Grown.{grown_disks}
 use Rattle.world.proofs.Events.{Leads, Ended, ends}
 
 -- each of so many
@@ -160,14 +165,26 @@ abbrev pub clients_after : Parts → Parts → List Packet → Parts
 clients_after old new ks = record old { clients = new.clients; soup = old.soup ++ map sealed ks; watch = all_grown (hears_packets old.watch (map sealed ks)) }
 
 pub asked : (u depth : ℕ) (w w1 : BookingWorld) (old new : Parts) (ks : List Packet) (event : TraceEvent) (told before now : List ℕ) → Shows u depth w old → length new.soup ≤ PACKETS → happens (config u depth) w event ≡ w1 → own_text (config u depth) w event ≡ told → Leads u depth w w1 old.nodes ks → AreAll 17 IsClientEnd w1.clients new.clients.items
-    → new ≡ clients_after old new ks → now ≡ before ++ told → Shows u depth (grows (config u depth) (happens (config u depth) w event)) new × (now ≡ before ++ event_text (config u depth) w event)
-asked u depth w w1 old new ks event told before now s within h o l clients e t =
+    → new ≡ clients_after old new ks → now ≡ before ++ told → (disks : List DiskState) → AreDisks w1 disks → HasCause w disks disks event → Finds w event → Makes new disks disks before now event u depth w
+asked u depth w w1 old new ks event told before now s within h o l clients e t disks on cause finds =
     let ended : Ended old new old.nodes (map sealed ks) = record { size = ap (λ (p : Parts). p.u) e; is = ap (λ (p : Parts). p.nodes) e; soup = ap (λ (p : Parts). p.soup) e; within = within; watch = ap (λ (p : Parts). p.watch) e } in
     let r = ends u depth w w1 old new old.nodes ks s l ended clients in
-    let grew : growth_text w (grows (config u depth) (happens (config u depth) w event)) ≡ [] = ap (λ z. growth_text w (grows (config u depth) z)) h ∙ r.1 in (
-      subst (λ z. Shows u depth (grows (config u depth) z) new) (sym h) r.0,
-      t ∙ ap (λ z. before ++ z) (sym (ap (λ z. own_text (config u depth) w event ++ z) grew ∙ append-nil (own_text (config u depth) w event) ∙ o)),
-    )
+    let grew : growth_text w (grows (config u depth) (happens (config u depth) w event)) ≡ [] = ap (λ z. growth_text w (grows (config u depth) z)) h ∙ r.1 in
+    record {
+      shows = subst (λ z. Shows u depth (grows (config u depth) z) new) (sym h) r.0;
+      disks = subst (λ z. AreDisks (grows (config u depth) z) disks) (sym h) (grown_disks u depth w1 disks on);
+      cause = cause;
+      later = falls_none disks;
+      finds = finds;
+      told = t ∙ ap (λ z. before ++ z) (sym (ap (λ z. own_text (config u depth) w event ++ z) grew ∙ append-nil (own_text (config u depth) w event) ∙ o));
+    }
+
+-- the nodes' disks stay
+pub open_disks : (u : ℕ) (w : BookingWorld) (y : ℕ) (text : List ℕ) (disks : List DiskState) → AreDisks w disks → AreDisks (opens u w y text) disks
+open_disks u w y text disks d = record { all = d.all; mids = d.mids; invs = d.invs; pays = d.pays }
+
+pub again_disks : (u depth : ℕ) (w : BookingWorld) (y : ℕ) (text : List ℕ) (disks : List DiskState) → AreDisks w disks → AreDisks (reopens (config u depth) w y (Some text)) disks
+again_disks u depth w y text disks d = record { all = d.all; mids = d.mids; invs = d.invs; pays = d.pays }
 
 -- nothing is sent
 pub nothing_leads : (u depth : ℕ) (w : BookingWorld) (nodes : Nodes) → AreNodes u depth w nodes → Leads u depth w w nodes []

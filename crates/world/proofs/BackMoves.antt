@@ -5,6 +5,9 @@ use Rattle.std.specs.List.{AllByRecursion}
 use Rattle.std.proofs.lemmas.Bool.{cond-true, cond-false, cond_both}
 use Rattle.aeg_base.specs.declared.limits.TheConstants.{POSITIONS}
 use Rattle.aeg_base.specs.declared.names.Ballot.{Ballot}
+use Rattle.aeg_disk.specs.Disk.{DiskState}
+use Rattle.aeg_disk.proofs.Later.{same_later}
+use Rattle.fact_journal.specs.Fitting.{open_after_all}
 use Rattle.aeg_base.specs.declared.names.End.{End}
 use Rattle.aeg_base.specs.declared.names.Tier.{Tier}
 use Rattle.aeg_base.specs.declared.names.Tier.TheVariants.{Mid as InMid, Inv, Pay}
@@ -16,7 +19,6 @@ use Rattle.log_model.specs.declared.turn.Offering.TheVariants.{NotLeader, NoProm
 use Rattle.log_model.specs.Log.{Leader, LogState, Turn, open_at, is_at, is_none}
 use Rattle.log_model.specs.Rows.{offer, wants as log_wants, wants_as, on_msg, promised_by, is_taken}
 use Rattle.log_model.specs.Ranges.{IsVoteIn, IsLeaderIn, IsLogIn, IsSendIn}
-use Rattle.log_model.specs.Recover.{recover}
 use Rattle.log_model.specs.World.Mode.{Up}
 use Rattle.log_model.proofs.Rows.{no_from}
 use Rattle.log_values.specs.declared.any_value.AnyValue.{AnyValue}
@@ -33,13 +35,14 @@ use Rattle.round_model.specs.Lists.{is_some}
 use Rattle.round_model.specs.Copies.{floor_at, many_at_least, greater, due_among, due}
 use Rattle.tier_model.specs.Moves.{index_of, is_node_of, Move, idles, drops, says, log_packets, asks, as_fact, log_answer, offer_cause}
 use Rattle.tier_model.specs.Back.{Back, with_log, new_value, value_state, value_tells, in_log}
-use Rattle.tier_model.specs.BackRows.{recovered, on_frame, own_value, offers_as, offers, retry}
+use Rattle.tier_model.specs.BackRows.{on_frame, own_value, offers_as, offers, retry}
 use Rattle.run_model.specs.BookingRuns.{booking_service}
-use Rattle.world.specs.Parts.{CanStand, AllReach, NodePart, as_back, Makes, BackView, BackMoves, HaveRoom, new_part, sealed}
+use Rattle.world.specs.Parts.{CanStand, AllReach, StandIn, NodePart, as_back, Makes, Wrote, BackView, BackMoves, HaveRoom, sealed}
 use Rattle.world.specs.LogNodes.{LogView, IsRanged, log_itself, log_move, Turns}
 use Rattle.world.proofs.Sending.{all_reach, sends_fit, are_fit}
 use Rattle.world.proofs.Few.{IsFew, log_room, asks_room}
-use Rattle.world.proofs.MidMoves.{nothing_more, on_ok, none_fit, none_reach, none_room}
+use Rattle.world.proofs.MidMoves.{nothing_more, on_ok, none_fit, none_reach, none_room, wrote_none}
+use Rattle.world.proofs.Writing.{turn_stands, nothing_stands, written_opens}
 use Rattle.world.proofs.MidOffers.{asks_in}
 
 -- what contracts see of a backend node with this log
@@ -53,7 +56,7 @@ no_value InMid p v b k = absurd b
 no_value Inv p v b k = k
 no_value Pay p v b k = k
 
-none_learned : (t : Tier) (log : LogState AnyValue) → IsBackend t → IsLogIn (CanStand t) FitsBallot log → length log.learned ≡ 0
+pub none_learned : (t : Tier) (log : LogState AnyValue) → IsBackend t → IsLogIn (CanStand t) FitsBallot log → length log.learned ≡ 0
 none_learned t log b k = go log.learned k.learned
   where
     go : (xs : List AnyValue) → ((p : ℕ) (v : AnyValue) → slice_get xs p ≡ Some v → CanStand t p v) → length xs ≡ 0
@@ -81,32 +84,41 @@ in_log_is u t x log turn e =
 
 back_makes : (u : ℕ) (t : Tier) (x : ℕ) (old new : NodePart (LogState AnyValue)) (before after : List (End × List ℕ)) (turn : Turn AnyValue) (result : Result Answer Fault)
     → Makes log_itself old new before after (log_move t x turn) result → Makes (as_back u t) old new before after (back_move u t x turn) result
-back_makes u t x old new before after turn (Ok answer) k = (k.0, (k.1.0, k.1.1, ap (λ z. as_back u t z) k.1.2), k.2, k.3, k.4, k.5)
+back_makes u t x old new before after turn (Ok answer) k = (k.0, (k.1.0, k.1.1, ap (λ z. as_back u t z) k.1.2), k.2, k.3, k.4, k.5, k.6)
 back_makes u t x old new before after turn (Err (faults.JournalFull n)) k = k
 back_makes u t x old new before after turn (Err faults.Memory) k = tt
-back_makes u t x old new before after turn (Err faults.Disk) k = absurd k
+back_makes u t x old new before after turn (Err faults.Disk) k = k
 back_makes u t x old new before after turn (Err (faults.BadRecord n)) k = absurd k
 
-pub back_turns : (old new : LogView) (now : BackView) (before after : List (End × List ℕ)) (t : LogState AnyValue → Turn AnyValue) (move : ℕ → Tier → ℕ → Back Amounts → Move (Back Amounts)) (result : Result Answer Fault)
-    → back_view old ≡ now → IsBackend old.tier → old.me < 2 * old.faults + 1 → old.faults ≤ 2 → Turns old new before after t result → ((log : LogState AnyValue) → IsFew old.faults (t log))
+pub back_turns : (old new : LogView) (now : BackView) (a b : DiskState) (before after : List (End × List ℕ)) (t : LogState AnyValue → Turn AnyValue) (move : ℕ → Tier → ℕ → Back Amounts → Move (Back Amounts)) (result : Result Answer Fault)
+    → back_view old ≡ now → IsBackend old.tier → old.me < 2 * old.faults + 1 → old.faults ≤ 2 → Turns old new a b before after t result → ((log : LogState AnyValue) → IsFew old.faults log (t log))
     → ((log : LogState AnyValue) → old.part.mode ≡ Up log → move old.faults old.tier old.me (as_back old.faults old.tier log) ≡ in_log old.faults booking_service old.tier old.me (as_back old.faults old.tier log) (t log))
-    → BackMoves now (back_view new) before after (move now.faults now.tier now.me) result
-back_turns old new now before after t move result v b l small k few f = subst (λ (z : BackView). BackMoves z (back_view new) before after (move z.faults z.tier z.me) result) v (record {
-  row = λ log e. subst (λ z. Makes (as_back old.faults old.tier) old.part new.part before after z result) (sym (is log e)) (back_makes old.faults old.tier old.me old.part new.part before after (t log) result (k.row log e));
-  reach = on_ok result (λ log e. subst (λ (z : Move (Back Amounts)). AllReach old.faults z.sends) (sym (is log e)) (all_reach old.faults old.tier old.me (t log).sends l (k.range log e).sends));
-  few = on_ok result (λ log e. subst (λ (z : Move (Back Amounts)). HaveRoom z.sends) (sym (is log e)) (log_room old.faults old.tier old.me (t log).sends small (few log).most));
+    → BackMoves now (back_view new) a b before after (move now.faults now.tier now.me) result
+back_turns old new now a b before after t move result v is l small k few f = subst (λ (z : BackView). BackMoves z (back_view new) a b before after (move z.faults z.tier z.me) result) v (record {
+  row = λ log e. at (λ z. Makes (as_back old.faults old.tier) old.part new.part before after z result) log e (back_makes old.faults old.tier old.me old.part new.part before after (t log) result (k.row log e));
+  disk = λ log e. at (λ z. Wrote a b old.part.place new.part.place z.facts result) log e (k.disk log e);
+  later = k.later;
+  reach = on_ok result (λ log e. at (λ z. AllReach old.faults z.sends) log e (all_reach old.faults old.tier old.me (t log).sends l (k.range log e).sends));
+  few = on_ok result (λ log e. at (λ z. HaveRoom z.sends) log e (log_room old.faults old.tier old.me (t log).sends small (few log).most));
+  fits = λ log e. at (λ z. StandIn old.tier (open_at log) z.facts) log e (turn_stands old.faults old.tier log (t log) (few log) (k.range log e));
+  opens = λ log e. at (λ z. open_at z.state.log ≡ open_after_all (open_at log) z.facts) log e (written_opens (open_at log) (open_at (t log).state) (t log).facts (few log).written);
   same = k.same;
 })
   where
-    is : (log : LogState AnyValue) → old.part.mode ≡ Up log → move old.faults old.tier old.me (as_back old.faults old.tier log) ≡ back_move old.faults old.tier old.me (t log)
-    is log e = f log e ∙ in_log_is old.faults old.tier old.me log (t log) (none_learned old.tier (t log).state b (k.range log e).state)
+    -- what holds of the turn's move holds of the row
+    at : (P : Move (Back Amounts) → Type 0) (log : LogState AnyValue) → old.part.mode ≡ Up log → P (back_move old.faults old.tier old.me (t log)) → P (move old.faults old.tier old.me (as_back old.faults old.tier log))
+    at P log e m = subst P (sym (f log e ∙ in_log_is old.faults old.tier old.me log (t log) (none_learned old.tier (t log).state is (k.range log e).state))) m
 
-pub back_quiet : (now : BackView) (out : List (End × List ℕ)) (move : Back Amounts → Move (Back Amounts)) (answer : Answer) → ((log : LogState AnyValue) → now.part.mode ≡ Up log → move (as_back now.faults now.tier log) ≡ record { state = as_back now.faults now.tier log; facts = []; sends = []; answer = answer })
-    → BackMoves now now out out move (Ok answer)
-back_quiet now out move answer f = record {
-  row = λ log e. subst (λ z. Makes (as_back now.faults now.tier) now.part now.part out out z (Ok answer)) (sym (f log e)) (refl, (log, e, refl), refl, sym (nothing_more out), none_fit, refl);
+pub back_quiet : (now : BackView) (a : DiskState) (out : List (End × List ℕ)) (move : Back Amounts → Move (Back Amounts)) (answer : Answer) → ((log : LogState AnyValue) → now.part.mode ≡ Up log → move (as_back now.faults now.tier log) ≡ record { state = as_back now.faults now.tier log; facts = []; sends = []; answer = answer })
+    → BackMoves now now a a out out move (Ok answer)
+back_quiet now a out move answer f = record {
+  row = λ log e. subst (λ z. Makes (as_back now.faults now.tier) now.part now.part out out z (Ok answer)) (sym (f log e)) (refl, (log, e, refl), refl, refl, sym (nothing_more out), none_fit, refl);
+  disk = λ log e. subst (λ (z : Move (Back Amounts)). Wrote a a now.part.place now.part.place z.facts (Ok answer)) (sym (f log e)) (wrote_none a now.part.place answer);
+  later = same_later a a refl;
   reach = λ log e. subst (λ (z : Move (Back Amounts)). AllReach now.faults z.sends) (sym (f log e)) (none_reach now.faults);
   few = λ log e. subst (λ (z : Move (Back Amounts)). HaveRoom z.sends) (sym (f log e)) none_room;
+  fits = λ log e. subst (λ (z : Move (Back Amounts)). StandIn now.tier (open_at log) z.facts) (sym (f log e)) (nothing_stands now.tier (open_at log));
+  opens = λ log e. subst (λ (z : Move (Back Amounts)). open_at z.state.log ≡ open_after_all (open_at log) z.facts) (sym (f log e)) refl;
   same = (refl, (refl, refl));
 }
 
@@ -175,35 +187,46 @@ offer_none u t x log LogFull n e = absurd (cc)
 offer_none u t x log Taken n e = absurd n
 offer_none u t x log (Free p) n e = ap (λ o. cond (is_some o) (in_log u booking_service t x (as_back u t log) (offer u x log (own_value u (as_back u t log)))) (idles (as_back u t log) why.Nothing)) (nothing_own u t log)
 
-pub offers_idle : (n : LogView) (now : BackView) (out : List (End × List ℕ)) (w : Offering) (cause : Idle) → back_view n ≡ now → ((log : LogState AnyValue) → n.part.mode ≡ Up log → w ≡ log_wants n.faults log) → offer_cause w ≡ Some cause
-    → BackMoves now now out out (λ σ. offers now.faults booking_service now.tier now.me σ) (Ok (Idles cause))
-offers_idle n now out w cause v f e = subst (λ (z : BackView). BackMoves z z out out (λ σ. offers z.faults booking_service z.tier z.me σ) (Ok (Idles cause))) v
-    (back_quiet (back_view n) out (λ σ. offers n.faults booking_service n.tier n.me σ) (Idles cause) (λ log m. offer_idle n.faults n.tier n.me log (log_wants n.faults log) cause (ap offer_cause (sym (f log m)) ∙ e)))
+pub offers_idle : (n : LogView) (now : BackView) (a : DiskState) (out : List (End × List ℕ)) (w : Offering) (cause : Idle) → back_view n ≡ now → ((log : LogState AnyValue) → n.part.mode ≡ Up log → w ≡ log_wants n.faults log) → offer_cause w ≡ Some cause
+    → BackMoves now now a a out out (λ σ. offers now.faults booking_service now.tier now.me σ) (Ok (Idles cause))
+offers_idle n now a out w cause v f e = subst (λ (z : BackView). BackMoves z z a a out out (λ σ. offers z.faults booking_service z.tier z.me σ) (Ok (Idles cause))) v
+    (back_quiet (back_view n) a out (λ σ. offers n.faults booking_service n.tier n.me σ) (Idles cause) (λ log m. offer_idle n.faults n.tier n.me log (log_wants n.faults log) cause (ap offer_cause (sym (f log m)) ∙ e)))
 
-pub offers_none : (n : LogView) (now : BackView) (out : List (End × List ℕ)) (w : Offering) → back_view n ≡ now → IsBackend n.tier → IsRanged n → ((log : LogState AnyValue) → n.part.mode ≡ Up log → w ≡ log_wants n.faults log) → offer_cause w ≡ None
-    → BackMoves now now out out (λ σ. offers now.faults booking_service now.tier now.me σ) (Ok (Idles why.Nothing))
-offers_none n now out w v b range f e = subst (λ (z : BackView). BackMoves z z out out (λ σ. offers z.faults booking_service z.tier z.me σ) (Ok (Idles why.Nothing))) v
-    (back_quiet (back_view n) out (λ σ. offers n.faults booking_service n.tier n.me σ) (Idles why.Nothing) (λ log m. offer_none n.faults n.tier n.me log (log_wants n.faults log) (wants_other n.faults n.tier log b (range log m)) (ap offer_cause (sym (f log m)) ∙ e)))
+pub offers_none : (n : LogView) (now : BackView) (a : DiskState) (out : List (End × List ℕ)) (w : Offering) → back_view n ≡ now → IsBackend n.tier → IsRanged n → ((log : LogState AnyValue) → n.part.mode ≡ Up log → w ≡ log_wants n.faults log) → offer_cause w ≡ None
+    → BackMoves now now a a out out (λ σ. offers now.faults booking_service now.tier now.me σ) (Ok (Idles why.Nothing))
+offers_none n now a out w v b range f e = subst (λ (z : BackView). BackMoves z z a a out out (λ σ. offers z.faults booking_service z.tier z.me σ) (Ok (Idles why.Nothing))) v
+    (back_quiet (back_view n) a out (λ σ. offers n.faults booking_service n.tier n.me σ) (Idles why.Nothing) (λ log m. offer_none n.faults n.tier n.me log (log_wants n.faults log) (wants_other n.faults n.tier log b (range log m)) (ap offer_cause (sym (f log m)) ∙ e)))
 
--- ASKING AGAIN, AND STARTING
+-- ASKING AGAIN
 
 retry_is : (u : ℕ) (t : Tier) (x : ℕ) (log : LogState AnyValue) → retry u t x (as_back u t log) ≡ says (as_back u t log) (log_packets t x (asks u x (open_at log)))
 retry_is u t x log = ap (λ z. says (as_back u t log) z) (nothing_more (log_packets t x (asks u x (open_at log))))
 
-pub retries : (n : LogView) (now : BackView) (before after : List (End × List ℕ)) → back_view n ≡ now → n.me < 2 * n.faults + 1 → n.faults ≤ 2 → IsRanged n
-    → ((log : LogState AnyValue) → n.part.mode ≡ Up log → after ≡ before ++ map sealed (log_packets n.tier n.me (asks n.faults n.me (open_at log)))) → BackMoves now now before after (λ σ. retry now.faults now.tier now.me σ) (Ok Did)
-retries n now before after v l few range sent = subst (λ (z : BackView). BackMoves z z before after (λ σ. retry z.faults z.tier z.me σ) (Ok Did)) v (record {
+pub retries : (n : LogView) (now : BackView) (a : DiskState) (before after : List (End × List ℕ)) → back_view n ≡ now → n.me < 2 * n.faults + 1 → n.faults ≤ 2 → IsRanged n
+    → ((log : LogState AnyValue) → n.part.mode ≡ Up log → after ≡ before ++ map sealed (log_packets n.tier n.me (asks n.faults n.me (open_at log)))) → BackMoves now now a a before after (λ σ. retry now.faults now.tier now.me σ) (Ok Did)
+retries n now a before after v l few range sent = subst (λ (z : BackView). BackMoves z z a a before after (λ σ. retry z.faults z.tier z.me σ) (Ok Did)) v (record {
   row = λ log e. subst (λ z. Makes (as_back n.faults n.tier) n.part n.part before after z (Ok Did)) (sym (retry_is n.faults n.tier n.me log))
-      (refl, (log, e, refl), refl, sent log e, are_fit n.tier n.me (asks n.faults n.me (open_at log)) (omega arith) (sends_fit n.faults n.tier (asks n.faults n.me (open_at log)) (fits log e)), refl);
+      (refl, (log, e, refl), refl, refl, sent log e, are_fit n.tier n.me (asks n.faults n.me (open_at log)) (omega arith) (sends_fit n.faults n.tier (asks n.faults n.me (open_at log)) (fits log e)), refl);
+  disk = λ log e. subst (λ (z : Move (Back Amounts)). Wrote a a n.part.place n.part.place z.facts (Ok Did)) (sym (retry_is n.faults n.tier n.me log)) (wrote_none a n.part.place Did);
+  later = same_later a a refl;
   reach = λ log e. subst (λ (z : Move (Back Amounts)). AllReach n.faults z.sends) (sym (retry_is n.faults n.tier n.me log)) (all_reach n.faults n.tier n.me (asks n.faults n.me (open_at log)) l (fits log e));
   few = λ log e. subst (λ (z : Move (Back Amounts)). HaveRoom z.sends) (sym (retry_is n.faults n.tier n.me log)) (asks_room n.faults n.tier n.me (open_at log) few);
+  fits = λ log e. subst (λ (z : Move (Back Amounts)). StandIn n.tier (open_at log) z.facts) (sym (retry_is n.faults n.tier n.me log)) (nothing_stands n.tier (open_at log));
+  opens = λ log e. subst (λ (z : Move (Back Amounts)). open_at z.state.log ≡ open_after_all (open_at log) z.facts) (sym (retry_is n.faults n.tier n.me log)) refl;
   same = (refl, (refl, refl));
 })
   where
     fits : (log : LogState AnyValue) → n.part.mode ≡ Up log → AllByRecursion (IsSendIn n.faults (CanStand n.tier) FitsBallot) (asks n.faults n.me (open_at log))
     fits log e = asks_in n.faults n.tier n.me (open_at log) (range log e).within
 
-pub restarted : (n new : LogView) (now : BackView) → back_view n ≡ now → now.part ≡ new_part → new ≡ record { faults = n.faults; tier = n.tier; me = n.me; part = record { mode = Up (recover n.faults []); written = n.part.written } }
-    → (log : LogState AnyValue) × ((new.part ≡ record { mode = Up log; written = 1 }) × (as_back now.faults now.tier log ≡ recovered now.faults booking_service now.tier []))
-restarted n new now v r e = subst (λ (z : BackView). z.part ≡ new_part → (log : LogState AnyValue) × ((new.part ≡ record { mode = Up log; written = 1 }) × (as_back z.faults z.tier log ≡ recovered z.faults booking_service z.tier []))) v
-    (λ q. (recover n.faults [], (ap (λ (z : LogView). z.part) e ∙ ap (λ z. record { mode = Up (recover n.faults []); written = z }) (ap (λ (z : NodePart (LogState AnyValue)). z.written) q), refl))) r
+pub retries_none : (now : BackView) (a : DiskState) (before after : List (End × List ℕ)) (result : Result Answer Fault) → result ≡ Err faults.Memory → BackMoves now now a a before after (λ σ. retry now.faults now.tier now.me σ) result
+retries_none now a before after result e = subst (λ z. BackMoves now now a a before after (λ σ. retry now.faults now.tier now.me σ) z) (sym e) (record {
+  row = λ log m. tt;
+  disk = λ log m. tt;
+  later = same_later a a refl;
+  reach = tt;
+  few = tt;
+  fits = λ log m. subst (λ (z : Move (Back Amounts)). StandIn now.tier (open_at log) z.facts) (sym (retry_is now.faults now.tier now.me log)) (nothing_stands now.tier (open_at log));
+  opens = λ log m. subst (λ (z : Move (Back Amounts)). open_at z.state.log ≡ open_after_all (open_at log) z.facts) (sym (retry_is now.faults now.tier now.me log)) refl;
+  same = (refl, (refl, refl));
+})

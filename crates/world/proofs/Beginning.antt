@@ -1,19 +1,24 @@
 -- A run before its first event.
 use Rattle.std.proofs.Common.{◌≡◌, ℕ, ◌+◌, ◌*◌, ◌≤◌, List, [], ◌∷◌, ◌++◌, refl, sym, ap, ◌∙◌, subst, inl, inr, length, arith, Some, None, zero, suc}
 use Rattle.std.specs.Prelude.{slice_get, ◌⊎◌}
-use Rattle.aeg_base.specs.declared.limits.TheConstants.{JOURNAL_BYTES}
 use Rattle.aeg_base.specs.declared.names.Tier.{Tier}
 use Rattle.aeg_base.specs.declared.names.Tier.TheVariants as tiers
-use Rattle.log_model.specs.Log.{nobody}
+use Rattle.aeg_disk.specs.Disk.{DiskState}
+use Rattle.fact_journal.specs.Standing.{IsAtRest, IsBlank}
+use Rattle.fact_journal.proofs.Standing.{blank_stands}
+use Rattle.log_model.specs.Log.{nobody, open_at}
 use Rattle.log_model.specs.World.{stands}
 use Rattle.log_model.specs.World.Mode.{Down}
 use Rattle.round_model.specs.Lists.{each}
 use Rattle.run_model.specs.World.{start}
 use Rattle.net_script.specs.Clients.{fresh}
 use Rattle.world.specs.declared.parts.Parts.{Parts}
+use Rattle.world.specs.Disks.{IsDiskOf, AreDisks, AreBlank}
+use Rattle.world.specs.Parts.{new_part, as_mid, as_back}
 use Rattle.world.specs.NodeLists.{new_mid, new_back, AreNew}
 use Rattle.world.specs.Watching.{new_watch}
-use Rattle.world.specs.Standing.{IsMid, IsBack, IsClientEnd, AreAll, Shows}
+use Rattle.world.specs.Standing.{open_of_mid, IsNode, IsMid, IsBack, IsClientEnd, AreAll, Shows}
+use Rattle.world.proofs.Wiping.{none_stand, blank_within}
 
 length_last : {A : Type 0} (xs : List A) (x : A) → length (xs ++ x ∷ []) ≡ suc (length xs)
 length_last [] x = refl
@@ -44,11 +49,14 @@ each_at {A} (suc n) f i a e = go (get_last (each n nobody f) (f n) i a e) (λ g.
 all_each : {N V : Type 0} (n : ℕ) (Is : ℕ → N → V → Type 0) (nodes : ℕ → N) (f : ℕ → V) (vs : List V) → vs ≡ each n nobody f → ((x : ℕ) → Is x (nodes x) (f x)) → AreAll n Is nodes vs
 all_each {N} {V} n Is nodes f vs e h = record { size = ap length e ∙ each_size n f; each = λ x v g. subst (Is x (nodes x)) (sym (each_at n f x v (sym (ap (λ (z : List V). slice_get z x) e) ∙ g))) (h x) }
 
+new_is : {S T : Type 0} (t : Tier) (whole : S → T) (open_of : S → ℕ) → IsNode {S = S} {T = T} t whole open_of (stands Down []) new_part
+new_is t whole open_of = record { mode = refl; placed = λ e. absurd (cc); doubted = refl; within = (blank_within, tt); stand = none_stand t; opened = tt }
+
 new_mid_is : (u depth x : ℕ) → IsMid u depth x (stands Down []) (new_mid u depth x)
-new_mid_is u depth x = let small : 1 ≤ JOURNAL_BYTES = omega arith in record { faults = refl; deep = refl; me = refl; part = record { mode = refl; here = tt; written = refl; within = small } }
+new_mid_is u depth x = record { faults = refl; deep = refl; me = refl; part = new_is tiers.Mid (as_mid depth) open_of_mid }
 
 new_back_is : (u : ℕ) (t : Tier) (x : ℕ) → IsBack u t x (stands Down []) (new_back u t x)
-new_back_is u t x = let small : 1 ≤ JOURNAL_BYTES = omega arith in record { faults = refl; tier = refl; me = refl; part = record { mode = refl; here = tt; written = refl; within = small } }
+new_back_is u t x = record { faults = refl; tier = refl; me = refl; part = new_is t (as_back u t) open_at }
 
 -- nothing was sent, and all nodes are down
 pub begins : (u depth : ℕ) (parts : Parts) → u ≤ 2 → parts.u ≡ u → AreNew u depth parts.nodes → parts.clients.items ≡ each 17 nobody fresh → parts.soup ≡ [] → parts.watch ≡ new_watch u → Shows u depth start parts
@@ -66,4 +74,17 @@ begins u depth parts few size k c s w = record {
   fit = λ i p e. absurd (cc);
   reach = λ i p e. absurd (cc);
   watch = w;
+}
+
+-- DISKS
+
+blank_disk : {S : Type 0} (disk : DiskState) → IsBlank disk × IsAtRest disk → IsDiskOf {S = S} (stands Down []) disk
+blank_disk disk k = record { rest = k.1; lists = blank_stands disk k.0; ready = tt }
+
+pub blank_disks : (disks : List DiskState) → AreBlank disks → AreDisks start disks
+blank_disks disks k = record {
+  all = k.0;
+  mids = λ x b l e. blank_disk b (k.1 (0 + x) b e);
+  invs = λ x b l e. blank_disk b (k.1 (5 + x) b e);
+  pays = λ x b l e. blank_disk b (k.1 (10 + x) b e);
 }

@@ -1,13 +1,16 @@
 -- Commands at nodes: what they make of the world, and what they print.
-use Rattle.std.proofs.Common.{◌≡◌, ℕ, ◌+◌, ◌*◌, ◌<◌, true, List, [], ◌∷◌, refl, sym, ap, ◌∙◌, subst, Option, Some, None, Result, Ok, Err}
-use Rattle.std.specs.Prelude.{map, nat_lt}
-use Rattle.std.proofs.lemmas.Bool.{cond-true, cond-false, lt-ltb}
+use Rattle.std.proofs.Common.{◌≡◌, ℕ, ◌+◌, ◌*◌, ◌<◌, ◌≤◌, Bool, true, false, List, [], ◌∷◌, refl, sym, ap, ◌∙◌, subst, arith, Option, Some, None, Result, Ok, Err}
+use Rattle.std.specs.Prelude.{map, nat_lt, slice_get, slice_set}
+use Rattle.std.proofs.lemmas.Bool.{cond-true, cond-false, lt-ltb, or_right}
+use Rattle.std.proofs.lemmas.List.{length-set}
 use Rattle.aeg_base.specs.declared.names.Tier.{Tier}
 use Rattle.aeg_base.specs.declared.names.Tier.TheVariants.{Mid as MidTier, Inv, Pay}
 use Rattle.aeg_base.specs.declared.names.NodeId.{NodeId}
 use Rattle.aeg_base.specs.declared.names.End.{End}
+use Rattle.aeg_disk.specs.Disk.{DiskState}
+use Rattle.fact_journal.specs.Calls.{is_past}
 use Rattle.server_model.specs.Backends.{Amounts}
-use Rattle.log_model.specs.World.{Mode, Device}
+use Rattle.log_model.specs.World.{Mode, Device, is_fine}
 use Rattle.log_model.specs.World.Mode.{Up}
 use Rattle.log_model.specs.declared.turn.LogIdle.{LogIdle}
 use Rattle.log_values.specs.declared.fact.Fact.{Fact}
@@ -18,18 +21,24 @@ use Rattle.frames.specs.declared.turn.Fault.TheVariants as faults
 use Rattle.tier_model.specs.Moves.{Packet, Move, log_answer}
 use Rattle.tier_model.specs.Mid.{Mid}
 use Rattle.tier_model.specs.Back.{Back}
+use Rattle.run_model.specs.declared.trace.Fared.{Fared}
 use Rattle.run_model.specs.declared.trace.Fared.TheVariants.{Fine}
 use Rattle.run_model.specs.World as worlds
 use Rattle.run_model.specs.World.{is_well, moved, sent, fate, unwritten, at_mid, at_back, no_run, happens}
 use Rattle.run_model.specs.Text as texts
 use Rattle.world.specs.declared.nodes.all_nodes.Nodes.{Nodes}
 use Rattle.run_model.specs.BookingRuns.{config, BookingWorld}
-use Rattle.world.specs.Parts.{MidView, BackView, is_past, sealed}
+use Rattle.world.specs.declared.parts.arming.StopAt.{StopAt}
+use Rattle.world.specs.Arming.{CanStop, asked_of, fared_by}
+use Rattle.world.specs.Calling.{Called}
+use Rattle.world.specs.Disks.{AreDisks, first_of}
+use Rattle.world.specs.Parts.{MidView, BackView, sealed}
 use Rattle.world.specs.NodeLists.{up_in, MoveIn}
-use Rattle.world.specs.Telling.{told_command_turn, told_command, told_frame_turn, told_frame, HadMemory}
+use Rattle.world.specs.Telling.{told_command_turn, told_command, told_frame_turn, told_frame, told_fault, HadMemory}
 use Rattle.world.specs.Standing.{journal_of, IsMid, IsBack, AreAll, AreNodes}
-use Rattle.world.proofs.Moving.{Fares}
-use Rattle.world.proofs.Doing.{CameOut, Done, mid_done, back_done}
+use Rattle.world.proofs.Moving.{CameOut, Faring}
+use Rattle.world.proofs.Doing.{Done, KeepsMids, KeepsInvs, KeepsPays, set_disk, else_disk, mid_done, inv_done, pay_done, mid_quiet, back_quiet}
+use Rattle.world.proofs.AtNodes.{set_same}
 use Rattle.world.proofs.Events.{Leads}
 
 -- A NODE'S MOVE IN THE WORLD
@@ -42,14 +51,14 @@ at_back_is : (u depth : ℕ) (w : BookingWorld) (t : Tier) (x : ℕ) (d : List (
     → at_back (config u depth) w t x d row ≡ worlds.with_back w t x (moved (w.backs t x) (d (w.backs t x).records (row σ).facts) (row σ)) (sent (d (w.backs t x).records (row σ).facts) (row σ))
 at_back_is u depth w t x d row σ l e = cond-true (nat_lt x (2 * u + 1)) (worlds.back_up w t x d row (w.backs t x).mode) w (lt-ltb x (2 * u + 1) l) ∙ ap (worlds.back_up w t x d row) e
 
-mid_leads : (u depth : ℕ) (w : BookingWorld) (old new : Nodes) (x : ℕ) (after : List (End × List ℕ)) (d : List (List Fact) → List Fact → Device) (row : Mid → Move Mid) (result : Result Answer Fault) → x < 2 * u + 1 → AreNodes u depth w old
-    → (h : Done (2 * u + 1) x u (IsMid u depth) w.mids new.mids.items after d row result) → new.invs.items ≡ old.invs.items → new.pays.items ≡ old.pays.items
+mid_leads : (u depth : ℕ) (w : BookingWorld) (old new : Nodes) (x : ℕ) (disk disk_after : DiskState) (after : List (End × List ℕ)) (d : List (List Fact) → List Fact → Device) (asked fared : Fared) (met : Bool) (row : Mid → Move Mid) (result : Result Answer Fault) → x < 2 * u + 1 → AreNodes u depth w old
+    → (h : Done (2 * u + 1) x u (IsMid u depth) w.mids new.mids.items disk disk_after after d asked fared met row result) → KeepsInvs old new × KeepsPays old new
     → Leads u depth w (at_mid (config u depth) w x d row no_run) new (sent (d (w.mids x).records (row h.state).facts) (row h.state))
-mid_leads u depth w old new x after d row result l k h e f = subst (λ z. Leads u depth w z new (sent (d (w.mids x).records (row h.state).facts) (row h.state))) (sym (at_mid_is u depth w x d row h.state l h.up)) (record {
+mid_leads u depth w old new x disk disk_after after d asked fared met row result l k h e = subst (λ z. Leads u depth w z new (sent (d (w.mids x).records (row h.state).facts) (row h.state))) (sym (at_mid_is u depth w x d row h.state l h.up)) (record {
   are = record {
     mids = h.all;
-    invs = subst (AreAll (2 * u + 1) (IsBack u Inv) (w.backs Inv)) (sym e) k.invs;
-    pays = subst (AreAll (2 * u + 1) (IsBack u Pay) (w.backs Pay)) (sym f) k.pays;
+    invs = subst (AreAll (2 * u + 1) (IsBack u Inv) (w.backs Inv)) (sym e.0) k.invs;
+    pays = subst (AreAll (2 * u + 1) (IsBack u Pay) (w.backs Pay)) (sym e.1) k.pays;
   };
   soup = refl;
   log = refl;
@@ -59,14 +68,23 @@ mid_leads u depth w old new x after d row result l k h e f = subst (λ z. Leads 
   reach = h.reach;
 })
 
-inv_leads : (u depth : ℕ) (w : BookingWorld) (old new : Nodes) (x : ℕ) (after : List (End × List ℕ)) (d : List (List Fact) → List Fact → Device) (row : Back Amounts → Move (Back Amounts)) (result : Result Answer Fault) → x < 2 * u + 1 → AreNodes u depth w old
-    → (h : Done (2 * u + 1) x u (IsBack u Inv) (w.backs Inv) new.invs.items after d row result) → new.mids.items ≡ old.mids.items → new.pays.items ≡ old.pays.items
+mid_disks : (u depth : ℕ) (w : BookingWorld) (x : ℕ) (new : List MidView) (disks : List DiskState) (disk disk_after : DiskState) (after : List (End × List ℕ)) (d : List (List Fact) → List Fact → Device) (asked fared : Fared) (met : Bool) (row : Mid → Move Mid) (result : Result Answer Fault) → u ≤ 2 → x < 2 * u + 1 → AreDisks w disks
+    → Done (2 * u + 1) x u (IsMid u depth) w.mids new disk disk_after after d asked fared met row result → AreDisks (at_mid (config u depth) w x d row no_run) (slice_set disks (first_of MidTier + x) disk_after)
+mid_disks u depth w x new disks disk disk_after after d asked fared met row result few l k h = subst (λ z. AreDisks z (slice_set disks (first_of MidTier + x) disk_after)) (sym (at_mid_is u depth w x d row h.state l h.up)) (record {
+  all = length-set disks (first_of MidTier + x) disk_after ∙ k.all;
+  mids = set_disk w.mids 0 x (moved (w.mids x) (d (w.mids x).records (row h.state).facts) (row h.state)) disks disk_after k.mids h.on;
+  invs = else_disk (w.backs Inv) 5 (first_of MidTier + x) disks disk_after (λ y m e. omega (arith, few, l, m, e)) k.invs;
+  pays = else_disk (w.backs Pay) 10 (first_of MidTier + x) disks disk_after (λ y m e. omega (arith, few, l, m, e)) k.pays;
+})
+
+inv_leads : (u depth : ℕ) (w : BookingWorld) (old new : Nodes) (x : ℕ) (disk disk_after : DiskState) (after : List (End × List ℕ)) (d : List (List Fact) → List Fact → Device) (asked fared : Fared) (met : Bool) (row : Back Amounts → Move (Back Amounts)) (result : Result Answer Fault) → x < 2 * u + 1 → AreNodes u depth w old
+    → (h : Done (2 * u + 1) x u (IsBack u Inv) (w.backs Inv) new.invs.items disk disk_after after d asked fared met row result) → KeepsMids old new × KeepsPays old new
     → Leads u depth w (at_back (config u depth) w Inv x d row) new (sent (d (w.backs Inv x).records (row h.state).facts) (row h.state))
-inv_leads u depth w old new x after d row result l k h e f = subst (λ z. Leads u depth w z new (sent (d (w.backs Inv x).records (row h.state).facts) (row h.state))) (sym (at_back_is u depth w Inv x d row h.state l h.up)) (record {
+inv_leads u depth w old new x disk disk_after after d asked fared met row result l k h e = subst (λ z. Leads u depth w z new (sent (d (w.backs Inv x).records (row h.state).facts) (row h.state))) (sym (at_back_is u depth w Inv x d row h.state l h.up)) (record {
   are = record {
-    mids = subst (AreAll (2 * u + 1) (IsMid u depth) w.mids) (sym e) k.mids;
+    mids = subst (AreAll (2 * u + 1) (IsMid u depth) w.mids) (sym e.0) k.mids;
     invs = h.all;
-    pays = subst (AreAll (2 * u + 1) (IsBack u Pay) (w.backs Pay)) (sym f) k.pays;
+    pays = subst (AreAll (2 * u + 1) (IsBack u Pay) (w.backs Pay)) (sym e.1) k.pays;
   };
   soup = refl;
   log = refl;
@@ -76,13 +94,22 @@ inv_leads u depth w old new x after d row result l k h e f = subst (λ z. Leads 
   reach = h.reach;
 })
 
-pay_leads : (u depth : ℕ) (w : BookingWorld) (old new : Nodes) (x : ℕ) (after : List (End × List ℕ)) (d : List (List Fact) → List Fact → Device) (row : Back Amounts → Move (Back Amounts)) (result : Result Answer Fault) → x < 2 * u + 1 → AreNodes u depth w old
-    → (h : Done (2 * u + 1) x u (IsBack u Pay) (w.backs Pay) new.pays.items after d row result) → new.mids.items ≡ old.mids.items → new.invs.items ≡ old.invs.items
+inv_disks : (u depth : ℕ) (w : BookingWorld) (x : ℕ) (new : List BackView) (disks : List DiskState) (disk disk_after : DiskState) (after : List (End × List ℕ)) (d : List (List Fact) → List Fact → Device) (asked fared : Fared) (met : Bool) (row : Back Amounts → Move (Back Amounts)) (result : Result Answer Fault) → u ≤ 2 → x < 2 * u + 1 → AreDisks w disks
+    → Done (2 * u + 1) x u (IsBack u Inv) (w.backs Inv) new disk disk_after after d asked fared met row result → AreDisks (at_back (config u depth) w Inv x d row) (slice_set disks (first_of Inv + x) disk_after)
+inv_disks u depth w x new disks disk disk_after after d asked fared met row result few l k h = subst (λ z. AreDisks z (slice_set disks (first_of Inv + x) disk_after)) (sym (at_back_is u depth w Inv x d row h.state l h.up)) (record {
+  all = length-set disks (first_of Inv + x) disk_after ∙ k.all;
+  mids = else_disk w.mids 0 (first_of Inv + x) disks disk_after (λ y m e. omega (arith, few, l, m, e)) k.mids;
+  invs = set_disk (w.backs Inv) 5 x (moved (w.backs Inv x) (d (w.backs Inv x).records (row h.state).facts) (row h.state)) disks disk_after k.invs h.on;
+  pays = else_disk (w.backs Pay) 10 (first_of Inv + x) disks disk_after (λ y m e. omega (arith, few, l, m, e)) k.pays;
+})
+
+pay_leads : (u depth : ℕ) (w : BookingWorld) (old new : Nodes) (x : ℕ) (disk disk_after : DiskState) (after : List (End × List ℕ)) (d : List (List Fact) → List Fact → Device) (asked fared : Fared) (met : Bool) (row : Back Amounts → Move (Back Amounts)) (result : Result Answer Fault) → x < 2 * u + 1 → AreNodes u depth w old
+    → (h : Done (2 * u + 1) x u (IsBack u Pay) (w.backs Pay) new.pays.items disk disk_after after d asked fared met row result) → KeepsMids old new × KeepsInvs old new
     → Leads u depth w (at_back (config u depth) w Pay x d row) new (sent (d (w.backs Pay x).records (row h.state).facts) (row h.state))
-pay_leads u depth w old new x after d row result l k h e f = subst (λ z. Leads u depth w z new (sent (d (w.backs Pay x).records (row h.state).facts) (row h.state))) (sym (at_back_is u depth w Pay x d row h.state l h.up)) (record {
+pay_leads u depth w old new x disk disk_after after d asked fared met row result l k h e = subst (λ z. Leads u depth w z new (sent (d (w.backs Pay x).records (row h.state).facts) (row h.state))) (sym (at_back_is u depth w Pay x d row h.state l h.up)) (record {
   are = record {
-    mids = subst (AreAll (2 * u + 1) (IsMid u depth) w.mids) (sym e) k.mids;
-    invs = subst (AreAll (2 * u + 1) (IsBack u Inv) (w.backs Inv)) (sym f) k.invs;
+    mids = subst (AreAll (2 * u + 1) (IsMid u depth) w.mids) (sym e.0) k.mids;
+    invs = subst (AreAll (2 * u + 1) (IsBack u Inv) (w.backs Inv)) (sym e.1) k.invs;
     pays = h.all;
   };
   soup = refl;
@@ -91,6 +118,15 @@ pay_leads u depth w old new x after d row result l k h e f = subst (λ z. Leads 
   hist = refl;
   fit = h.fit;
   reach = h.reach;
+})
+
+pay_disks : (u depth : ℕ) (w : BookingWorld) (x : ℕ) (new : List BackView) (disks : List DiskState) (disk disk_after : DiskState) (after : List (End × List ℕ)) (d : List (List Fact) → List Fact → Device) (asked fared : Fared) (met : Bool) (row : Back Amounts → Move (Back Amounts)) (result : Result Answer Fault) → u ≤ 2 → x < 2 * u + 1 → AreDisks w disks
+    → Done (2 * u + 1) x u (IsBack u Pay) (w.backs Pay) new disk disk_after after d asked fared met row result → AreDisks (at_back (config u depth) w Pay x d row) (slice_set disks (first_of Pay + x) disk_after)
+pay_disks u depth w x new disks disk disk_after after d asked fared met row result few l k h = subst (λ z. AreDisks z (slice_set disks (first_of Pay + x) disk_after)) (sym (at_back_is u depth w Pay x d row h.state l h.up)) (record {
+  all = length-set disks (first_of Pay + x) disk_after ∙ k.all;
+  mids = else_disk w.mids 0 (first_of Pay + x) disks disk_after (λ y m e. omega (arith, few, l, m, e)) k.mids;
+  invs = else_disk (w.backs Inv) 5 (first_of Pay + x) disks disk_after (λ y m e. omega (arith, few, l, m, e)) k.invs;
+  pays = set_disk (w.backs Pay) 10 x (moved (w.backs Pay x) (d (w.backs Pay x).records (row h.state).facts) (row h.state)) disks disk_after k.pays h.on;
 })
 
 -- WHAT IS PRINTED
@@ -107,23 +143,6 @@ tells_is n Did k = refl
 tells_is n (Dropped refusal) k = refl
 tells_is n (Idles cause) k = refl
 
-past_text : (u depth : ℕ) (records : List (List Fact)) (facts : List Fact) → is_past (journal_of records) facts ≡ true → texts.is_past (config u depth) records facts ≡ true
-past_text u depth records [] e = absurd (cc)
-past_text u depth records (f ∷ fs) e = e
-
--- what the move prints is what the call told
-pub moves_told : {T : Type 0} (u depth : ℕ) (n : NodeId) (records : List (List Fact)) (v : Move T) (result : Result Answer Fault) → NotRan v.answer → CameOut result (is_well (fate (config u depth) Fine records v.facts) v.facts) (journal_of records) v
-    → texts.moves_text (config u depth) n Fine records texts.tells_command v ≡ told_command n result
-moves_told u depth n records v (Ok answer) k h =
-    cond-true (is_well (fate (config u depth) Fine records v.facts) v.facts) (texts.tells_command (texts.node_name n) v.answer) (texts.down_line (texts.node_name n) (texts.fault_text (texts.is_past (config u depth) records v.facts) Fine)) h.0
-    ∙ tells_is n v.answer k ∙ ap (told_command_turn n) (sym h.1)
-moves_told u depth n records v (Err (faults.JournalFull size)) k h =
-    cond-false (is_well (fate (config u depth) Fine records v.facts) v.facts) (texts.tells_command (texts.node_name n) v.answer) (texts.down_line (texts.node_name n) (texts.fault_text (texts.is_past (config u depth) records v.facts) Fine)) h.0
-    ∙ ap (λ z. texts.down_line (texts.node_name n) (texts.fault_text z Fine)) (past_text u depth records v.facts h.1)
-moves_told u depth n records v (Err faults.Memory) k h = absurd h
-moves_told u depth n records v (Err faults.Disk) k h = absurd h
-moves_told u depth n records v (Err (faults.BadRecord at)) k h = absurd h
-
 -- what a packet's handling prints
 frame_tells : (n : NodeId) (answer : Answer) → texts.tells_frame (texts.node_name n) answer ≡ told_frame_turn n answer
 frame_tells n (Ran note) = refl
@@ -131,17 +150,40 @@ frame_tells n Did = refl
 frame_tells n (Dropped refusal) = refl
 frame_tells n (Idles cause) = refl
 
-pub frames_told : {T : Type 0} (u depth : ℕ) (n : NodeId) (records : List (List Fact)) (v : Move T) (result : Result Answer Fault) → CameOut result (is_well (fate (config u depth) Fine records v.facts) v.facts) (journal_of records) v
-    → texts.moves_text (config u depth) n Fine records texts.tells_frame v ≡ told_frame n result
-frames_told u depth n records v (Ok answer) h =
-    cond-true (is_well (fate (config u depth) Fine records v.facts) v.facts) (texts.tells_frame (texts.node_name n) v.answer) (texts.down_line (texts.node_name n) (texts.fault_text (texts.is_past (config u depth) records v.facts) Fine)) h.0
-    ∙ frame_tells n v.answer ∙ ap (told_frame_turn n) (sym h.1)
-frames_told u depth n records v (Err (faults.JournalFull size)) h =
-    cond-false (is_well (fate (config u depth) Fine records v.facts) v.facts) (texts.tells_frame (texts.node_name n) v.answer) (texts.down_line (texts.node_name n) (texts.fault_text (texts.is_past (config u depth) records v.facts) Fine)) h.0
-    ∙ ap (λ z. texts.down_line (texts.node_name n) (texts.fault_text z Fine)) (past_text u depth records v.facts h.1)
-frames_told u depth n records v (Err faults.Memory) h = absurd h
-frames_told u depth n records v (Err faults.Disk) h = absurd h
-frames_told u depth n records v (Err (faults.BadRecord at)) h = absurd h
+past_text : (u depth : ℕ) (records : List (List Fact)) (facts : List Fact) → is_past (journal_of records) facts ≡ true → texts.is_past (config u depth) records facts ≡ true
+past_text u depth records [] e = absurd (cc)
+past_text u depth records (f ∷ fs) e = e
+
+past_not : (u depth : ℕ) (records : List (List Fact)) (facts : List Fact) (d : Device) → is_well d facts ≡ false → is_past (journal_of records) facts ≡ false → texts.is_past (config u depth) records facts ≡ false
+past_not u depth records [] d w e = absurd (let f : is_well d [] ≡ true = or_right (is_fine d) true refl in cc)
+past_not u depth records (f ∷ fs) d w e = e
+
+-- what the move prints is what the call told
+told_by : {T : Type 0} (u depth : ℕ) (n : NodeId) (records : List (List Fact)) (fared : Fared) (met : Bool) (tells : List ℕ → Answer → List ℕ) (told : Answer → List ℕ) (v : Move T) (result : Result Answer Fault) (whole : Result Answer Fault → List ℕ) → tells (texts.node_name n) v.answer ≡ told v.answer
+    → ((answer : Answer) → whole (Ok answer) ≡ told answer) → ((fault : Fault) → whole (Err fault) ≡ told_fault n met fault) → CameOut result met (is_well (fate (config u depth) fared records v.facts) v.facts) fared (is_past (journal_of records) v.facts) v
+    → texts.moves_text (config u depth) n fared records tells v ≡ whole result
+told_by u depth n records fared met tells told v (Ok answer) whole t o f h =
+    cond-true (is_well (fate (config u depth) fared records v.facts) v.facts) (tells (texts.node_name n) v.answer) (texts.down_line (texts.node_name n) (texts.fault_text (texts.is_past (config u depth) records v.facts) fared)) h.0
+    ∙ t ∙ ap told (sym h.1) ∙ sym (o answer)
+told_by u depth n records fared met tells told v (Err (faults.JournalFull size)) whole t o f h =
+    cond-false (is_well (fate (config u depth) fared records v.facts) v.facts) (tells (texts.node_name n) v.answer) (texts.down_line (texts.node_name n) (texts.fault_text (texts.is_past (config u depth) records v.facts) fared)) h.0
+    ∙ ap (λ z. texts.down_line (texts.node_name n) (texts.fault_text z fared)) (past_text u depth records v.facts h.1) ∙ sym (f (faults.JournalFull size))
+told_by u depth n records fared met tells told v (Err faults.Memory) whole t o f h = absurd h
+told_by u depth n records fared true tells told v (Err faults.Disk) whole t o f h =
+    cond-false (is_well (fate (config u depth) fared records v.facts) v.facts) (tells (texts.node_name n) v.answer) (texts.down_line (texts.node_name n) (texts.fault_text (texts.is_past (config u depth) records v.facts) fared)) h.0
+    ∙ ap (λ z. texts.down_line (texts.node_name n) (texts.fault_text z fared)) (past_not u depth records v.facts (fate (config u depth) fared records v.facts) h.0 h.1) ∙ ap (texts.down_line (texts.node_name n)) h.2 ∙ sym (f faults.Disk)
+told_by u depth n records fared false tells told v (Err faults.Disk) whole t o f h =
+    cond-false (is_well (fate (config u depth) fared records v.facts) v.facts) (tells (texts.node_name n) v.answer) (texts.down_line (texts.node_name n) (texts.fault_text (texts.is_past (config u depth) records v.facts) fared)) h.0
+    ∙ ap (λ z. texts.down_line (texts.node_name n) (texts.fault_text z fared)) (past_not u depth records v.facts (fate (config u depth) fared records v.facts) h.0 h.1) ∙ ap (texts.down_line (texts.node_name n)) h.2 ∙ sym (f faults.Disk)
+told_by u depth n records fared met tells told v (Err (faults.BadRecord at)) whole t o f h = absurd h
+
+pub moves_told : {T : Type 0} (u depth : ℕ) (n : NodeId) (records : List (List Fact)) (fared : Fared) (met : Bool) (v : Move T) (result : Result Answer Fault) → NotRan v.answer → CameOut result met (is_well (fate (config u depth) fared records v.facts) v.facts) fared (is_past (journal_of records) v.facts) v
+    → texts.moves_text (config u depth) n fared records texts.tells_command v ≡ told_command n met result
+moves_told u depth n records fared met v result k h = told_by u depth n records fared met texts.tells_command (told_command_turn n) v result (told_command n met) (tells_is n v.answer k) (λ a. refl) (λ f. refl) h
+
+pub frames_told : {T : Type 0} (u depth : ℕ) (n : NodeId) (records : List (List Fact)) (fared : Fared) (met : Bool) (v : Move T) (result : Result Answer Fault) → CameOut result met (is_well (fate (config u depth) fared records v.facts) v.facts) fared (is_past (journal_of records) v.facts) v
+    → texts.moves_text (config u depth) n fared records texts.tells_frame v ≡ told_frame n met result
+frames_told u depth n records fared met v result h = told_by u depth n records fared met texts.tells_frame (told_frame_turn n) v result (told_frame n met) (frame_tells n v.answer) (λ a. refl) (λ f. refl) h
 
 -- THE COMMANDS
 
@@ -149,13 +191,23 @@ pub log_not_ran : (o : Option LogIdle) → NotRan (log_answer o)
 log_not_ran None = tt
 log_not_ran (Some idle) = tt
 
--- What a command comes to: packets, a world with new nodes, and a text.
-pub record Commanded (u depth : ℕ) (w new : BookingWorld) (nodes : Nodes) (after : List (End × List ℕ)) (text told : List ℕ) : Type 0 where
+-- What a command comes to: packets, a world with new nodes on these disks, and a text.
+pub record Commanded (u depth : ℕ) (w new : BookingWorld) (nodes : Nodes) (disks : List DiskState) (after : List (End × List ℕ)) (text told : List ℕ) : Type 0 where
   pub packets : List Packet
   pub sends : after ≡ map sealed packets
   pub leads : Leads u depth w new nodes packets
+  pub on : AreDisks new disks
   pub clients : new.clients ≡ w.clients
   pub text_is : text ≡ told
+
+-- a node that is up, and its disk
+pub record UpAt (u depth : ℕ) (w : BookingWorld) (nodes : Nodes) (t : Tier) (x : ℕ) (disks : List DiskState) (disk : DiskState) : Type 0 where
+  pub few : u ≤ 2
+  pub nodes_are : AreNodes u depth w nodes
+  pub disks_are : AreDisks w disks
+  pub there : x < 2 * u + 1
+  pub disk_is : slice_get disks (first_of t + x) ≡ Some disk
+  pub up : up_in nodes t x ≡ true
 
 mid_clients : (u depth : ℕ) (w : BookingWorld) (x : ℕ) (d : List (List Fact) → List Fact → Device) (row : Mid → Move Mid) (σ : Mid) → x < 2 * u + 1 → (w.mids x).mode ≡ Up σ → (at_mid (config u depth) w x d row no_run).clients ≡ w.clients
 mid_clients u depth w x d row σ l e = ap (λ (z : BookingWorld). z.clients) (at_mid_is u depth w x d row σ l e)
@@ -163,44 +215,119 @@ mid_clients u depth w x d row σ l e = ap (λ (z : BookingWorld). z.clients) (at
 back_clients : (u depth : ℕ) (w : BookingWorld) (t : Tier) (x : ℕ) (d : List (List Fact) → List Fact → Device) (row : Back Amounts → Move (Back Amounts)) (σ : Back Amounts) → x < 2 * u + 1 → (w.backs t x).mode ≡ Up σ → (at_back (config u depth) w t x d row).clients ≡ w.clients
 back_clients u depth w t x d row σ l e = ap (λ (z : BookingWorld). z.clients) (at_back_is u depth w t x d row σ l e)
 
-pub mid_command : (u depth : ℕ) (w : BookingWorld) (old new : Nodes) (n : NodeId) (after : List (End × List ℕ)) (call : MidView → Mid → Move Mid) (back : BackView → Back Amounts → Move (Back Amounts)) (row : Mid → Move Mid) (result : Result Answer Fault) (d : List (List Fact) → List Fact → Device) (text : Mode Mid → List ℕ) (told : List ℕ)
-    → AreNodes u depth w old → n.index < 2 * u + 1 → up_in old MidTier n.index ≡ true → MoveIn old new MidTier n.index [] after call back result → ((m : MidView) → m.faults ≡ u → m.me ≡ n.index → call m ≡ row) → HadMemory result → ((σ : Mid) → Fares d (w.mids n.index).records (row σ))
-    → ((σ : Mid) → CameOut result (is_well (d (w.mids n.index).records (row σ).facts) (row σ).facts) (journal_of (w.mids n.index).records) (row σ) → text (Up σ) ≡ told)
-    → Commanded u depth w (at_mid (config u depth) w n.index d row no_run) new after (text (w.mids n.index).mode) told
-mid_command u depth w old new n after call back row result d text told k l up move same memory fares tells =
-    let h = mid_done u depth n.index w.mids old.mids.items new.mids.items after d call row result k.mids up move.0 same fares memory in
-    record {
-      packets = sent (d (w.mids n.index).records (row h.state).facts) (row h.state);
-      sends = h.sends;
-      leads = mid_leads u depth w old new n.index after d row result l k h move.1.0 move.1.1;
-      clients = mid_clients u depth w n.index d row h.state l h.up;
-      text_is = ap text h.up ∙ tells h.state h.out;
-    }
+mid_command : (u depth : ℕ) (w : BookingWorld) (old new : Nodes) (x : ℕ) (disks : List DiskState) (disk disk_after : DiskState) (after : List (End × List ℕ)) (d : List (List Fact) → List Fact → Device) (asked fared : Fared) (met : Bool) (row : Mid → Move Mid) (result : Result Answer Fault) (text : Mode Mid → List ℕ) (told : List ℕ) → UpAt u depth w old MidTier x disks disk
+    → Done (2 * u + 1) x u (IsMid u depth) w.mids new.mids.items disk disk_after after d asked fared met row result → KeepsInvs old new × KeepsPays old new
+    → ((σ : Mid) → CameOut result met (is_well (d (w.mids x).records (row σ).facts) (row σ).facts) fared (is_past (journal_of (w.mids x).records) (row σ).facts) (row σ) → text (Up σ) ≡ told)
+    → Commanded u depth w (at_mid (config u depth) w x d row no_run) new (slice_set disks (first_of MidTier + x) disk_after) after (text (w.mids x).mode) told × Faring asked fared disk disk_after
+mid_command u depth w old new x disks disk disk_after after d asked fared met row result text told k h e tells = (
+  record {
+    packets = sent (d (w.mids x).records (row h.state).facts) (row h.state);
+    sends = h.sends;
+    leads = mid_leads u depth w old new x disk disk_after after d asked fared met row result k.there k.nodes_are h e;
+    on = mid_disks u depth w x new.mids.items disks disk disk_after after d asked fared met row result k.few k.there k.disks_are h;
+    clients = mid_clients u depth w x d row h.state k.there h.up;
+    text_is = ap text h.up ∙ tells h.state h.out;
+  },
+  h.how,
+)
 
-pub inv_command : (u depth : ℕ) (w : BookingWorld) (old new : Nodes) (n : NodeId) (after : List (End × List ℕ)) (call : MidView → Mid → Move Mid) (back : BackView → Back Amounts → Move (Back Amounts)) (row : Back Amounts → Move (Back Amounts)) (result : Result Answer Fault) (d : List (List Fact) → List Fact → Device) (text : Mode (Back Amounts) → List ℕ) (told : List ℕ)
-    → AreNodes u depth w old → n.index < 2 * u + 1 → up_in old Inv n.index ≡ true → MoveIn old new Inv n.index [] after call back result → ((b : BackView) → b.faults ≡ u → b.tier ≡ Inv → b.me ≡ n.index → back b ≡ row) → HadMemory result → ((σ : Back Amounts) → Fares d (w.backs Inv n.index).records (row σ))
-    → ((σ : Back Amounts) → CameOut result (is_well (d (w.backs Inv n.index).records (row σ).facts) (row σ).facts) (journal_of (w.backs Inv n.index).records) (row σ) → text (Up σ) ≡ told)
-    → Commanded u depth w (at_back (config u depth) w Inv n.index d row) new after (text (w.backs Inv n.index).mode) told
-inv_command u depth w old new n after call back row result d text told k l up move same memory fares tells =
-    let h = back_done u n.index Inv (w.backs Inv) old.invs.items new.invs.items after d back row result k.invs up move.0 same fares memory in
-    record {
-      packets = sent (d (w.backs Inv n.index).records (row h.state).facts) (row h.state);
-      sends = h.sends;
-      leads = inv_leads u depth w old new n.index after d row result l k h move.1.0 move.1.1;
-      clients = back_clients u depth w Inv n.index d row h.state l h.up;
-      text_is = ap text h.up ∙ tells h.state h.out;
-    }
+-- a call during which the disk may stop
+pub mid_by : (u depth : ℕ) (w : BookingWorld) (old new : Nodes) (x : ℕ) (stop : Option StopAt) (disks : List DiskState) (disk disk_after : DiskState) (after : List (End × List ℕ)) (call : MidView → Mid → Move Mid) (back : BackView → Back Amounts → Move (Back Amounts)) (row : Mid → Move Mid) (result : Result Answer Fault) (met : Bool) (text : Mode Mid → List ℕ) (told : List ℕ)
+    → UpAt u depth w old MidTier x disks disk → CanStop stop → HadMemory result → ((m : MidView) → m.faults ≡ u → m.me ≡ x → call m ≡ row) → Called old new MidTier x stop disk disk_after [] after call back result met
+    → ((σ : Mid) → CameOut result met (is_well (fate (config u depth) (fared_by stop met result) (w.mids x).records (row σ).facts) (row σ).facts) (fared_by stop met result) (is_past (journal_of (w.mids x).records) (row σ).facts) (row σ) → text (Up σ) ≡ told)
+    → Commanded u depth w (at_mid (config u depth) w x (fate (config u depth) (fared_by stop met result)) row no_run) new (slice_set disks (first_of MidTier + x) disk_after) after (text (w.mids x).mode) told × Faring (asked_of stop) (fared_by stop met result) disk disk_after
+mid_by u depth w old new x stop disks disk disk_after after call back row result met text told k stops memory same c tells =
+    let few = k.few in
+    let l = k.there in
+    let h = mid_done u depth x w.mids old new stop disk disk_after after call back row result met k.nodes_are.mids k.up (k.disks_are.mids x disk (omega (arith, few, l)) k.disk_is) stops memory same c in
+    mid_command u depth w old new x disks disk disk_after after (fate (config u depth) (fared_by stop met result)) (asked_of stop) (fared_by stop met result) met row result text told k h.0 h.1 tells
 
-pub pay_command : (u depth : ℕ) (w : BookingWorld) (old new : Nodes) (n : NodeId) (after : List (End × List ℕ)) (call : MidView → Mid → Move Mid) (back : BackView → Back Amounts → Move (Back Amounts)) (row : Back Amounts → Move (Back Amounts)) (result : Result Answer Fault) (d : List (List Fact) → List Fact → Device) (text : Mode (Back Amounts) → List ℕ) (told : List ℕ)
-    → AreNodes u depth w old → n.index < 2 * u + 1 → up_in old Pay n.index ≡ true → MoveIn old new Pay n.index [] after call back result → ((b : BackView) → b.faults ≡ u → b.tier ≡ Pay → b.me ≡ n.index → back b ≡ row) → HadMemory result → ((σ : Back Amounts) → Fares d (w.backs Pay n.index).records (row σ))
-    → ((σ : Back Amounts) → CameOut result (is_well (d (w.backs Pay n.index).records (row σ).facts) (row σ).facts) (journal_of (w.backs Pay n.index).records) (row σ) → text (Up σ) ≡ told)
-    → Commanded u depth w (at_back (config u depth) w Pay n.index d row) new after (text (w.backs Pay n.index).mode) told
-pay_command u depth w old new n after call back row result d text told k l up move same memory fares tells =
-    let h = back_done u n.index Pay (w.backs Pay) old.pays.items new.pays.items after d back row result k.pays up move.0 same fares memory in
-    record {
-      packets = sent (d (w.backs Pay n.index).records (row h.state).facts) (row h.state);
-      sends = h.sends;
-      leads = pay_leads u depth w old new n.index after d row result l k h move.1.0 move.1.1;
-      clients = back_clients u depth w Pay n.index d row h.state l h.up;
-      text_is = ap text h.up ∙ tells h.state h.out;
-    }
+-- a call that writes nothing
+pub mid_still : (u depth : ℕ) (w : BookingWorld) (old new : Nodes) (x : ℕ) (disks : List DiskState) (disk : DiskState) (after : List (End × List ℕ)) (call : MidView → Mid → Move Mid) (back : BackView → Back Amounts → Move (Back Amounts)) (row : Mid → Move Mid) (result : Result Answer Fault) (text : Mode Mid → List ℕ) (told : List ℕ)
+    → UpAt u depth w old MidTier x disks disk → HadMemory result → ((m : MidView) → m.faults ≡ u → m.me ≡ x → call m ≡ row) → ((σ : Mid) → (row σ).facts ≡ []) → MoveIn old new MidTier x disk disk [] after call back result
+    → ((σ : Mid) → CameOut result false (is_well (unwritten (w.mids x).records (row σ).facts) (row σ).facts) Fine (is_past (journal_of (w.mids x).records) (row σ).facts) (row σ) → text (Up σ) ≡ told)
+    → Commanded u depth w (at_mid (config u depth) w x unwritten row no_run) new disks after (text (w.mids x).mode) told
+mid_still u depth w old new x disks disk after call back row result text told k memory same silent move tells =
+    let few = k.few in
+    let l = k.there in
+    let h = mid_quiet u depth x w.mids old.mids.items new.mids.items disk after call row result k.nodes_are.mids k.up (k.disks_are.mids x disk (omega (arith, few, l)) k.disk_is) memory same silent move.0 in
+    let r = mid_command u depth w old new x disks disk disk after unwritten Fine Fine false row result text told k h move.1 tells in
+    subst (λ z. Commanded u depth w (at_mid (config u depth) w x unwritten row no_run) new z after (text (w.mids x).mode) told) (sym (set_same disks (first_of MidTier + x) disk k.disk_is)) r.0
+
+inv_command : (u depth : ℕ) (w : BookingWorld) (old new : Nodes) (x : ℕ) (disks : List DiskState) (disk disk_after : DiskState) (after : List (End × List ℕ)) (d : List (List Fact) → List Fact → Device) (asked fared : Fared) (met : Bool) (row : Back Amounts → Move (Back Amounts)) (result : Result Answer Fault) (text : Mode (Back Amounts) → List ℕ) (told : List ℕ) → UpAt u depth w old Inv x disks disk
+    → Done (2 * u + 1) x u (IsBack u Inv) (w.backs Inv) new.invs.items disk disk_after after d asked fared met row result → KeepsMids old new × KeepsPays old new
+    → ((σ : (Back Amounts)) → CameOut result met (is_well (d (w.backs Inv x).records (row σ).facts) (row σ).facts) fared (is_past (journal_of (w.backs Inv x).records) (row σ).facts) (row σ) → text (Up σ) ≡ told)
+    → Commanded u depth w (at_back (config u depth) w Inv x d row) new (slice_set disks (first_of Inv + x) disk_after) after (text (w.backs Inv x).mode) told × Faring asked fared disk disk_after
+inv_command u depth w old new x disks disk disk_after after d asked fared met row result text told k h e tells = (
+  record {
+    packets = sent (d (w.backs Inv x).records (row h.state).facts) (row h.state);
+    sends = h.sends;
+    leads = inv_leads u depth w old new x disk disk_after after d asked fared met row result k.there k.nodes_are h e;
+    on = inv_disks u depth w x new.invs.items disks disk disk_after after d asked fared met row result k.few k.there k.disks_are h;
+    clients = back_clients u depth w Inv x d row h.state k.there h.up;
+    text_is = ap text h.up ∙ tells h.state h.out;
+  },
+  h.how,
+)
+
+-- a call during which the disk may stop
+pub inv_by : (u depth : ℕ) (w : BookingWorld) (old new : Nodes) (x : ℕ) (stop : Option StopAt) (disks : List DiskState) (disk disk_after : DiskState) (after : List (End × List ℕ)) (call : MidView → Mid → Move Mid) (back : BackView → Back Amounts → Move (Back Amounts)) (row : Back Amounts → Move (Back Amounts)) (result : Result Answer Fault) (met : Bool) (text : Mode (Back Amounts) → List ℕ) (told : List ℕ)
+    → UpAt u depth w old Inv x disks disk → CanStop stop → HadMemory result → ((b : BackView) → b.faults ≡ u → b.tier ≡ Inv → b.me ≡ x → back b ≡ row) → Called old new Inv x stop disk disk_after [] after call back result met
+    → ((σ : (Back Amounts)) → CameOut result met (is_well (fate (config u depth) (fared_by stop met result) (w.backs Inv x).records (row σ).facts) (row σ).facts) (fared_by stop met result) (is_past (journal_of (w.backs Inv x).records) (row σ).facts) (row σ) → text (Up σ) ≡ told)
+    → Commanded u depth w (at_back (config u depth) w Inv x (fate (config u depth) (fared_by stop met result)) row) new (slice_set disks (first_of Inv + x) disk_after) after (text (w.backs Inv x).mode) told × Faring (asked_of stop) (fared_by stop met result) disk disk_after
+inv_by u depth w old new x stop disks disk disk_after after call back row result met text told k stops memory same c tells =
+    let few = k.few in
+    let l = k.there in
+    let h = inv_done u depth x (w.backs Inv) old new stop disk disk_after after call back row result met k.nodes_are.invs k.up (k.disks_are.invs x disk (omega (arith, few, l)) k.disk_is) stops memory same c in
+    inv_command u depth w old new x disks disk disk_after after (fate (config u depth) (fared_by stop met result)) (asked_of stop) (fared_by stop met result) met row result text told k h.0 h.1 tells
+
+-- a call that writes nothing
+pub inv_still : (u depth : ℕ) (w : BookingWorld) (old new : Nodes) (x : ℕ) (disks : List DiskState) (disk : DiskState) (after : List (End × List ℕ)) (call : MidView → Mid → Move Mid) (back : BackView → Back Amounts → Move (Back Amounts)) (row : Back Amounts → Move (Back Amounts)) (result : Result Answer Fault) (text : Mode (Back Amounts) → List ℕ) (told : List ℕ)
+    → UpAt u depth w old Inv x disks disk → HadMemory result → ((b : BackView) → b.faults ≡ u → b.tier ≡ Inv → b.me ≡ x → back b ≡ row) → ((σ : (Back Amounts)) → (row σ).facts ≡ []) → MoveIn old new Inv x disk disk [] after call back result
+    → ((σ : (Back Amounts)) → CameOut result false (is_well (unwritten (w.backs Inv x).records (row σ).facts) (row σ).facts) Fine (is_past (journal_of (w.backs Inv x).records) (row σ).facts) (row σ) → text (Up σ) ≡ told)
+    → Commanded u depth w (at_back (config u depth) w Inv x unwritten row) new disks after (text (w.backs Inv x).mode) told
+inv_still u depth w old new x disks disk after call back row result text told k memory same silent move tells =
+    let few = k.few in
+    let l = k.there in
+    let h = back_quiet u depth Inv x (w.backs Inv) old.invs.items new.invs.items disk after back row result k.nodes_are.invs k.up (k.disks_are.invs x disk (omega (arith, few, l)) k.disk_is) memory same silent move.0 in
+    let r = inv_command u depth w old new x disks disk disk after unwritten Fine Fine false row result text told k h move.1 tells in
+    subst (λ z. Commanded u depth w (at_back (config u depth) w Inv x unwritten row) new z after (text (w.backs Inv x).mode) told) (sym (set_same disks (first_of Inv + x) disk k.disk_is)) r.0
+
+pay_command : (u depth : ℕ) (w : BookingWorld) (old new : Nodes) (x : ℕ) (disks : List DiskState) (disk disk_after : DiskState) (after : List (End × List ℕ)) (d : List (List Fact) → List Fact → Device) (asked fared : Fared) (met : Bool) (row : Back Amounts → Move (Back Amounts)) (result : Result Answer Fault) (text : Mode (Back Amounts) → List ℕ) (told : List ℕ) → UpAt u depth w old Pay x disks disk
+    → Done (2 * u + 1) x u (IsBack u Pay) (w.backs Pay) new.pays.items disk disk_after after d asked fared met row result → KeepsMids old new × KeepsInvs old new
+    → ((σ : (Back Amounts)) → CameOut result met (is_well (d (w.backs Pay x).records (row σ).facts) (row σ).facts) fared (is_past (journal_of (w.backs Pay x).records) (row σ).facts) (row σ) → text (Up σ) ≡ told)
+    → Commanded u depth w (at_back (config u depth) w Pay x d row) new (slice_set disks (first_of Pay + x) disk_after) after (text (w.backs Pay x).mode) told × Faring asked fared disk disk_after
+pay_command u depth w old new x disks disk disk_after after d asked fared met row result text told k h e tells = (
+  record {
+    packets = sent (d (w.backs Pay x).records (row h.state).facts) (row h.state);
+    sends = h.sends;
+    leads = pay_leads u depth w old new x disk disk_after after d asked fared met row result k.there k.nodes_are h e;
+    on = pay_disks u depth w x new.pays.items disks disk disk_after after d asked fared met row result k.few k.there k.disks_are h;
+    clients = back_clients u depth w Pay x d row h.state k.there h.up;
+    text_is = ap text h.up ∙ tells h.state h.out;
+  },
+  h.how,
+)
+
+-- a call during which the disk may stop
+pub pay_by : (u depth : ℕ) (w : BookingWorld) (old new : Nodes) (x : ℕ) (stop : Option StopAt) (disks : List DiskState) (disk disk_after : DiskState) (after : List (End × List ℕ)) (call : MidView → Mid → Move Mid) (back : BackView → Back Amounts → Move (Back Amounts)) (row : Back Amounts → Move (Back Amounts)) (result : Result Answer Fault) (met : Bool) (text : Mode (Back Amounts) → List ℕ) (told : List ℕ)
+    → UpAt u depth w old Pay x disks disk → CanStop stop → HadMemory result → ((b : BackView) → b.faults ≡ u → b.tier ≡ Pay → b.me ≡ x → back b ≡ row) → Called old new Pay x stop disk disk_after [] after call back result met
+    → ((σ : (Back Amounts)) → CameOut result met (is_well (fate (config u depth) (fared_by stop met result) (w.backs Pay x).records (row σ).facts) (row σ).facts) (fared_by stop met result) (is_past (journal_of (w.backs Pay x).records) (row σ).facts) (row σ) → text (Up σ) ≡ told)
+    → Commanded u depth w (at_back (config u depth) w Pay x (fate (config u depth) (fared_by stop met result)) row) new (slice_set disks (first_of Pay + x) disk_after) after (text (w.backs Pay x).mode) told × Faring (asked_of stop) (fared_by stop met result) disk disk_after
+pay_by u depth w old new x stop disks disk disk_after after call back row result met text told k stops memory same c tells =
+    let few = k.few in
+    let l = k.there in
+    let h = pay_done u depth x (w.backs Pay) old new stop disk disk_after after call back row result met k.nodes_are.pays k.up (k.disks_are.pays x disk (omega (arith, few, l)) k.disk_is) stops memory same c in
+    pay_command u depth w old new x disks disk disk_after after (fate (config u depth) (fared_by stop met result)) (asked_of stop) (fared_by stop met result) met row result text told k h.0 h.1 tells
+
+-- a call that writes nothing
+pub pay_still : (u depth : ℕ) (w : BookingWorld) (old new : Nodes) (x : ℕ) (disks : List DiskState) (disk : DiskState) (after : List (End × List ℕ)) (call : MidView → Mid → Move Mid) (back : BackView → Back Amounts → Move (Back Amounts)) (row : Back Amounts → Move (Back Amounts)) (result : Result Answer Fault) (text : Mode (Back Amounts) → List ℕ) (told : List ℕ)
+    → UpAt u depth w old Pay x disks disk → HadMemory result → ((b : BackView) → b.faults ≡ u → b.tier ≡ Pay → b.me ≡ x → back b ≡ row) → ((σ : (Back Amounts)) → (row σ).facts ≡ []) → MoveIn old new Pay x disk disk [] after call back result
+    → ((σ : (Back Amounts)) → CameOut result false (is_well (unwritten (w.backs Pay x).records (row σ).facts) (row σ).facts) Fine (is_past (journal_of (w.backs Pay x).records) (row σ).facts) (row σ) → text (Up σ) ≡ told)
+    → Commanded u depth w (at_back (config u depth) w Pay x unwritten row) new disks after (text (w.backs Pay x).mode) told
+pay_still u depth w old new x disks disk after call back row result text told k memory same silent move tells =
+    let few = k.few in
+    let l = k.there in
+    let h = back_quiet u depth Pay x (w.backs Pay) old.pays.items new.pays.items disk after back row result k.nodes_are.pays k.up (k.disks_are.pays x disk (omega (arith, few, l)) k.disk_is) memory same silent move.0 in
+    let r = pay_command u depth w old new x disks disk disk after unwritten Fine Fine false row result text told k h move.1 tells in
+    subst (λ z. Commanded u depth w (at_back (config u depth) w Pay x unwritten row) new z after (text (w.backs Pay x).mode) told) (sym (set_same disks (first_of Pay + x) disk k.disk_is)) r.0

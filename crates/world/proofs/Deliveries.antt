@@ -1,22 +1,23 @@
 -- A packet that reaches a node.
-use Rattle.std.proofs.Common.{◌≡◌, ℕ, ◌+◌, ◌*◌, ◌<◌, ◌≤◌, true, false, List, [], ◌∷◌, ◌++◌, refl, sym, ap, ◌∙◌, subst, length, arith, Option, Some, None, Result, zero, suc}
-use Rattle.std.specs.Prelude.{slice_get, map, nat_lt, nat_le}
+use Rattle.std.proofs.Common.{◌≡◌, ℕ, ◌+◌, ◌*◌, ◌<◌, ◌≤◌, Bool, true, false, List, [], ◌∷◌, ◌++◌, refl, sym, ap, ◌∙◌, subst, length, Option, Some, None, Result, Ok, Err, zero, suc}
+use Rattle.std.specs.Prelude.{slice_get, slice_set, map, nat_lt, nat_le}
 use Rattle.std.proofs.lemmas.Bool.{cond-true, cond-false, ltb-true, ltb-false, le-leb, lt-leb}
 use Rattle.log_model.specs.World.{Mode, Node as NodeOf}
-use Rattle.log_model.specs.World.Mode.{Up, Down, Gone}
 use Rattle.log_values.specs.declared.fact.Fact.{Fact}
+use Rattle.log_model.specs.World.Mode.{Up, Down, Gone}
 use Rattle.frames.specs.declared.header.Refused.TheVariants as refusals
-use Rattle.run_model.specs.declared.trace.TraceEvent.{TraceEvent}
 use Rattle.run_model.specs.Runs.{grows}
 use Rattle.aeg_base.specs.declared.names.Tier.{Tier}
 use Rattle.aeg_base.specs.declared.names.Tier.TheVariants.{Mid as MidTier, Inv, Pay}
 use Rattle.aeg_base.specs.declared.names.NodeId.{NodeId}
 use Rattle.aeg_base.specs.declared.names.End.{End}
 use Rattle.aeg_base.specs.declared.names.End.TheVariants.{Node, Client}
+use Rattle.aeg_base.specs.declared.memory.Memory.{Memory}
+use Rattle.aeg_disk.specs.Disk.{DiskState}
 use Rattle.frames.specs.declared.header.Header.{Header}
 use Rattle.frames.specs.declared.message.Msg.{Msg}
 use Rattle.frames.specs.declared.turn.Turn.{Turn as Answer}
-use Rattle.frames.specs.declared.turn.Fault.{Fault}
+use Rattle.frames.specs.declared.turn.Fault.{Fault as NodeFault}
 use Rattle.frames.specs.Frames.{frame, header_for}
 use Rattle.frames.proofs.FrameGrammar.{frame_again}
 use Rattle.tier_model.specs.Moves.{Packet, Move}
@@ -25,61 +26,71 @@ use Rattle.tier_model.specs.Back.{Back}
 use Rattle.server_model.specs.Backends.{Amounts}
 use Rattle.tier_model.specs.MidRows as mids
 use Rattle.tier_model.specs.BackRows as backs
+use Rattle.run_model.specs.declared.trace.Fared.{Fared}
 use Rattle.run_model.specs.declared.trace.Fared.TheVariants.{Fine}
 use Rattle.run_model.specs.declared.trace.TraceEvent.TheVariants as events
 use Rattle.run_model.specs.World as worlds
-use Rattle.run_model.specs.World.{Config, fate, happens}
+use Rattle.run_model.specs.World.{fate, happens, can_fare}
+use Rattle.run_model.specs.Resolving as resolving
 use Rattle.run_model.specs.Text as texts
 use Rattle.run_model.specs.Text.{own_text, growth_text, after, event_text}
 use Rattle.world.specs.declared.nodes.all_nodes.Nodes.{Nodes}
 use Rattle.world.specs.declared.parts.Parts.{Parts}
+use Rattle.world.specs.declared.parts.arming.StopAt.{StopAt}
 use Rattle.run_model.specs.BookingRuns.{config, booking_service, BookingWorld}
-use Rattle.world.specs.Parts.{NodePart, CanReach, Reaches, is_up, is_up_in, sealed}
-use Rattle.world.specs.NodeLists.{mid_up, back_up, up_in, MoveIn, CanReachIn, size_of}
+use Rattle.world.specs.Arming.{CanStop, asked_of, fared_by}
+use Rattle.world.specs.Calling.{Called}
+use Rattle.world.specs.Disks.{AreDisks, HasCause, first_of, place_of, place_of_end, place_of_packet}
+use Rattle.world.specs.Parts.{CanReach, Reaches, sealed}
+use Rattle.world.specs.NodeLists.{up_in, CanReachIn}
 use Rattle.world.specs.Packets.{node_of, receiver_in, message_of, message_in, is_cut_in}
 use Rattle.world.specs.Telling.{told_frame, HadMemory}
-use Rattle.world.specs.Standing.{mode_by, IsNode, AreNodes, Shows}
-use Rattle.world.proofs.Moving.{fate_fares}
-use Rattle.world.proofs.Commands.{frames_told, Commanded, mid_command, inv_command, pay_command}
-use Rattle.world.proofs.AtCommands.{some_get, rests, mid_down, back_down, at_mid_down, at_back_down}
+use Rattle.world.specs.Standing.{AreNodes, Shows, Makes, PlaysBy}
+use Rattle.world.proofs.Moving.{Faring}
+use Rattle.world.proofs.Commands.{frames_told, Commanded, UpAt, mid_by, inv_by, pay_by}
+use Rattle.world.proofs.AtCommands.{rests, mid_stays, back_stays}
+use Rattle.world.proofs.Playing.{if_can}
+use Rattle.world.proofs.Present.{node_up}
 
 -- AT A NODE THAT IS UP
 
-pub arrive_by : (u depth : ℕ) (w : BookingWorld) (old new : Nodes) (n : NodeId) (k : ℕ) (from : End) (message : Msg) (after : List (End × List ℕ)) (result : Result Answer Fault) (t : Tier) → AreNodes u depth w old → n.index < 2 * u + 1 → up_in old t n.index ≡ true
-    → MoveIn old new t n.index [] after (λ m σ. mids.on_frame m.faults booking_service m.me σ from message) (λ b σ. backs.on_frame b.faults booking_service b.tier b.me σ from message) result → HadMemory result
-    → Commanded u depth w (worlds.node_gets (config u depth) w Fine from message t n.index) new after (texts.node_frame_text (config u depth) w k Fine from message n t) (told_frame n result)
-arrive_by u depth w old new n k from message after result MidTier a l up move memory =
-    mid_command u depth w old new n after (λ m σ. mids.on_frame m.faults booking_service m.me σ from message) (λ b σ. backs.on_frame b.faults booking_service b.tier b.me σ from message) (λ σ. mids.on_frame u booking_service n.index σ from message) result (fate (config u depth) Fine)
-    (texts.frames_text (config u depth) n k Fine (w.mids n.index) (λ σ. mids.on_frame u booking_service n.index σ from message)) (told_frame n result) a l up move
-    (λ m e f. λ i σ. mids.on_frame (e i) booking_service (f i) σ from message) memory (λ σ. fate_fares u depth (w.mids n.index).records (mids.on_frame u booking_service n.index σ from message)) (λ σ h. frames_told u depth n (w.mids n.index).records (mids.on_frame u booking_service n.index σ from message) result h)
-arrive_by u depth w old new n k from message after result Inv a l up move memory =
-    inv_command u depth w old new n after (λ m σ. mids.on_frame m.faults booking_service m.me σ from message) (λ b σ. backs.on_frame b.faults booking_service b.tier b.me σ from message) (λ σ. backs.on_frame u booking_service Inv n.index σ from message) result (fate (config u depth) Fine)
-    (texts.frames_text (config u depth) n k Fine (w.backs Inv n.index) (λ σ. backs.on_frame u booking_service Inv n.index σ from message)) (told_frame n result) a l up move
-    (λ b e t f. λ i σ. backs.on_frame (e i) booking_service (t i) (f i) σ from message) memory (λ σ. fate_fares u depth (w.backs Inv n.index).records (backs.on_frame u booking_service Inv n.index σ from message)) (λ σ h. frames_told u depth n (w.backs Inv n.index).records (backs.on_frame u booking_service Inv n.index σ from message) result h)
-arrive_by u depth w old new n k from message after result Pay a l up move memory =
-    pay_command u depth w old new n after (λ m σ. mids.on_frame m.faults booking_service m.me σ from message) (λ b σ. backs.on_frame b.faults booking_service b.tier b.me σ from message) (λ σ. backs.on_frame u booking_service Pay n.index σ from message) result (fate (config u depth) Fine)
-    (texts.frames_text (config u depth) n k Fine (w.backs Pay n.index) (λ σ. backs.on_frame u booking_service Pay n.index σ from message)) (told_frame n result) a l up move
-    (λ b e t f. λ i σ. backs.on_frame (e i) booking_service (t i) (f i) σ from message) memory (λ σ. fate_fares u depth (w.backs Pay n.index).records (backs.on_frame u booking_service Pay n.index σ from message)) (λ σ h. frames_told u depth n (w.backs Pay n.index).records (backs.on_frame u booking_service Pay n.index σ from message) result h)
+pub arrive_by : (u depth : ℕ) (w : BookingWorld) (old new : Nodes) (n : NodeId) (k : ℕ) (from : End) (message : Msg) (stop : Option StopAt) (disks : List DiskState) (disk disk_after : DiskState) (after : List (End × List ℕ)) (result : Result Answer NodeFault) (met : Bool) (t : Tier) → UpAt u depth w old t n.index disks disk → CanStop stop → HadMemory result
+    → Called old new t n.index stop disk disk_after [] after (λ m σ. mids.on_frame m.faults booking_service m.me σ from message) (λ b σ. backs.on_frame b.faults booking_service b.tier b.me σ from message) result met
+    → Commanded u depth w (worlds.node_gets (config u depth) w (fared_by stop met result) from message t n.index) new (slice_set disks (first_of t + n.index) disk_after) after (texts.node_frame_text (config u depth) w k (fared_by stop met result) from message n t) (told_frame n met result) × Faring (asked_of stop) (fared_by stop met result) disk disk_after
+arrive_by u depth w old new n k from message stop disks disk disk_after after result met MidTier h stops memory c =
+    mid_by u depth w old new n.index stop disks disk disk_after after (λ m σ. mids.on_frame m.faults booking_service m.me σ from message) (λ b σ. backs.on_frame b.faults booking_service b.tier b.me σ from message) (λ σ. mids.on_frame u booking_service n.index σ from message) result met (texts.frames_text (config u depth) n k (fared_by stop met result) (w.mids n.index) (λ σ. mids.on_frame u booking_service n.index σ from message)) (told_frame n met result) h stops memory
+    (λ m e f. λ i σ. mids.on_frame (e i) booking_service (f i) σ from message) c (λ σ h. frames_told u depth n (w.mids n.index).records (fared_by stop met result) met (mids.on_frame u booking_service n.index σ from message) result h)
+arrive_by u depth w old new n k from message stop disks disk disk_after after result met Inv h stops memory c =
+    inv_by u depth w old new n.index stop disks disk disk_after after (λ m σ. mids.on_frame m.faults booking_service m.me σ from message) (λ b σ. backs.on_frame b.faults booking_service b.tier b.me σ from message) (λ σ. backs.on_frame u booking_service Inv n.index σ from message) result met (texts.frames_text (config u depth) n k (fared_by stop met result) (w.backs Inv n.index) (λ σ. backs.on_frame u booking_service Inv n.index σ from message)) (told_frame n met result) h stops memory
+    (λ b e t f. λ i σ. backs.on_frame (e i) booking_service (t i) (f i) σ from message) c (λ σ h. frames_told u depth n (w.backs Inv n.index).records (fared_by stop met result) met (backs.on_frame u booking_service Inv n.index σ from message) result h)
+arrive_by u depth w old new n k from message stop disks disk disk_after after result met Pay h stops memory c =
+    pay_by u depth w old new n.index stop disks disk disk_after after (λ m σ. mids.on_frame m.faults booking_service m.me σ from message) (λ b σ. backs.on_frame b.faults booking_service b.tier b.me σ from message) (λ σ. backs.on_frame u booking_service Pay n.index σ from message) result met (texts.frames_text (config u depth) n k (fared_by stop met result) (w.backs Pay n.index) (λ σ. backs.on_frame u booking_service Pay n.index σ from message)) (told_frame n met result) h stops memory
+    (λ b e t f. λ i σ. backs.on_frame (e i) booking_service (t i) (f i) σ from message) c (λ σ h. frames_told u depth n (w.backs Pay n.index).records (fared_by stop met result) met (backs.on_frame u booking_service Pay n.index σ from message) result h)
 
--- AT A NODE THAT IS DOWN
+-- AT A NODE THAT ISN'T UP
 
-pub lost_by : (u depth : ℕ) (w : BookingWorld) (nodes : Nodes) (n : NodeId) (k : ℕ) (from : End) (message : Msg) (t : Tier) → AreNodes u depth w nodes → n.index < 2 * u + 1 → up_in nodes t n.index ≡ false
-    → Commanded u depth w (worlds.node_gets (config u depth) w Fine from message t n.index) nodes [] (texts.node_frame_text (config u depth) w k Fine from message n t) (texts.lost_line k)
-lost_by u depth w nodes n k from message MidTier a l e =
+lost : {S : Type 0} (u depth : ℕ) (n : NodeId) (k : ℕ) (fared : Fared) (node : NodeOf S Fact) (row : S → Move S) (m : Mode S) → resolving.is_up m ≡ false → texts.frames_text (config u depth) n k fared node row m ≡ texts.lost_line k
+lost u depth n k fared node row (Up s) e = absurd (cc)
+lost u depth n k fared node row Down e = refl
+lost u depth n k fared node row Gone e = refl
+
+pub lost_by : (u depth : ℕ) (w : BookingWorld) (nodes : Nodes) (n : NodeId) (k : ℕ) (fared : Fared) (from : End) (message : Msg) (disks : List DiskState) (t : Tier) → AreNodes u depth w nodes → AreDisks w disks → n.index < 2 * u + 1 → up_in nodes t n.index ≡ false
+    → Commanded u depth w (worlds.node_gets (config u depth) w fared from message t n.index) nodes disks [] (texts.node_frame_text (config u depth) w k fared from message n t) (texts.lost_line k)
+lost_by u depth w nodes n k fared from message disks MidTier a on l e =
     let row : Mid → Move Mid = λ σ. mids.on_frame u booking_service n.index σ from message in
-    let down = mid_down u depth n.index w.mids nodes.mids.items a.mids l e in
-    subst (λ z. Commanded u depth w z nodes [] (texts.frames_text (config u depth) n k Fine (w.mids n.index) row (w.mids n.index).mode) (texts.lost_line k)) (sym (at_mid_down u depth w n.index (fate (config u depth) Fine) row l down))
-    (rests u depth w nodes _ _ a (ap (texts.frames_text (config u depth) n k Fine (w.mids n.index) row) down))
-lost_by u depth w nodes n k from message Inv a l e =
+    let absent : resolving.is_up (w.mids n.index).mode ≡ false = sym (node_up u depth w nodes MidTier n.index a l) ∙ e in
+    subst (λ z. Commanded u depth w z nodes disks [] (texts.frames_text (config u depth) n k fared (w.mids n.index) row (w.mids n.index).mode) (texts.lost_line k)) (sym (mid_stays u depth w n.index (fate (config u depth) fared) row absent))
+    (rests u depth w nodes disks _ _ a on (lost u depth n k fared (w.mids n.index) row (w.mids n.index).mode absent))
+lost_by u depth w nodes n k fared from message disks Inv a on l e =
     let row : Back Amounts → Move (Back Amounts) = λ σ. backs.on_frame u booking_service Inv n.index σ from message in
-    let down = back_down u n.index Inv (w.backs Inv) nodes.invs.items a.invs l e in
-    subst (λ z. Commanded u depth w z nodes [] (texts.frames_text (config u depth) n k Fine (w.backs Inv n.index) row (w.backs Inv n.index).mode) (texts.lost_line k)) (sym (at_back_down u depth w Inv n.index (fate (config u depth) Fine) row l down))
-    (rests u depth w nodes _ _ a (ap (texts.frames_text (config u depth) n k Fine (w.backs Inv n.index) row) down))
-lost_by u depth w nodes n k from message Pay a l e =
+    let absent : resolving.is_up (w.backs Inv n.index).mode ≡ false = sym (node_up u depth w nodes Inv n.index a l) ∙ e in
+    subst (λ z. Commanded u depth w z nodes disks [] (texts.frames_text (config u depth) n k fared (w.backs Inv n.index) row (w.backs Inv n.index).mode) (texts.lost_line k)) (sym (back_stays u depth w Inv n.index (fate (config u depth) fared) row absent))
+    (rests u depth w nodes disks _ _ a on (lost u depth n k fared (w.backs Inv n.index) row (w.backs Inv n.index).mode absent))
+lost_by u depth w nodes n k fared from message disks Pay a on l e =
     let row : Back Amounts → Move (Back Amounts) = λ σ. backs.on_frame u booking_service Pay n.index σ from message in
-    let down = back_down u n.index Pay (w.backs Pay) nodes.pays.items a.pays l e in
-    subst (λ z. Commanded u depth w z nodes [] (texts.frames_text (config u depth) n k Fine (w.backs Pay n.index) row (w.backs Pay n.index).mode) (texts.lost_line k)) (sym (at_back_down u depth w Pay n.index (fate (config u depth) Fine) row l down))
-    (rests u depth w nodes _ _ a (ap (texts.frames_text (config u depth) n k Fine (w.backs Pay n.index) row) down))
+    let absent : resolving.is_up (w.backs Pay n.index).mode ≡ false = sym (node_up u depth w nodes Pay n.index a l) ∙ e in
+    subst (λ z. Commanded u depth w z nodes disks [] (texts.frames_text (config u depth) n k fared (w.backs Pay n.index) row (w.backs Pay n.index).mode) (texts.lost_line k)) (sym (back_stays u depth w Pay n.index (fate (config u depth) fared) row absent))
+    (rests u depth w nodes disks _ _ a on (lost u depth n k fared (w.backs Pay n.index) row (w.backs Pay n.index).mode absent))
 
 -- PACKETS
 
@@ -118,6 +129,10 @@ addressed u depth w parts i n s e = go (slice_get w.soup i) refl
         let r : Reaches u k.from (Node n) k.message = subst (λ z. Reaches u k.from z k.message) t (s.reach i k f) in
         record { packet = k; is = f; to = t; there = r.0; reach = r.1; says = ap message_in (at (Some k) f) ∙ ap message_of (frame_again k.from k.message (s.fit i k f)) }
 
+-- its disk is the node's
+pub place_is : (u : ℕ) (w : BookingWorld) (parts : Parts) (i : ℕ) (n : NodeId) (a : Addressed u w parts i n) → place_of_packet (slice_get w.soup i) ≡ Some (place_of n)
+place_is u w parts i n a = ap place_of_packet a.is ∙ ap place_of_end a.to
+
 -- what is found in a packet
 pub found_is : (o : Option (Header × Msg)) (h : Header) (m : Msg) (k : Packet) → o ≡ Some (h, m) → o ≡ Some (header_for k.from k.message, k.message) → (k.from ≡ h.from) × (k.message ≡ m)
 found_is o h m k e f =
@@ -143,113 +158,124 @@ reaches_at u depth w nodes n from message MidTier k r = λ m e. subst (λ z. Can
 reaches_at u depth w nodes n from message Inv k r = λ b e. subst (λ z. CanReach z from b.tier message) (sym (k.invs.each n.index b e).faults) (subst (λ z. CanReach u from z message) (sym (k.invs.each n.index b e).tier) r)
 reaches_at u depth w nodes n from message Pay k r = λ b e. subst (λ z. CanReach z from b.tier message) (sym (k.pays.each n.index b e).faults) (subst (λ z. CanReach u from z message) (sym (k.pays.each n.index b e).tier) r)
 
--- the node is one of its tier
-pub has_node : (u depth : ℕ) (w : BookingWorld) (nodes : Nodes) (n : NodeId) (t : Tier) → AreNodes u depth w nodes → n.index < 2 * u + 1 → n.index < size_of nodes t
-has_node u depth w nodes n MidTier k l = omega (arith, k.mids.size, l)
-has_node u depth w nodes n Inv k l = omega (arith, k.invs.size, l)
-has_node u depth w nodes n Pay k l = omega (arith, k.pays.size, l)
-
 -- THE EVENT
 
-pub deliver_none : (u depth : ℕ) (w : BookingWorld) (nodes : Nodes) (k : ℕ) → AreNodes u depth w nodes → slice_get w.soup k ≡ None → Commanded u depth w (happens (config u depth) w (events.Deliver k Fine)) nodes [] (own_text (config u depth) w (events.Deliver k Fine)) (texts.none_line k)
-deliver_none u depth w nodes k a e =
-    subst (λ z. Commanded u depth w (worlds.delivered (config u depth) w Fine z) nodes [] (texts.delivers_text (config u depth) w k Fine z) (texts.none_line k)) (sym e) (rests u depth w nodes (texts.none_line k) (texts.none_line k) a refl)
+pub deliver_none : (u depth : ℕ) (w : BookingWorld) (nodes : Nodes) (k : ℕ) (fared : Fared) (disks : List DiskState) → can_fare fared ≡ true → AreNodes u depth w nodes → AreDisks w disks → slice_get w.soup k ≡ None
+    → Commanded u depth w (happens (config u depth) w (events.Deliver k fared)) nodes disks [] (own_text (config u depth) w (events.Deliver k fared)) (texts.none_line k)
+deliver_none u depth w nodes k fared disks can a on e =
+    if_can u depth w _ nodes disks [] fared _ (texts.none_line k) can
+    (subst (λ z. Commanded u depth w (worlds.delivered (config u depth) w fared z) nodes disks [] (texts.delivers_text (config u depth) w k fared z) (texts.none_line k)) (sym e) (rests u depth w nodes disks (texts.none_line k) (texts.none_line k) a on refl))
 
 -- what the event of a packet comes to is what its arrival comes to
-at_receiver : (u depth : ℕ) (w : BookingWorld) (nodes : Nodes) (k : ℕ) (n : NodeId) (packet : Packet) (after : List (End × List ℕ)) (told : List ℕ) → slice_get w.soup k ≡ Some packet → packet.to ≡ Node n
-    → Commanded u depth w (worlds.node_gets (config u depth) w Fine packet.from packet.message n.tier n.index) nodes after (texts.node_frame_text (config u depth) w k Fine packet.from packet.message n n.tier) told
-    → Commanded u depth w (happens (config u depth) w (events.Deliver k Fine)) nodes after (own_text (config u depth) w (events.Deliver k Fine)) told
-at_receiver u depth w nodes k n packet after told e t h =
-    subst (λ z. Commanded u depth w (worlds.delivered (config u depth) w Fine z) nodes after (texts.delivers_text (config u depth) w k Fine z) told) (sym e)
-    (subst (λ z. Commanded u depth w (worlds.arrives (config u depth) w Fine packet.from packet.message z) nodes after (texts.arrives_text (config u depth) w k Fine packet z) told) (sym t) h)
+at_receiver : (u depth : ℕ) (w : BookingWorld) (nodes : Nodes) (k : ℕ) (fared : Fared) (n : NodeId) (packet : Packet) (disks : List DiskState) (after : List (End × List ℕ)) (told : List ℕ) → can_fare fared ≡ true → slice_get w.soup k ≡ Some packet → packet.to ≡ Node n
+    → Commanded u depth w (worlds.node_gets (config u depth) w fared packet.from packet.message n.tier n.index) nodes disks after (texts.node_frame_text (config u depth) w k fared packet.from packet.message n n.tier) told
+    → Commanded u depth w (happens (config u depth) w (events.Deliver k fared)) nodes disks after (own_text (config u depth) w (events.Deliver k fared)) told
+at_receiver u depth w nodes k fared n packet disks after told can e t h =
+    if_can u depth w _ nodes disks after fared _ told can
+    (subst (λ z. Commanded u depth w (worlds.delivered (config u depth) w fared z) nodes disks after (texts.delivers_text (config u depth) w k fared z) told) (sym e)
+    (subst (λ z. Commanded u depth w (worlds.arrives (config u depth) w fared packet.from packet.message z) nodes disks after (texts.arrives_text (config u depth) w k fared packet z) told) (sym t) h))
 
-pub deliver_lost : (u depth : ℕ) (w : BookingWorld) (parts : Parts) (k : ℕ) (n : NodeId) → Shows u depth w parts → Addressed u w parts k n → up_in parts.nodes n.tier n.index ≡ false
-    → Commanded u depth w (happens (config u depth) w (events.Deliver k Fine)) parts.nodes [] (own_text (config u depth) w (events.Deliver k Fine)) (texts.lost_line k)
-deliver_lost u depth w parts k n s a e = at_receiver u depth w parts.nodes k n a.packet [] (texts.lost_line k) a.is a.to (lost_by u depth w parts.nodes n k a.packet.from a.packet.message n.tier s.nodes a.there e)
+pub deliver_lost : (u depth : ℕ) (w : BookingWorld) (parts : Parts) (k : ℕ) (fared : Fared) (n : NodeId) (disks : List DiskState) → can_fare fared ≡ true → Shows u depth w parts → AreDisks w disks → Addressed u w parts k n → up_in parts.nodes n.tier n.index ≡ false
+    → Commanded u depth w (happens (config u depth) w (events.Deliver k fared)) parts.nodes disks [] (own_text (config u depth) w (events.Deliver k fared)) (texts.lost_line k)
+deliver_lost u depth w parts k fared n disks can s on a e = at_receiver u depth w parts.nodes k fared n a.packet disks [] (texts.lost_line k) can a.is a.to (lost_by u depth w parts.nodes n k fared a.packet.from a.packet.message disks n.tier s.nodes on a.there e)
 
-pub deliver_done : (u depth : ℕ) (w : BookingWorld) (parts : Parts) (new : Nodes) (k : ℕ) (n : NodeId) (from : End) (message : Msg) (after : List (End × List ℕ)) (result : Result Answer Fault) → Shows u depth w parts → (a : Addressed u w parts k n) → a.packet.from ≡ from → a.packet.message ≡ message → up_in parts.nodes n.tier n.index ≡ true
-    → MoveIn parts.nodes new n.tier n.index [] after (λ m σ. mids.on_frame m.faults booking_service m.me σ from message) (λ b σ. backs.on_frame b.faults booking_service b.tier b.me σ from message) result → HadMemory result
-    → Commanded u depth w (happens (config u depth) w (events.Deliver k Fine)) new after (own_text (config u depth) w (events.Deliver k Fine)) (told_frame n result)
-deliver_done u depth w parts new k n from message after result s a f g up move memory =
-    at_receiver u depth w new k n a.packet after (told_frame n result) a.is a.to
-    (subst (λ z. Commanded u depth w (worlds.node_gets (config u depth) w Fine z a.packet.message n.tier n.index) new after (texts.node_frame_text (config u depth) w k Fine z a.packet.message n n.tier) (told_frame n result)) (sym f)
-    (subst (λ z. Commanded u depth w (worlds.node_gets (config u depth) w Fine from z n.tier n.index) new after (texts.node_frame_text (config u depth) w k Fine from z n n.tier) (told_frame n result)) (sym g)
-    (arrive_by u depth w parts.nodes new n k from message after result n.tier s.nodes a.there up move memory)))
+pub deliver_done : (u depth : ℕ) (w : BookingWorld) (parts : Parts) (new : Nodes) (k : ℕ) (n : NodeId) (from : End) (message : Msg) (stop : Option StopAt) (disks : List DiskState) (disk disk_after : DiskState) (after : List (End × List ℕ)) (result : Result Answer NodeFault) (met : Bool) → (a : Addressed u w parts k n) → a.packet.from ≡ from → a.packet.message ≡ message
+    → UpAt u depth w parts.nodes n.tier n.index disks disk → CanStop stop → HadMemory result → Called parts.nodes new n.tier n.index stop disk disk_after [] after (λ m σ. mids.on_frame m.faults booking_service m.me σ from message) (λ b σ. backs.on_frame b.faults booking_service b.tier b.me σ from message) result met
+    → Commanded u depth w (happens (config u depth) w (events.Deliver k (fared_by stop met result))) new (slice_set disks (first_of n.tier + n.index) disk_after) after (own_text (config u depth) w (events.Deliver k (fared_by stop met result))) (told_frame n met result) × Faring (asked_of stop) (fared_by stop met result) disk disk_after
+deliver_done u depth w parts new k n from message stop disks disk disk_after after result met a f g up stops memory c =
+    let r = arrive_by u depth w parts.nodes new n k from message stop disks disk disk_after after result met n.tier up stops memory c in (
+      at_receiver u depth w new k (fared_by stop met result) n a.packet (slice_set disks (first_of n.tier + n.index) disk_after) after (told_frame n met result) r.1.can a.is a.to
+          (subst (λ z. Commanded u depth w (worlds.node_gets (config u depth) w (fared_by stop met result) z a.packet.message n.tier n.index) new (slice_set disks (first_of n.tier + n.index) disk_after) after (texts.node_frame_text (config u depth) w k (fared_by stop met result) z a.packet.message n n.tier) (told_frame n met result)) (sym f)
+          (subst (λ z. Commanded u depth w (worlds.node_gets (config u depth) w (fared_by stop met result) from z n.tier n.index) new (slice_set disks (first_of n.tier + n.index) disk_after) after (texts.node_frame_text (config u depth) w k (fared_by stop met result) from z n n.tier) (told_frame n met result)) (sym g) r.0)),
+      r.1,
+    )
 
 -- A PACKET THAT IS CUT SHORT
 
 length_is : (u depth : ℕ) (w : BookingWorld) (parts : Parts) (i : ℕ) (k : Packet) → Shows u depth w parts → slice_get w.soup i ≡ Some k → slice_get parts.soup i ≡ Some (sealed k)
 length_is u depth w parts i k s e = ap (λ z. slice_get z i) s.soup ∙ get_sealed w.soup i (Some k) e
 
--- one that isn't cut is delivered
-pub short_whole : (u depth : ℕ) (w : BookingWorld) (parts : Parts) (i bytes : ℕ) → Shows u depth w parts → is_cut_in (slice_get parts.soup i) bytes ≡ false
-    → (happens (config u depth) w (events.Short i bytes Fine) ≡ happens (config u depth) w (events.Deliver i Fine)) × (own_text (config u depth) w (events.Short i bytes Fine) ≡ own_text (config u depth) w (events.Deliver i Fine))
-short_whole u depth w parts i bytes s e = go (slice_get w.soup i) refl
+-- one that isn't cut is delivered, however it fares
+pub short_whole : (u depth : ℕ) (w : BookingWorld) (parts : Parts) (i bytes : ℕ) (fared : Fared) → Shows u depth w parts → is_cut_in (slice_get parts.soup i) bytes ≡ false
+    → (happens (config u depth) w (events.Short i bytes fared) ≡ happens (config u depth) w (events.Deliver i fared)) × (own_text (config u depth) w (events.Short i bytes fared) ≡ own_text (config u depth) w (events.Deliver i fared))
+short_whole u depth w parts i bytes fared s e =
+    let r = go (slice_get w.soup i) refl in
+    (ap (λ z. worlds.if_can fared z w) r.0, ap (texts.if_can fared) r.1)
   where
-    same : (o : Option Packet) → slice_get w.soup i ≡ o → (worlds.shortened (config u depth) w Fine bytes o ≡ worlds.delivered (config u depth) w Fine o) × (texts.shorts_text (config u depth) w i bytes Fine o ≡ texts.delivers_text (config u depth) w i Fine o)
-    same None f = (refl, refl)
-    same (Some k) f =
-        let g : nat_lt bytes (length (frame k.from k.message)) ≡ false = sym (ap (λ z. is_cut_in z bytes) (length_is u depth w parts i k s f)) ∙ e in
-        let l : length (frame k.from k.message) ≤ bytes = ltb-false bytes (length (frame k.from k.message)) g in
-        let t : nat_le (length (frame k.from k.message)) bytes ≡ true = le-leb (length (frame k.from k.message)) bytes l in
-        (cond-true (nat_le (length (frame k.from k.message)) bytes) _ w t, cond-true (nat_le (length (frame k.from k.message)) bytes) _ (texts.cut_short_text w i k.to) t)
+    go : (o : Option Packet) → slice_get w.soup i ≡ o → (worlds.shortened (config u depth) w fared bytes (slice_get w.soup i) ≡ worlds.delivered (config u depth) w fared (slice_get w.soup i)) × (texts.shorts_text (config u depth) w i bytes fared (slice_get w.soup i) ≡ texts.delivers_text (config u depth) w i fared (slice_get w.soup i))
+    go o f = subst (λ z. (worlds.shortened (config u depth) w fared bytes z ≡ worlds.delivered (config u depth) w fared z) × (texts.shorts_text (config u depth) w i bytes fared z ≡ texts.delivers_text (config u depth) w i fared z)) (sym f) (same o f)
+      where
+        same : (o : Option Packet) → slice_get w.soup i ≡ o → (worlds.shortened (config u depth) w fared bytes o ≡ worlds.delivered (config u depth) w fared o) × (texts.shorts_text (config u depth) w i bytes fared o ≡ texts.delivers_text (config u depth) w i fared o)
+        same None f = (refl, refl)
+        same (Some k) f =
+            let g : nat_lt bytes (length (frame k.from k.message)) ≡ false = sym (ap (λ z. is_cut_in z bytes) (length_is u depth w parts i k s f)) ∙ e in
+            let l : length (frame k.from k.message) ≤ bytes = ltb-false bytes (length (frame k.from k.message)) g in
+            let t : nat_le (length (frame k.from k.message)) bytes ≡ true = le-leb (length (frame k.from k.message)) bytes l in
+            (cond-true (nat_le (length (frame k.from k.message)) bytes) _ w t, cond-true (nat_le (length (frame k.from k.message)) bytes) _ (texts.cut_short_text w i k.to) t)
 
-    go : (o : Option Packet) → slice_get w.soup i ≡ o → (happens (config u depth) w (events.Short i bytes Fine) ≡ happens (config u depth) w (events.Deliver i Fine)) × (own_text (config u depth) w (events.Short i bytes Fine) ≡ own_text (config u depth) w (events.Deliver i Fine))
-    go o f = subst (λ z. (worlds.shortened (config u depth) w Fine bytes z ≡ worlds.delivered (config u depth) w Fine z) × (texts.shorts_text (config u depth) w i bytes Fine z ≡ texts.delivers_text (config u depth) w i Fine z)) (sym f) (same o f)
+short_cause : (w : BookingWorld) (before after : List DiskState) (i bytes : ℕ) (fared : Fared) → HasCause w before after (events.Deliver i fared) → HasCause w before after (events.Short i bytes fared)
+short_cause w before after i bytes fared h = h
 
 -- the same event, whatever it is called
-pub played_as : (c : Config Amounts) (w : BookingWorld) (new : Parts) (u depth : ℕ) (a b : TraceEvent) (before now : List ℕ) → happens c w a ≡ happens c w b → own_text c w a ≡ own_text c w b → Shows u depth (after c w b) new × (now ≡ before ++ event_text c w b) → Shows u depth (after c w a) new × (now ≡ before ++ event_text c w a)
-played_as c w new u depth a b before now e f h =
-    (subst (λ z. Shows u depth (grows c z) new) (sym e) h.0, h.1 ∙ ap (λ z. before ++ z) (sym ((λ i. f i ++ growth_text w (grows c (e i))))))
+pub short_makes : (u depth : ℕ) (w : BookingWorld) (old new : Parts) (disks_before disks_after : List DiskState) (before now : List ℕ) (i bytes : ℕ) (fared : Fared) → Shows u depth w old → is_cut_in (slice_get old.soup i) bytes ≡ false
+    → Makes new disks_before disks_after before now (events.Deliver i fared) u depth w → Makes new disks_before disks_after before now (events.Short i bytes fared) u depth w
+short_makes u depth w old new disks_before disks_after before now i bytes fared s e h =
+    let r = short_whole u depth w old i bytes fared s e in
+    record {
+      shows = subst (λ z. Shows u depth (grows (config u depth) z) new) (sym r.0) h.shows;
+      disks = subst (λ z. AreDisks (grows (config u depth) z) disks_after) (sym r.0) h.disks;
+      cause = short_cause w disks_before disks_after i bytes fared h.cause;
+      later = h.later;
+      finds = tt;
+      told = h.told ∙ ap (λ z. before ++ z) (sym (λ j. r.1 j ++ growth_text w (grows (config u depth) (r.0 j))));
+    }
 
-node_up : {S T : Type 0} (whole : S → T) (node : NodeOf T Fact) (part : NodePart S) → IsNode whole node part → is_up part ≡ true → (t : T) × (node.mode ≡ Up t)
-node_up {S} {T} whole node part k e = go part.mode refl e
-  where
-    go : (m : Mode S) → part.mode ≡ m → is_up_in m ≡ true → (t : T) × (node.mode ≡ Up t)
-    go (Up s) f e = (whole s, k.mode ∙ ap (mode_by whole) f)
-    go Down f e = absurd (cc)
-    go Gone f e = absurd (cc)
+pub short_plays : (old new : Parts) (disks_before disks_after : List DiskState) (before now : List ℕ) (i bytes : ℕ) (result : Result Fared Memory) → is_cut_in (slice_get old.soup i) bytes ≡ false
+    → PlaysBy old new disks_before disks_after before now (λ f. events.Deliver i f) Fine result → PlaysBy old new disks_before disks_after before now (λ f. events.Short i bytes f) Fine result
+short_plays old new disks_before disks_after before now i bytes (Ok fared) e h = (h.0, λ u depth w s d. short_makes u depth w old new disks_before disks_after before now i bytes fared s e (h.1 u depth w s d))
+short_plays old new disks_before disks_after before now i bytes (Err memory) e h = tt
 
 -- the node refuses it
+refusing : (n : NodeId) (k : ℕ) {S : Type 0} (m : Mode S) → resolving.is_up m ≡ true → texts.refuses_text k n m ≡ texts.drop_line (texts.node_name n) refusals.Short
+refusing n k (Up s) e = refl
+refusing n k Down e = absurd (cc)
+refusing n k Gone e = absurd (cc)
+
 refuses : (u depth : ℕ) (w : BookingWorld) (nodes : Nodes) (n : NodeId) (k : ℕ) (t : Tier) → AreNodes u depth w nodes → n.index < 2 * u + 1 → up_in nodes t n.index ≡ true → texts.node_refuses_text w k n t ≡ texts.drop_line (texts.node_name n) refusals.Short
-refuses u depth w nodes n k MidTier a l e =
-    let m = some_get nodes.mids.items n.index (omega (arith, a.mids.size, l)) in
-    let r = node_up _ (w.mids n.index) m.0.part (a.mids.each n.index m.0 m.1).part (sym (ap mid_up m.1) ∙ e) in
-    ap (texts.refuses_text k n) r.1
-refuses u depth w nodes n k Inv a l e =
-    let b = some_get nodes.invs.items n.index (omega (arith, a.invs.size, l)) in
-    let r = node_up _ (w.backs Inv n.index) b.0.part (a.invs.each n.index b.0 b.1).part (sym (ap back_up b.1) ∙ e) in
-    ap (texts.refuses_text k n) r.1
-refuses u depth w nodes n k Pay a l e =
-    let b = some_get nodes.pays.items n.index (omega (arith, a.pays.size, l)) in
-    let r = node_up _ (w.backs Pay n.index) b.0.part (a.pays.each n.index b.0 b.1).part (sym (ap back_up b.1) ∙ e) in
-    ap (texts.refuses_text k n) r.1
+refuses u depth w nodes n k MidTier a l e = refusing n k (w.mids n.index).mode (sym (node_up u depth w nodes MidTier n.index a l) ∙ e)
+refuses u depth w nodes n k Inv a l e = refusing n k (w.backs Inv n.index).mode (sym (node_up u depth w nodes Inv n.index a l) ∙ e)
+refuses u depth w nodes n k Pay a l e = refusing n k (w.backs Pay n.index).mode (sym (node_up u depth w nodes Pay n.index a l) ∙ e)
 
 -- or it is lost
-loses : (u depth : ℕ) (w : BookingWorld) (nodes : Nodes) (n : NodeId) (k : ℕ) (t : Tier) → AreNodes u depth w nodes → n.index < 2 * u + 1 → up_in nodes t n.index ≡ false → texts.node_refuses_text w k n t ≡ texts.lost_line k
-loses u depth w nodes n k MidTier a l e = ap (texts.refuses_text k n) (mid_down u depth n.index w.mids nodes.mids.items a.mids l e)
-loses u depth w nodes n k Inv a l e = ap (texts.refuses_text k n) (back_down u n.index Inv (w.backs Inv) nodes.invs.items a.invs l e)
-loses u depth w nodes n k Pay a l e = ap (texts.refuses_text k n) (back_down u n.index Pay (w.backs Pay) nodes.pays.items a.pays l e)
+losing : (n : NodeId) (k : ℕ) {S : Type 0} (m : Mode S) → resolving.is_up m ≡ false → texts.refuses_text k n m ≡ texts.lost_line k
+losing n k (Up s) e = absurd (cc)
+losing n k Down e = refl
+losing n k Gone e = refl
 
-short_cut : (u depth : ℕ) (w : BookingWorld) (parts : Parts) (i bytes : ℕ) (n : NodeId) (told : List ℕ) → Shows u depth w parts → is_cut_in (slice_get parts.soup i) bytes ≡ true → (a : Addressed u w parts i n) → texts.node_refuses_text w i n n.tier ≡ told
-    → Commanded u depth w (happens (config u depth) w (events.Short i bytes Fine)) parts.nodes [] (own_text (config u depth) w (events.Short i bytes Fine)) told
-short_cut u depth w parts i bytes n told s e a t =
+loses : (u depth : ℕ) (w : BookingWorld) (nodes : Nodes) (n : NodeId) (k : ℕ) (t : Tier) → AreNodes u depth w nodes → n.index < 2 * u + 1 → up_in nodes t n.index ≡ false → texts.node_refuses_text w k n t ≡ texts.lost_line k
+loses u depth w nodes n k MidTier a l e = losing n k (w.mids n.index).mode (sym (node_up u depth w nodes MidTier n.index a l) ∙ e)
+loses u depth w nodes n k Inv a l e = losing n k (w.backs Inv n.index).mode (sym (node_up u depth w nodes Inv n.index a l) ∙ e)
+loses u depth w nodes n k Pay a l e = losing n k (w.backs Pay n.index).mode (sym (node_up u depth w nodes Pay n.index a l) ∙ e)
+
+short_cut : (u depth : ℕ) (w : BookingWorld) (parts : Parts) (i bytes : ℕ) (n : NodeId) (disks : List DiskState) (told : List ℕ) → Shows u depth w parts → AreDisks w disks → is_cut_in (slice_get parts.soup i) bytes ≡ true → (a : Addressed u w parts i n) → texts.node_refuses_text w i n n.tier ≡ told
+    → Commanded u depth w (happens (config u depth) w (events.Short i bytes Fine)) parts.nodes disks [] (own_text (config u depth) w (events.Short i bytes Fine)) told
+short_cut u depth w parts i bytes n disks told s on e a t =
     let k = a.packet in
     let g : nat_lt bytes (length (frame k.from k.message)) ≡ true = sym (ap (λ z. is_cut_in z bytes) (length_is u depth w parts i k s a.is)) ∙ e in
     let l : bytes < length (frame k.from k.message) = ltb-true bytes (length (frame k.from k.message)) g in
     let f : nat_le (length (frame k.from k.message)) bytes ≡ false = lt-leb (length (frame k.from k.message)) bytes l in
     let world : worlds.shortened (config u depth) w Fine bytes (Some k) ≡ w = cond-false (nat_le (length (frame k.from k.message)) bytes) _ w f in
     let text : texts.shorts_text (config u depth) w i bytes Fine (Some k) ≡ told = cond-false (nat_le (length (frame k.from k.message)) bytes) _ (texts.cut_short_text w i k.to) f ∙ ap (texts.cut_short_text w i) a.to ∙ t in
-    subst (λ z. Commanded u depth w (worlds.shortened (config u depth) w Fine bytes z) parts.nodes [] (texts.shorts_text (config u depth) w i bytes Fine z) told) (sym a.is)
-    (subst (λ z. Commanded u depth w z parts.nodes [] (texts.shorts_text (config u depth) w i bytes Fine (Some k)) told) (sym world) (rests u depth w parts.nodes _ told s.nodes text))
+    subst (λ z. Commanded u depth w (worlds.shortened (config u depth) w Fine bytes z) parts.nodes disks [] (texts.shorts_text (config u depth) w i bytes Fine z) told) (sym a.is)
+    (subst (λ z. Commanded u depth w z parts.nodes disks [] (texts.shorts_text (config u depth) w i bytes Fine (Some k)) told) (sym world) (rests u depth w parts.nodes disks _ told s.nodes on text))
 
-pub short_refused : (u depth : ℕ) (w : BookingWorld) (parts : Parts) (i bytes : ℕ) (n : NodeId) → Shows u depth w parts → is_cut_in (slice_get parts.soup i) bytes ≡ true → Addressed u w parts i n → up_in parts.nodes n.tier n.index ≡ true
-    → Commanded u depth w (happens (config u depth) w (events.Short i bytes Fine)) parts.nodes [] (own_text (config u depth) w (events.Short i bytes Fine)) (texts.drop_line (texts.node_name n) refusals.Short)
-short_refused u depth w parts i bytes n s e a up = short_cut u depth w parts i bytes n _ s e a (refuses u depth w parts.nodes n i n.tier s.nodes a.there up)
+pub short_refused : (u depth : ℕ) (w : BookingWorld) (parts : Parts) (i bytes : ℕ) (n : NodeId) (disks : List DiskState) → Shows u depth w parts → AreDisks w disks → is_cut_in (slice_get parts.soup i) bytes ≡ true → Addressed u w parts i n → up_in parts.nodes n.tier n.index ≡ true
+    → Commanded u depth w (happens (config u depth) w (events.Short i bytes Fine)) parts.nodes disks [] (own_text (config u depth) w (events.Short i bytes Fine)) (texts.drop_line (texts.node_name n) refusals.Short)
+short_refused u depth w parts i bytes n disks s on e a up = short_cut u depth w parts i bytes n disks _ s on e a (refuses u depth w parts.nodes n i n.tier s.nodes a.there up)
 
-pub short_lost : (u depth : ℕ) (w : BookingWorld) (parts : Parts) (i bytes : ℕ) (n : NodeId) → Shows u depth w parts → is_cut_in (slice_get parts.soup i) bytes ≡ true → Addressed u w parts i n → up_in parts.nodes n.tier n.index ≡ false
-    → Commanded u depth w (happens (config u depth) w (events.Short i bytes Fine)) parts.nodes [] (own_text (config u depth) w (events.Short i bytes Fine)) (texts.lost_line i)
-short_lost u depth w parts i bytes n s e a down = short_cut u depth w parts i bytes n _ s e a (loses u depth w parts.nodes n i n.tier s.nodes a.there down)
+pub short_lost : (u depth : ℕ) (w : BookingWorld) (parts : Parts) (i bytes : ℕ) (n : NodeId) (disks : List DiskState) → Shows u depth w parts → AreDisks w disks → is_cut_in (slice_get parts.soup i) bytes ≡ true → Addressed u w parts i n → up_in parts.nodes n.tier n.index ≡ false
+    → Commanded u depth w (happens (config u depth) w (events.Short i bytes Fine)) parts.nodes disks [] (own_text (config u depth) w (events.Short i bytes Fine)) (texts.lost_line i)
+short_lost u depth w parts i bytes n disks s on e a down = short_cut u depth w parts i bytes n disks _ s on e a (loses u depth w parts.nodes n i n.tier s.nodes a.there down)
 
 -- a packet that is cut short goes to a node
 pub cut_goes : (u depth : ℕ) (w : BookingWorld) (parts : Parts) (i bytes : ℕ) → Shows u depth w parts → is_cut_in (slice_get parts.soup i) bytes ≡ true → receiver_in (slice_get parts.soup i) ≡ None → ⊥

@@ -1,25 +1,18 @@
 -- The next packet of `flow`.
-use Rattle.std.proofs.Common.{◌≡◌, ℕ, ◌+◌, ◌*◌, ◌<◌, ◌≤◌, true, false, cond, List, [], ◌∷◌, refl, sym, ap, ◌∙◌, length, arith, drop, Option, Some, None, zero, suc}
+use Rattle.std.proofs.Common.{◌≡◌, ℕ, ◌+◌, ◌<◌, ◌≤◌, true, false, cond, List, [], ◌∷◌, refl, sym, ap, ◌∙◌, length, arith, drop, Option, Some, None, zero, suc}
 use Rattle.std.specs.Prelude.{slice_get, map}
 use Rattle.std.proofs.lemmas.Bool.{cond-true, cond-false}
-use Rattle.aeg_base.specs.declared.names.Tier.{Tier}
-use Rattle.aeg_base.specs.declared.names.Tier.TheVariants.{Mid as MidTier, Inv, Pay}
 use Rattle.aeg_base.specs.declared.names.End.{End}
 use Rattle.aeg_base.specs.declared.names.End.TheVariants.{Node, Client}
-use Rattle.log_model.specs.World.{Mode, Node as NodeOf}
-use Rattle.log_model.specs.World.Mode.{Up, Down, Gone}
-use Rattle.log_values.specs.declared.fact.Fact.{Fact}
 use Rattle.tier_model.specs.Moves.{Packet}
 use Rattle.run_model.specs.BookingRuns.{BookingWorld}
-use Rattle.run_model.specs.Resolving as resolving
-use Rattle.run_model.specs.Resolving.{is_node_up, is_there, first_to, next_packet}
+use Rattle.run_model.specs.Resolving.{is_there, first_to, next_packet}
 use Rattle.world.specs.declared.nodes.all_nodes.Nodes.{Nodes}
 use Rattle.world.specs.declared.parts.Parts.{Parts}
-use Rattle.world.specs.NodeLists.{mid_up, back_up, up_in}
 use Rattle.world.specs.Packets.{is_there_in, is_taken_in}
-use Rattle.world.specs.Parts.{NodePart, Reaches, AllReach, is_up, is_up_in, sealed}
-use Rattle.world.specs.Standing.{mode_by, IsNode, AreNodes, Shows}
-use Rattle.world.proofs.AtCommands.{some_get}
+use Rattle.world.specs.Parts.{Reaches, AllReach, sealed}
+use Rattle.world.specs.Standing.{AreNodes, Shows}
+use Rattle.world.proofs.Present.{node_up}
 
 -- the number of the first of these, counted from k, that goes to somebody who is there
 abbrev pub first_in : Nodes → ℕ → List (End × List ℕ) → Option ℕ
@@ -46,25 +39,6 @@ first_none nodes k zero (packet ∷ packets) l = absurd (omega arith)
 first_none nodes k (suc i) (packet ∷ packets) l = first_none nodes k i packets (omega arith)
 
 -- WHO IS THERE
-
-mode_up : {S T : Type 0} (whole : S → T) (m : Mode S) → is_up_in m ≡ resolving.is_up (mode_by whole m)
-mode_up whole (Up s) = refl
-mode_up whole Down = refl
-mode_up whole Gone = refl
-
-part_up : {S T : Type 0} (whole : S → T) (node : NodeOf T Fact) (part : NodePart S) → IsNode whole node part → is_up part ≡ resolving.is_up node.mode
-part_up whole node part k = mode_up whole part.mode ∙ ap resolving.is_up (sym k.mode)
-
-node_up : (u depth : ℕ) (w : BookingWorld) (nodes : Nodes) (t : Tier) (x : ℕ) → AreNodes u depth w nodes → x < 2 * u + 1 → up_in nodes t x ≡ is_node_up w t x
-node_up u depth w nodes MidTier x k l =
-    let m = some_get nodes.mids.items x (omega (arith, k.mids.size, l)) in
-    ap mid_up m.1 ∙ part_up _ (w.mids x) m.0.part (k.mids.each x m.0 m.1).part
-node_up u depth w nodes Inv x k l =
-    let b = some_get nodes.invs.items x (omega (arith, k.invs.size, l)) in
-    ap back_up b.1 ∙ part_up _ (w.backs Inv x) b.0.part (k.invs.each x b.0 b.1).part
-node_up u depth w nodes Pay x k l =
-    let b = some_get nodes.pays.items x (omega (arith, k.pays.size, l)) in
-    ap back_up b.1 ∙ part_up _ (w.backs Pay x) b.0.part (k.pays.each x b.0 b.1).part
 
 there_is : (u depth : ℕ) (w : BookingWorld) (nodes : Nodes) (packet : Packet) (to : End) → AreNodes u depth w nodes → Reaches u packet.from to packet.message → is_there_in nodes to ≡ is_there w to
 there_is u depth w nodes packet (Node n) k r = node_up u depth w nodes n.tier n.index k r.0

@@ -1,15 +1,17 @@
 -- The rows of a middle node while nothing is run are those of its log and its pending entries.
-use Rattle.std.proofs.Common.{◌≡◌, ℕ, ◌+◌, ◌*◌, ◌<◌, ◌≤◌, Bool, true, false, cond, List, [], ◌∷◌, ◌++◌, length, map, replicate, refl, sym, ap, ◌∙◌, subst, arith, Option, Some, None, Result, Ok, Err, suc}
+use Rattle.std.proofs.Common.{◌≡◌, ℕ, ◌+◌, ◌*◌, ◌<◌, ◌≤◌, Bool, true, false, cond, List, [], ◌∷◌, ◌++◌, length, map, refl, sym, ap, ◌∙◌, subst, arith, Option, Some, None, Result, Ok, Err, suc}
 use Rattle.std.specs.Prelude.{slice_get, ◌&&◌, ◌||◌, ◌==◌, not, nat_lt, OnOk}
 use Rattle.std.proofs.lemmas.Bool.{cond-true, cond-false, ne_eqb, eq-eqb, eqb-true}
 use Rattle.aeg_base.specs.declared.names.End.{End}
+use Rattle.aeg_disk.specs.Disk.{DiskState}
+use Rattle.aeg_disk.proofs.Later.{same_later}
+use Rattle.fact_journal.specs.Fitting.{open_after_all}
 use Rattle.aeg_base.specs.declared.names.End.TheVariants.{Client}
 use Rattle.aeg_base.specs.declared.names.Tier.TheVariants.{Mid as InMid}
 use Rattle.log_model.specs.declared.message.PaxMsg.{PaxMsg}
-use Rattle.log_model.specs.Log.{LogState, Turn}
+use Rattle.log_model.specs.Log.{LogState, Turn, open_at}
 use Rattle.log_model.specs.Rows.{on_msg}
 use Rattle.log_model.specs.Ranges.{IsLogIn, IsTurnIn}
-use Rattle.log_model.specs.Recover.{recover}
 use Rattle.log_model.specs.World.{Mode}
 use Rattle.log_model.specs.World.Mode.{Up, Down, Gone}
 use Rattle.log_values.specs.declared.any_value.AnyValue.{AnyValue}
@@ -28,12 +30,13 @@ use Rattle.round_model.specs.Service.{is_request}
 use Rattle.round_model.specs.Tables.{tables0, kept_of, pending_of}
 use Rattle.tier_model.specs.Moves.{index_of, is_node_of, Packet, Move, idles, drops, says, becomes, log_packets, as_fact, log_answer}
 use Rattle.tier_model.specs.Mid.{Mid, with_log, in_log, is_due, due_round, ready, apply_state, apply_sends}
-use Rattle.tier_model.specs.MidRows.{recovered, has_seq, pends, tells_again, on_request, on_frame}
+use Rattle.tier_model.specs.MidRows.{has_seq, pends, tells_again, on_request, on_frame}
 use Rattle.run_model.specs.BookingRuns.{booking_service}
-use Rattle.world.specs.Parts.{CanStand, IsAsked, AllReach, NodePart, MidPart, as_mid, Makes, MidView, MidMoves, new_part, AreFit, HaveRoom}
+use Rattle.world.specs.Parts.{CanStand, IsAsked, AllReach, StandIn, NodePart, MidPart, as_mid, Makes, Wrote, MidView, MidMoves, AreFit, HaveRoom}
 use Rattle.world.specs.LogNodes.{LogView, log_itself, log_move, Turns, mid_mode, mid_part}
 use Rattle.world.proofs.Few.{IsFew, log_room}
 use Rattle.world.proofs.Sending.{all_reach}
+use Rattle.world.proofs.Writing.{turn_stands, nothing_stands, written_opens}
 use Rattle.world.proofs.Places.{at-none, at-zero}
 
 -- what contracts see of a middle node with these fields
@@ -73,10 +76,10 @@ never_ready : (depth : ℕ) (part : MidPart) (log : LogState AnyValue) → lengt
 never_ready depth part log l = cond-false (is_due (as_mid depth part) log) (ready booking_service (with_log (as_mid depth part) log)) None (never_due depth part log l)
 
 -- the row of a turn of the log, while nothing is run
-abbrev mid_move : ℕ → List (Option Entry) → ℕ → Turn AnyValue → Move Mid
+abbrev pub mid_move : ℕ → List (Option Entry) → ℕ → Turn AnyValue → Move Mid
 mid_move depth pending x turn = record { state = as_mid depth (part_of turn.state pending); facts = map as_fact turn.facts; sends = log_packets InMid x turn.sends; answer = log_answer turn.idle }
 
-in_log_is : (u depth x : ℕ) (log : LogState AnyValue) (pending : List (Option Entry)) (turn : Turn AnyValue) → length turn.state.learned ≤ 1 → in_log u booking_service x (as_mid depth (part_of log pending)) turn ≡ mid_move depth pending x turn
+pub in_log_is : (u depth x : ℕ) (log : LogState AnyValue) (pending : List (Option Entry)) (turn : Turn AnyValue) → length turn.state.learned ≤ 1 → in_log u booking_service x (as_mid depth (part_of log pending)) turn ≡ mid_move depth pending x turn
 in_log_is u depth x log pending turn l =
     ap (λ d. record { state = apply_state (with_log (as_mid depth (part_of log pending)) turn.state) d; facts = map as_fact turn.facts; sends = log_packets InMid x turn.sends ++ apply_sends u x (with_log (as_mid depth (part_of log pending)) turn.state) d; answer = log_answer turn.idle })
     (never_ready depth (part_of log pending) turn.state l)
@@ -90,10 +93,10 @@ on_ok (Err e) p = tt
 
 mid_makes : (depth x : ℕ) (pending : List (Option Entry)) (old new : NodePart (LogState AnyValue)) (before after : List (End × List ℕ)) (turn : Turn AnyValue) (result : Result Answer Fault)
     → Makes log_itself old new before after (log_move InMid x turn) result → Makes (as_mid depth) (mid_part old pending) (mid_part new pending) before after (mid_move depth pending x turn) result
-mid_makes depth x pending old new before after turn (Ok answer) k = (k.0, (part_of k.1.0 pending, ap (λ z. mid_mode z pending) k.1.1, ap (λ z. as_mid depth (part_of z pending)) k.1.2), k.2, k.3, k.4, k.5)
-mid_makes depth x pending old new before after turn (Err (faults.JournalFull n)) k = (k.0, ap (λ z. mid_mode z pending) k.1, k.2, k.3)
+mid_makes depth x pending old new before after turn (Ok answer) k = (k.0, (part_of k.1.0 pending, ap (λ z. mid_mode z pending) k.1.1, ap (λ z. as_mid depth (part_of z pending)) k.1.2), k.2, k.3, k.4, k.5, k.6)
+mid_makes depth x pending old new before after turn (Err (faults.JournalFull n)) k = (k.0, ap (λ z. mid_mode z pending) k.1, k.2, k.3, k.4)
 mid_makes depth x pending old new before after turn (Err faults.Memory) k = tt
-mid_makes depth x pending old new before after turn (Err faults.Disk) k = absurd k
+mid_makes depth x pending old new before after turn (Err faults.Disk) k = (k.0, ap (λ z. mid_mode z pending) k.1, k.2, k.3, k.4)
 mid_makes depth x pending old new before after turn (Err (faults.BadRecord n)) k = absurd k
 
 -- the part of a middle node that is up
@@ -106,35 +109,34 @@ mid_up Down pending part e = absurd (cc)
 mid_up Gone pending part e = absurd (cc)
 
 -- a call of the log's node that makes a turn is the node's, where the row is that turn
-pub mid_turns : (depth : ℕ) (pending : List (Option Entry)) (old new : LogView) (now : MidView) (before after : List (End × List ℕ)) (t : LogState AnyValue → Turn AnyValue) (move : ℕ → ℕ → Mid → Move Mid) (result : Result Answer Fault)
-    → mid_view old depth pending ≡ now → old.tier ≡ InMid → old.me < 2 * old.faults + 1 → old.faults ≤ 2 → Turns old new before after t result → ((log : LogState AnyValue) → IsFew old.faults (t log))
+pub mid_turns : (depth : ℕ) (pending : List (Option Entry)) (old new : LogView) (now : MidView) (a b : DiskState) (before after : List (End × List ℕ)) (t : LogState AnyValue → Turn AnyValue) (move : ℕ → ℕ → Mid → Move Mid) (result : Result Answer Fault)
+    → mid_view old depth pending ≡ now → old.tier ≡ InMid → old.me < 2 * old.faults + 1 → old.faults ≤ 2 → Turns old new a b before after t result → ((log : LogState AnyValue) → IsFew old.faults log (t log))
     → ((log : LogState AnyValue) → old.part.mode ≡ Up log → move old.faults old.me (as_mid depth (part_of log pending)) ≡ in_log old.faults booking_service old.me (as_mid depth (part_of log pending)) (t log))
-    → MidMoves now (mid_view new depth pending) before after (move now.faults now.me) result
-mid_turns depth pending old new now before after t move result v tier l small k few f = subst (λ (z : MidView). MidMoves z (mid_view new depth pending) before after (move z.faults z.me) result) v (record {
-  row = λ part e. let q = mid_up old.part.mode pending part e in
-      at part q.1 (subst (λ z. Makes (as_mid depth) (mid_part old.part pending) (mid_part new.part pending) before after z result) (sym (is part.log q.0))
-      (mid_makes depth old.me pending old.part new.part before after (t part.log) result (subst (λ z. Makes log_itself old.part new.part before after (log_move z old.me (t part.log)) result) tier (k.row part.log q.0))));
-  reach = on_ok result (λ part e. let q = mid_up old.part.mode pending part e in
-      reach_at part q.1 (subst (λ (z : Move Mid). AllReach old.faults z.sends) (sym (is part.log q.0)) (all_reach old.faults InMid old.me (t part.log).sends l (range part.log q.0).sends)));
-  few = on_ok result (λ part e. let q = mid_up old.part.mode pending part e in
-      room_at part q.1 (subst (λ (z : Move Mid). HaveRoom z.sends) (sym (is part.log q.0)) (log_room old.faults InMid old.me (t part.log).sends small (few part.log).most)));
+    → MidMoves now (mid_view new depth pending) a b before after (move now.faults now.me) result
+mid_turns depth pending old new now a b before after t move result v tier l small k few f = subst (λ (z : MidView). MidMoves z (mid_view new depth pending) a b before after (move z.faults z.me) result) v (record {
+  row = λ part e. at (λ z. Makes (as_mid depth) (mid_part old.part pending) (mid_part new.part pending) before after z result) part e
+      (mid_makes depth old.me pending old.part new.part before after (t part.log) result (subst (λ z. Makes log_itself old.part new.part before after (log_move z old.me (t part.log)) result) tier (k.row part.log (here part e))));
+  disk = λ part e. at (λ z. Wrote a b old.part.place new.part.place z.facts result) part e (k.disk part.log (here part e));
+  later = k.later;
+  reach = on_ok result (λ part e. at (λ z. AllReach old.faults z.sends) part e (all_reach old.faults InMid old.me (t part.log).sends l (range part.log (here part e)).sends));
+  few = on_ok result (λ part e. at (λ z. HaveRoom z.sends) part e (log_room old.faults InMid old.me (t part.log).sends small (few part.log).most));
+  fits = λ part e. at (λ z. StandIn InMid (open_at part.log) z.facts) part e (turn_stands old.faults InMid part.log (t part.log) (few part.log) (range part.log (here part e)));
+  opens = λ part e. at (λ z. open_at z.state.log ≡ open_after_all (open_at part.log) z.facts) part e (written_opens (open_at part.log) (open_at (t part.log).state) (t part.log).facts (few part.log).written);
   same = (k.same.0, (refl, k.same.1.1));
 })
   where
+    here : (part : MidPart) → mid_mode old.part.mode pending ≡ Up part → old.part.mode ≡ Up part.log
+    here part e = (mid_up old.part.mode pending part e).0
+
     range : (log : LogState AnyValue) → old.part.mode ≡ Up log → IsTurnIn old.faults (CanStand InMid) FitsBallot (t log)
     range log e = subst (λ z. IsTurnIn old.faults (CanStand z) FitsBallot (t log)) tier (k.range log e)
 
     is : (log : LogState AnyValue) → old.part.mode ≡ Up log → move old.faults old.me (as_mid depth (part_of log pending)) ≡ mid_move depth pending old.me (t log)
     is log e = f log e ∙ in_log_is old.faults depth old.me log pending (t log) (at_most_one (t log).state (range log e).state)
 
-    at : (part : MidPart) → part.pending ≡ pending → Makes (as_mid depth) (mid_part old.part pending) (mid_part new.part pending) before after (move old.faults old.me (as_mid depth (part_of part.log pending))) result → Makes (as_mid depth) (mid_part old.part pending) (mid_part new.part pending) before after (move old.faults old.me (as_mid depth part)) result
-    at part e m = subst (λ z. Makes (as_mid depth) (mid_part old.part pending) (mid_part new.part pending) before after (move old.faults old.me (as_mid depth (part_of part.log z))) result) (sym e) m
-
-    reach_at : (part : MidPart) → part.pending ≡ pending → AllReach old.faults (move old.faults old.me (as_mid depth (part_of part.log pending))).sends → AllReach old.faults (move old.faults old.me (as_mid depth part)).sends
-    reach_at part e m = subst (λ z. AllReach old.faults (move old.faults old.me (as_mid depth (part_of part.log z))).sends) (sym e) m
-
-    room_at : (part : MidPart) → part.pending ≡ pending → HaveRoom (move old.faults old.me (as_mid depth (part_of part.log pending))).sends → HaveRoom (move old.faults old.me (as_mid depth part)).sends
-    room_at part e m = subst (λ z. HaveRoom (move old.faults old.me (as_mid depth (part_of part.log z))).sends) (sym e) m
+    -- what holds of the turn's move holds of the row
+    at : (P : Move Mid → Type 0) (part : MidPart) → mid_mode old.part.mode pending ≡ Up part → P (mid_move depth pending old.me (t part.log)) → P (move old.faults old.me (as_mid depth part))
+    at P part e m = subst (λ z. P (move old.faults old.me (as_mid depth (part_of part.log z)))) (sym (mid_up old.part.mode pending part e).1) (subst P (sym (is part.log (here part e))) m)
 
 pub none_fit : AreFit []
 none_fit = λ i k e. absurd (cc)
@@ -145,12 +147,20 @@ none_reach u = λ i k e. absurd (cc)
 pub none_room : HaveRoom {A = Packet} []
 none_room = omega arith
 
+-- a disk to which nothing is written
+pub wrote_none : (a : DiskState) (place : ℕ) (answer : Answer) → Wrote a a place place [] (Ok answer)
+wrote_none a place answer = (λ rs t has. has, λ e. absurd (cc), λ e. refl)
+
 -- a call that answers without a turn: it is idle, or drops the packet
-pub mid_quiet : (now : MidView) (out : List (End × List ℕ)) (move : Mid → Move Mid) (answer : Answer) → ((part : MidPart) → now.part.mode ≡ Up part → move (as_mid now.depth part) ≡ record { state = as_mid now.depth part; facts = []; sends = []; answer = answer }) → MidMoves now now out out move (Ok answer)
-mid_quiet now out move answer f = record {
-  row = λ part e. subst (λ z. Makes (as_mid now.depth) now.part now.part out out z (Ok answer)) (sym (f part e)) (refl, (part, e, refl), refl, sym (nothing_more out), none_fit, refl);
+pub mid_quiet : (now : MidView) (a : DiskState) (out : List (End × List ℕ)) (move : Mid → Move Mid) (answer : Answer) → ((part : MidPart) → now.part.mode ≡ Up part → move (as_mid now.depth part) ≡ record { state = as_mid now.depth part; facts = []; sends = []; answer = answer }) → MidMoves now now a a out out move (Ok answer)
+mid_quiet now a out move answer f = record {
+  row = λ part e. subst (λ z. Makes (as_mid now.depth) now.part now.part out out z (Ok answer)) (sym (f part e)) (refl, (part, e, refl), refl, refl, sym (nothing_more out), none_fit, refl);
+  disk = λ part e. subst (λ (z : Move Mid). Wrote a a now.part.place now.part.place z.facts (Ok answer)) (sym (f part e)) (wrote_none a now.part.place answer);
+  later = same_later a a refl;
   reach = λ part e. subst (λ (z : Move Mid). AllReach now.faults z.sends) (sym (f part e)) (none_reach now.faults);
   few = λ part e. subst (λ (z : Move Mid). HaveRoom z.sends) (sym (f part e)) none_room;
+  fits = λ part e. subst (λ (z : Move Mid). StandIn InMid (open_at part.log) z.facts) (sym (f part e)) (nothing_stands InMid (open_at part.log));
+  opens = λ part e. subst (λ (z : Move Mid). open_at z.state.log ≡ open_after_all (open_at part.log) z.facts) (sym (f part e)) refl;
   same = (refl, (refl, refl));
 }
 
@@ -186,11 +196,11 @@ pub is_asked : (from : End) (c s : ℕ) (text : List ℕ) → from ≡ Client c 
 is_asked from c s text e k = let a = subst (λ f. IsAsked f s text) e k in (a.0, a.1.1)
 
 -- one that isn't the first, or that is pending, is passed over
-pub request_passed : (n : LogView) (depth : ℕ) (pending : List (Option Entry)) (now : MidView) (out : List (End × List ℕ)) (from : End) (c s : ℕ) (text : List ℕ) → mid_view n depth pending ≡ now → from ≡ Client c → IsAsked from s text
-    → (s ≡ 1 → has_seq (pending_of pending c) s ≡ true) → MidMoves now now out out (λ σ. on_frame now.faults booking_service now.me σ from (msgs.Request s text)) (Ok (Idles why.Nothing))
-request_passed n depth pending now out from c s text v f r q = subst (λ z. MidMoves now now out out (λ σ. on_frame now.faults booking_service now.me σ z (msgs.Request s text)) (Ok (Idles why.Nothing))) (sym f)
-    (subst (λ z. MidMoves z z out out (λ σ. on_frame z.faults booking_service z.me σ (Client c) (msgs.Request s text)) (Ok (Idles why.Nothing))) v
-    (mid_quiet (mid_view n depth pending) out (λ σ. on_frame n.faults booking_service n.me σ (Client c) (msgs.Request s text)) (Idles why.Nothing) (λ part e.
+pub request_passed : (n : LogView) (depth : ℕ) (pending : List (Option Entry)) (now : MidView) (a : DiskState) (out : List (End × List ℕ)) (from : End) (c s : ℕ) (text : List ℕ) → mid_view n depth pending ≡ now → from ≡ Client c → IsAsked from s text
+    → (s ≡ 1 → has_seq (pending_of pending c) s ≡ true) → MidMoves now now a a out out (λ σ. on_frame now.faults booking_service now.me σ from (msgs.Request s text)) (Ok (Idles why.Nothing))
+request_passed n depth pending now a out from c s text v f r q = subst (λ z. MidMoves now now a a out out (λ σ. on_frame now.faults booking_service now.me σ z (msgs.Request s text)) (Ok (Idles why.Nothing))) (sym f)
+    (subst (λ z. MidMoves z z a a out out (λ σ. on_frame z.faults booking_service z.me σ (Client c) (msgs.Request s text)) (Ok (Idles why.Nothing))) v
+    (mid_quiet (mid_view n depth pending) a out (λ σ. on_frame n.faults booking_service n.me σ (Client c) (msgs.Request s text)) (Idles why.Nothing) (λ part e.
     request_is n.faults n.me depth part c s text (is_asked from c s text f r).1
     ∙ cond-true (not (s == 1) || has_seq (pending_of part.pending c) s) (idles (as_mid depth part) why.Nothing) (becomes (pends (as_mid depth part) (record { client = c; seq = s; body = text })))
     (passed (s == 1) (has_seq (pending_of part.pending c) s) (λ t. subst (λ z. has_seq (pending_of z c) s ≡ true) (sym (mid_up n.part.mode pending part e).1) (q (eqb-true s 1 t)))))))
@@ -200,16 +210,19 @@ request_passed n depth pending now out from c s text v f r q = subst (λ z. MidM
     passed false h f = refl
 
 -- a first request is pending from now on
-pub request_taken : (n : LogView) (depth : ℕ) (pending new : List (Option Entry)) (now : MidView) (out : List (End × List ℕ)) (from : End) (c s : ℕ) (text : List ℕ) → mid_view n depth pending ≡ now → from ≡ Client c → IsAsked from s text
+pub request_taken : (n : LogView) (depth : ℕ) (pending new : List (Option Entry)) (now : MidView) (a : DiskState) (out : List (End × List ℕ)) (from : End) (c s : ℕ) (text : List ℕ) → mid_view n depth pending ≡ now → from ≡ Client c → IsAsked from s text
     → s ≡ 1 → has_seq (pending_of pending c) s ≡ false → new ≡ put_at None pending c (Some (record { client = c; seq = s; body = text }))
-    → MidMoves now (mid_view n depth new) out out (λ σ. on_frame now.faults booking_service now.me σ from (msgs.Request s text)) (Ok Did)
-request_taken n depth pending new now out from c s text v f r one h p = subst (λ z. MidMoves now (mid_view n depth new) out out (λ σ. on_frame now.faults booking_service now.me σ z (msgs.Request s text)) (Ok Did)) (sym f)
-    (subst (λ z. MidMoves z (mid_view n depth new) out out (λ σ. on_frame z.faults booking_service z.me σ (Client c) (msgs.Request s text)) (Ok Did)) v (record {
-      row = λ part e. let q = mid_up n.part.mode pending part e in
-          subst (λ z. Makes (as_mid depth) (mid_part n.part pending) (mid_part n.part new) out out z (Ok Did)) (sym (is part q.1))
-          (refl, (part_of part.log new, ap (λ z. mid_mode z new) q.0, state part q.1), refl, sym (nothing_more out), none_fit, refl);
-      reach = λ part e. let q = mid_up n.part.mode pending part e in subst (λ (z : Move Mid). AllReach n.faults z.sends) (sym (is part q.1)) (none_reach n.faults);
-      few = λ part e. let q = mid_up n.part.mode pending part e in subst (λ (z : Move Mid). HaveRoom z.sends) (sym (is part q.1)) none_room;
+    → MidMoves now (mid_view n depth new) a a out out (λ σ. on_frame now.faults booking_service now.me σ from (msgs.Request s text)) (Ok Did)
+request_taken n depth pending new now a out from c s text v f r one h p = subst (λ z. MidMoves now (mid_view n depth new) a a out out (λ σ. on_frame now.faults booking_service now.me σ z (msgs.Request s text)) (Ok Did)) (sym f)
+    (subst (λ z. MidMoves z (mid_view n depth new) a a out out (λ σ. on_frame z.faults booking_service z.me σ (Client c) (msgs.Request s text)) (Ok Did)) v (record {
+      row = λ part e. at (λ z. Makes (as_mid depth) (mid_part n.part pending) (mid_part n.part new) out out z (Ok Did)) part e
+          (let q = mid_up n.part.mode pending part e in (refl, (part_of part.log new, ap (λ z. mid_mode z new) q.0, state part q.1), refl, refl, sym (nothing_more out), none_fit, refl));
+      disk = λ part e. at (λ z. Wrote a a n.part.place n.part.place z.facts (Ok Did)) part e (wrote_none a n.part.place Did);
+      later = same_later a a refl;
+      reach = λ part e. at (λ z. AllReach n.faults z.sends) part e (none_reach n.faults);
+      few = λ part e. at (λ z. HaveRoom z.sends) part e none_room;
+      fits = λ part e. at (λ z. StandIn InMid (open_at part.log) z.facts) part e (nothing_stands InMid (open_at part.log));
+      opens = λ part e. at (λ z. open_at z.state.log ≡ open_after_all (open_at part.log) z.facts) part e refl;
       same = (refl, (refl, refl));
     }))
   where
@@ -221,20 +234,40 @@ request_taken n depth pending new now out from c s text v f r one h p = subst (�
         ∙ cond-false (not (s == 1) || has_seq (pending_of part.pending c) s) (idles (as_mid depth part) why.Nothing) (becomes (pends (as_mid depth part) entry))
         (rw (eq-eqb s 1 one) (subst (λ z. has_seq (pending_of z c) s ≡ false) (sym e) h))
 
+    at : (P : Move Mid → Type 0) (part : MidPart) → mid_mode n.part.mode pending ≡ Up part → P (becomes (pends (as_mid depth part) entry)) → P (on_frame n.faults booking_service n.me (as_mid depth part) (Client c) (msgs.Request s text))
+    at P part e m = subst P (sym (is part (mid_up n.part.mode pending part e).1)) m
+
     state : (part : MidPart) → part.pending ≡ pending → as_mid depth (part_of part.log new) ≡ pends (as_mid depth part) entry
     state part e = ap (λ z. as_mid depth (part_of part.log z)) (p ∙ ap (λ z. put_at None z c (Some entry)) (sym e))
 
--- STARTING
+-- nor is anything known of it where there is no memory for it, but that it would write nothing
+pub request_none : (n : LogView) (depth : ℕ) (pending : List (Option Entry)) (now : MidView) (a : DiskState) (out : List (End × List ℕ)) (from : End) (c s : ℕ) (text : List ℕ) (result : Result Answer Fault) → mid_view n depth pending ≡ now → from ≡ Client c → IsAsked from s text
+    → s ≡ 1 → has_seq (pending_of pending c) s ≡ false → result ≡ Err faults.Memory → MidMoves now now a a out out (λ σ. on_frame now.faults booking_service now.me σ from (msgs.Request s text)) result
+request_none n depth pending now a out from c s text result v f r one h e = subst (λ z. MidMoves now now a a out out (λ σ. on_frame now.faults booking_service now.me σ from (msgs.Request s text)) z) (sym e) (record {
+  row = λ part e. tt;
+  disk = λ part e. tt;
+  later = taken.later;
+  reach = tt;
+  few = tt;
+  fits = taken.fits;
+  opens = taken.opens;
+  same = (refl, (refl, refl));
+})
+  where
+    taken : MidMoves now (mid_view n depth (put_at None pending c (Some (record { client = c; seq = s; body = text })))) a a out out (λ σ. on_frame now.faults booking_service now.me σ from (msgs.Request s text)) (Ok Did)
+    taken = request_taken n depth pending (put_at None pending c (Some (record { client = c; seq = s; body = text }))) now a out from c s text v f r one h refl
 
-pub restarted : (n new : LogView) (depth : ℕ) (pending fresh : List (Option Entry)) (now : MidView) → mid_view n depth pending ≡ now → now.part ≡ new_part
-    → new ≡ record { faults = n.faults; tier = n.tier; me = n.me; part = record { mode = Up (recover n.faults []); written = n.part.written } } → fresh ≡ replicate 17 None
-    → (x : MidPart) × ((mid_part new.part fresh ≡ record { mode = Up x; written = 1 }) × (as_mid now.depth x ≡ recovered now.faults booking_service now.depth []))
-restarted n new depth pending fresh now v r e f = subst (λ (z : MidView). z.part ≡ new_part → (x : MidPart) × ((mid_part new.part fresh ≡ record { mode = Up x; written = 1 }) × (as_mid z.depth x ≡ recovered z.faults booking_service z.depth []))) v
-    (λ q. (
-      part_of (recover n.faults []) (replicate 17 None),
-      (
-        ap (λ (z : LogView). mid_part z.part fresh) e ∙ (ap (λ z. mid_part (record { mode = Up (recover n.faults []); written = n.part.written }) z) f
-            ∙ ap (λ z. record { mode = Up (part_of (recover n.faults []) (replicate 17 None)); written = z }) (ap (λ (z : NodePart MidPart). z.written) q)),
-        refl,
-      ),
-    )) r
+-- a call that ran out of memory
+pub mid_none : (now : MidView) (a : DiskState) (out after : List (End × List ℕ)) (move : Mid → Move Mid) (result : Result Answer Fault)
+    → ((part : MidPart) → now.part.mode ≡ Up part → StandIn InMid (open_at part.log) (move (as_mid now.depth part)).facts) → ((part : MidPart) → now.part.mode ≡ Up part → open_at (move (as_mid now.depth part)).state.log ≡ open_after_all (open_at part.log) (move (as_mid now.depth part)).facts)
+    → result ≡ Err faults.Memory → MidMoves now now a a out after move result
+mid_none now a out after move result fits opens e = subst (λ z. MidMoves now now a a out after move z) (sym e) (record {
+  row = λ part e. tt;
+  disk = λ part e. tt;
+  later = same_later a a refl;
+  reach = tt;
+  few = tt;
+  fits = fits;
+  opens = opens;
+  same = (refl, (refl, refl));
+})

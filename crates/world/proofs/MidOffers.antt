@@ -1,26 +1,34 @@
 -- What a middle node offers and tells again while nothing is run.
-use Rattle.std.proofs.Common.{◌≡◌, ℕ, ◌+◌, ◌*◌, ◌<◌, ◌≤◌, Bool, true, false, cond, List, [], ◌∷◌, ◌++◌, length, map, take, refl, sym, ap, ◌∙◌, subst, inl, inr, arith, Option, Some, None, Ok, zero, suc}
+use Rattle.std.proofs.Common.{◌≡◌, ℕ, ◌+◌, ◌*◌, ◌<◌, ◌≤◌, Bool, true, false, cond, List, [], ◌∷◌, ◌++◌, length, map, take, refl, sym, ap, ◌∙◌, subst, inl, inr, arith, Option, Some, None, Result, Ok, Err, zero, suc}
 use Rattle.std.specs.Prelude.{◌⊎◌, ◌&&◌, not, nat_lt}
 use Rattle.std.specs.List.{AllByRecursion}
 use Rattle.std.proofs.lemmas.Bool.{cond_both, cond-true}
 use Rattle.aeg_base.specs.declared.names.End.{End}
+use Rattle.aeg_disk.specs.Disk.{DiskState}
+use Rattle.aeg_disk.proofs.Later.{same_later}
+use Rattle.fact_journal.specs.Fitting.{open_after_all}
 use Rattle.aeg_base.specs.declared.names.Tier.{Tier}
 use Rattle.aeg_base.specs.declared.names.Tier.TheVariants.{Mid as InMid, Inv, Pay}
 use Rattle.log_model.specs.declared.message.PaxMsg.{PaxMsg}
 use Rattle.log_model.specs.declared.message.PaxMsg.TheVariants.{Ask}
 use Rattle.log_model.specs.declared.turn.Offering.{Offering}
 use Rattle.log_model.specs.declared.turn.Offering.TheVariants.{NotLeader, NoPromises, InFlight, LogFull, Taken, Free}
-use Rattle.log_model.specs.Log.{LogState, open_at, is, count_below}
+use Rattle.log_model.specs.Log.{LogState, Turn, open_at, is, count_below}
 use Rattle.log_model.specs.Rows.{offer, wants as log_wants}
-use Rattle.log_model.specs.Ranges.{IsLogIn, IsSendIn}
+use Rattle.log_model.specs.Ranges.{IsLogIn, IsSendIn, IsTurnIn, IsOwnIn}
 use Rattle.log_model.specs.World.Mode.{Up}
 use Rattle.log_model.proofs.Rows.{no_from}
+use Rattle.log_model.proofs.Ranged.{offer_in}
 use Rattle.log_values.specs.declared.any_value.AnyValue.{AnyValue}
 use Rattle.log_values.specs.declared.any_value.AnyValue.TheVariants as values
 use Rattle.log_values.specs.declared.mid_value.MidValue.TheVariants.{Batch, Verdict as Decided}
 use Rattle.log_values.specs.declared.entry.Entry.{Entry}
 use Rattle.log_values.specs.Fields.{FitsBallot}
+use Rattle.log_values.specs.Values.{FitsMid}
 use Rattle.log_values.proofs.BoolTests.{lt_true}
+use Rattle.frames.specs.declared.turn.Fault.{Fault}
+use Rattle.frames.specs.declared.turn.Fault.TheVariants as faults
+use Rattle.frames.specs.declared.turn.Turn.{Turn as Answer}
 use Rattle.frames.specs.declared.turn.Turn.TheVariants.{Did, Idle as Idles}
 use Rattle.frames.specs.declared.turn.Idle.{Idle}
 use Rattle.frames.specs.declared.turn.Idle.TheVariants as why
@@ -33,12 +41,13 @@ use Rattle.tier_model.specs.Mid.{Mid, in_log}
 use Rattle.tier_model.specs.MidRows.{own_batch, own_verdict, own_value, own_cause, offers_as, offers, again, retry, calls_again, by_number, open_calls, haves_again, settle_to, floor_here}
 use Rattle.round_model.specs.Answers.{highest}
 use Rattle.run_model.specs.BookingRuns.{booking_service}
-use Rattle.world.specs.Parts.{CanStand, MidPart, as_mid, Makes, MidView, MidMoves, AllReach, HaveRoom, sealed}
-use Rattle.world.specs.LogNodes.{LogView, IsRanged, needs_own, mid_mode, mid_part}
-use Rattle.world.proofs.Few.{asks_room}
+use Rattle.world.specs.Parts.{CanStand, StandIn, MidPart, as_mid, Makes, Wrote, MidView, MidMoves, AllReach, HaveRoom, sealed}
+use Rattle.world.specs.LogNodes.{LogView, IsRanged, OwnStands, needs_own, mid_mode, mid_part}
+use Rattle.world.proofs.Few.{IsFew, asks_room, offer_few}
 use Rattle.world.proofs.Sending.{all_reach, sends_fit, are_fit}
 use Rattle.world.proofs.Places.{all-both, no_queue}
-use Rattle.world.proofs.MidMoves.{mid_view, mid_up, mid_quiet, nothing_more, at_most_one}
+use Rattle.world.proofs.MidMoves.{mid_view, mid_up, mid_quiet, mid_none, mid_move, in_log_is, nothing_more, at_most_one, wrote_none}
+use Rattle.world.proofs.Writing.{nothing_stands, turn_stands, written_opens}
 
 -- NO TOKENS
 
@@ -134,13 +143,13 @@ offer_some u x σ (Free p) n (inl e) = cond-true (is_some (own_value u booking_s
 offer_some u x σ (Free p) n (inr e) = absurd (cc)
 
 -- something stands in the way
-pub offers_idle : (now : MidView) (out : List (End × List ℕ)) (w : Offering) (cause : Idle) → ((part : MidPart) → now.part.mode ≡ Up part → w ≡ log_wants now.faults part.log) → offer_cause w ≡ Some cause → MidMoves now now out out (λ σ. offers now.faults booking_service now.me σ) (Ok (Idles cause))
-offers_idle now out w cause f e = mid_quiet now out (λ σ. offers now.faults booking_service now.me σ) (Idles cause) (λ part m. offer_idle now.faults now.me (as_mid now.depth part) (log_wants now.faults part.log) cause (ap offer_cause (sym (f part m)) ∙ e))
+pub offers_idle : (now : MidView) (a : DiskState) (out : List (End × List ℕ)) (w : Offering) (cause : Idle) → ((part : MidPart) → now.part.mode ≡ Up part → w ≡ log_wants now.faults part.log) → offer_cause w ≡ Some cause → MidMoves now now a a out out (λ σ. offers now.faults booking_service now.me σ) (Ok (Idles cause))
+offers_idle now a out w cause f e = mid_quiet now a out (λ σ. offers now.faults booking_service now.me σ) (Idles cause) (λ part m. offer_idle now.faults now.me (as_mid now.depth part) (log_wants now.faults part.log) cause (ap offer_cause (sym (f part m)) ∙ e))
 
 -- there is nothing to offer
-pub offers_none : (now : MidView) (out : List (End × List ℕ)) (w : Offering) (own : Option AnyValue) (cause : Idle) → ((part : MidPart) → now.part.mode ≡ Up part → w ≡ log_wants now.faults part.log) → needs_own w ≡ true → ((part : MidPart) → now.part.mode ≡ Up part → own ≡ own_value now.faults booking_service (as_mid now.depth part)) → own ≡ None
-    → ((part : MidPart) → now.part.mode ≡ Up part → cause ≡ own_cause now.faults (as_mid now.depth part)) → MidMoves now now out out (λ σ. offers now.faults booking_service now.me σ) (Ok (Idles cause))
-offers_none now out w own cause f n g e h = mid_quiet now out (λ σ. offers now.faults booking_service now.me σ) (Idles cause) (λ part m.
+pub offers_none : (now : MidView) (a : DiskState) (out : List (End × List ℕ)) (w : Offering) (own : Option AnyValue) (cause : Idle) → ((part : MidPart) → now.part.mode ≡ Up part → w ≡ log_wants now.faults part.log) → needs_own w ≡ true → ((part : MidPart) → now.part.mode ≡ Up part → own ≡ own_value now.faults booking_service (as_mid now.depth part)) → own ≡ None
+    → ((part : MidPart) → now.part.mode ≡ Up part → cause ≡ own_cause now.faults (as_mid now.depth part)) → MidMoves now now a a out out (λ σ. offers now.faults booking_service now.me σ) (Ok (Idles cause))
+offers_none now a out w own cause f n g e h = mid_quiet now a out (λ σ. offers now.faults booking_service now.me σ) (Idles cause) (λ part m.
     offer_none now.faults now.me (as_mid now.depth part) (log_wants now.faults part.log) (ap needs_own (sym (f part m)) ∙ n) (sym (g part m) ∙ e) ∙ ap (λ z. idles (as_mid now.depth part) z) (sym (h part m)))
 
 -- the row is the log's offer
@@ -149,6 +158,40 @@ pub offers_log : (u x depth : ℕ) (part : MidPart) (w : Offering) (own : Option
 offers_log u x depth part w own f n g k =
     subst (λ z. offers_as u booking_service x (as_mid depth part) z ≡ in_log u booking_service x (as_mid depth part) (offer u x part.log (own_value u booking_service (as_mid depth part)))) f (offer_some u x (as_mid depth part) w n (subst (λ z. (is_some z ≡ true) ⊎ (needs_own w ≡ false)) g k))
     ∙ ap (λ z. in_log u booking_service x (as_mid depth part) (offer u x part.log z)) (sym g)
+
+-- its own value can stand at the first open position
+own_in : (u depth : ℕ) (part : MidPart) (es : List Entry) → open_at part.log ≤ 1 → es ≡ batch_of booking_service (tables0 depth) part.pending → FitsMid (Batch es) → IsOwnIn (CanStand InMid) (open_at part.log) (own_value u booking_service (as_mid depth part))
+own_in u depth part es l made fit = go (open_at part.log) refl l
+  where
+    go : (f : ℕ) → open_at part.log ≡ f → f ≤ 1 → IsOwnIn (CanStand InMid) (open_at part.log) (own_value u booking_service (as_mid depth part))
+    go zero o k = subst (λ z. IsOwnIn (CanStand InMid) z (own_value u booking_service (as_mid depth part))) (sym o)
+        (subst (λ z. IsOwnIn (CanStand InMid) 0 z) (sym (ap (λ f. value_at_open u depth part f) o ∙ first_batch u depth part es made))
+        (cond_both (is_nil es) None (Some (values.Mid (Batch es))) (IsOwnIn (CanStand InMid) 0) (λ e. tt) (λ e. (fit, refl))))
+    go (suc zero) o k = subst (λ z. IsOwnIn (CanStand InMid) (open_at part.log) z) (sym (value_past u depth part o)) tt
+    go (suc (suc f)) o k = absurd (omega arith)
+
+-- what holds where it is idle and where it offers holds of the row
+offers_by : (P : Move Mid → Type 0) (u x : ℕ) (σ : Mid) (w : Offering) → ((cause : Idle) → P (idles σ cause)) → P (in_log u booking_service x σ (offer u x σ.log (own_value u booking_service σ))) → P (offers_as u booking_service x σ w)
+offers_by P u x σ NotLeader i l = i why.NotLeader
+offers_by P u x σ (NoPromises h) i l = i (why.NoPromises h)
+offers_by P u x σ (InFlight p) i l = i (why.InFlight p)
+offers_by P u x σ LogFull i l = i why.LogFull
+offers_by P u x σ Taken i l = l
+offers_by P u x σ (Free p) i l = cond_both (is_some (own_value u booking_service σ)) (in_log u booking_service x σ (offer u x σ.log (own_value u booking_service σ))) (idles σ (own_cause u σ)) P (λ e. l) (λ e. i (own_cause u σ))
+
+offers_stand : (P : Move Mid → Type 0) (u x depth : ℕ) (part : MidPart) → IsLogIn (CanStand InMid) FitsBallot part.log → IsOwnIn (CanStand InMid) (open_at part.log) (own_value u booking_service (as_mid depth part)) → ((cause : Idle) → P (idles (as_mid depth part) cause))
+    → ((turn : Turn AnyValue) → IsFew u part.log turn → IsTurnIn u (CanStand InMid) FitsBallot turn → P (mid_move depth part.pending x turn)) → P (offers u booking_service x (as_mid depth part))
+offers_stand P u x depth part range own idle f =
+    let turn = offer u x part.log (own_value u booking_service (as_mid depth part)) in
+    let k = offer_in u (CanStand InMid) FitsBallot x part.log (own_value u booking_service (as_mid depth part)) range own in
+    offers_by P u x (as_mid depth part) (log_wants u part.log) idle (subst P (sym (in_log_is u depth x part.log part.pending turn (at_most_one turn.state k.state))) (f turn (offer_few u x part.log (own_value u booking_service (as_mid depth part))) k))
+
+-- where there was no memory for its value
+pub offers_memory : (now : MidView) (a : DiskState) (out : List (End × List ℕ)) (result : Result Answer Fault) → ((part : MidPart) → now.part.mode ≡ Up part → IsLogIn (CanStand InMid) FitsBallot part.log) → OwnStands now → result ≡ Err faults.Memory → MidMoves now now a a out out (λ σ. offers now.faults booking_service now.me σ) result
+offers_memory now a out result range own e = mid_none now a out out (λ σ. offers now.faults booking_service now.me σ) result
+    (λ part m. offers_stand (λ z. StandIn InMid (open_at part.log) z.facts) now.faults now.me now.depth part (range part m) (own part m) (λ cause. nothing_stands InMid (open_at part.log)) (λ turn few k. turn_stands now.faults InMid part.log turn few k))
+    (λ part m. offers_stand (λ z. open_at z.state.log ≡ open_after_all (open_at part.log) z.facts) now.faults now.me now.depth part (range part m) (own part m) (λ cause. refl) (λ turn few k. written_opens (open_at part.log) (open_at turn.state) turn.facts few.written))
+    e
 
 -- ASKING AGAIN
 
@@ -167,21 +210,26 @@ each_in u t (suc n) skip p k l = all-both {A = ℕ × PaxMsg AnyValue} (IsSendIn
 pub asks_in : (u : ℕ) (t : Tier) (x p : ℕ) → p ≤ 4096 → AllByRecursion (IsSendIn u (CanStand t) FitsBallot) (asks u x p)
 asks_in u t x p l = each_in u t (2 * u + 1) (is x) p (omega arith) l
 
-pub retries : (n : LogView) (depth : ℕ) (pending : List (Option Entry)) (now : MidView) (before after : List (End × List ℕ)) → mid_view n depth pending ≡ now → n.tier ≡ InMid → n.me < 2 * n.faults + 1 → n.faults ≤ 2 → IsRanged n
-    → ((log : LogState AnyValue) → n.part.mode ≡ Up log → after ≡ before ++ map sealed (log_packets n.tier n.me (asks n.faults n.me (open_at log)))) → MidMoves now now before after (λ σ. retry now.faults now.me σ) (Ok Did)
-retries n depth pending now before after v tier l few range sent = subst (λ (z : MidView). MidMoves z z before after (λ σ. retry z.faults z.me σ) (Ok Did)) v (record {
+pub retries : (n : LogView) (depth : ℕ) (pending : List (Option Entry)) (now : MidView) (a : DiskState) (before after : List (End × List ℕ)) → mid_view n depth pending ≡ now → n.tier ≡ InMid → n.me < 2 * n.faults + 1 → n.faults ≤ 2 → IsRanged n
+    → ((log : LogState AnyValue) → n.part.mode ≡ Up log → after ≡ before ++ map sealed (log_packets n.tier n.me (asks n.faults n.me (open_at log)))) → MidMoves now now a a before after (λ σ. retry now.faults now.me σ) (Ok Did)
+retries n depth pending now a before after v tier l few range sent = subst (λ (z : MidView). MidMoves z z a a before after (λ σ. retry z.faults z.me σ) (Ok Did)) v (record {
   row = λ part e. let q = mid_up n.part.mode pending part e in
       subst (λ z. Makes (as_mid depth) (mid_part n.part pending) (mid_part n.part pending) before after z (Ok Did)) (sym (retry_is n.faults n.me depth part)) (
         refl,
         (part, e, refl),
         refl,
+        refl,
         subst (λ t. after ≡ before ++ map sealed (log_packets t n.me (asks n.faults n.me (open_at part.log)))) tier (sent part.log q.0),
         are_fit InMid n.me (asks n.faults n.me (open_at part.log)) (omega arith) (sends_fit n.faults InMid (asks n.faults n.me (open_at part.log)) (fits part q.0)),
         refl,
       );
+  disk = λ part e. subst (λ (z : Move Mid). Wrote a a n.part.place n.part.place z.facts (Ok Did)) (sym (retry_is n.faults n.me depth part)) (wrote_none a n.part.place Did);
+  later = same_later a a refl;
   reach = λ part e. let q = mid_up n.part.mode pending part e in
       subst (λ (z : Move Mid). AllReach n.faults z.sends) (sym (retry_is n.faults n.me depth part)) (all_reach n.faults InMid n.me (asks n.faults n.me (open_at part.log)) l (fits part q.0));
   few = λ part e. subst (λ (z : Move Mid). HaveRoom z.sends) (sym (retry_is n.faults n.me depth part)) (asks_room n.faults InMid n.me (open_at part.log) few);
+  fits = λ part e. subst (λ (z : Move Mid). StandIn InMid (open_at part.log) z.facts) (sym (retry_is n.faults n.me depth part)) (nothing_stands InMid (open_at part.log));
+  opens = λ part e. subst (λ (z : Move Mid). open_at z.state.log ≡ open_after_all (open_at part.log) z.facts) (sym (retry_is n.faults n.me depth part)) refl;
   same = (refl, (refl, refl));
 })
   where
@@ -243,9 +291,27 @@ some_of (Some v) b e f = refl
 some_of None true e f = absurd (cc)
 some_of None false e f = absurd (cc)
 
-pub nil_if : (xs : List Entry) → length xs ≡ 0 → xs ≡ []
+pub nil_if : {A : Type 0} (xs : List A) → length xs ≡ 0 → xs ≡ []
 nil_if [] e = refl
 nil_if (x ∷ xs) e = absurd (omega arith)
 
 pub some_if : (xs : List Entry) → (length xs ≡ 0 → ⊥) → xs ≡ [] → ⊥
 some_if xs n e = n (ap length e)
+
+-- OF THE NODE'S PART
+
+pub range_at : (n : LogView) (depth : ℕ) (pending : List (Option Entry)) (now : MidView) → mid_view n depth pending ≡ now → n.tier ≡ InMid → IsRanged n → (part : MidPart) → now.part.mode ≡ Up part → IsLogIn (CanStand InMid) FitsBallot part.log
+range_at n depth pending now v tier range = subst (λ (z : MidView). (part : MidPart) → z.part.mode ≡ Up part → IsLogIn (CanStand InMid) FitsBallot part.log) v (λ part e. subst (λ t. IsLogIn (CanStand t) FitsBallot part.log) tier (range part.log (mid_up n.part.mode pending part e).0))
+
+pub own_stands : (n : LogView) (depth : ℕ) (pending : List (Option Entry)) (now : MidView) → mid_view n depth pending ≡ now → n.tier ≡ InMid → IsRanged n → ((d : ℕ) → FitsMid (Batch (batch_of booking_service (tables0 d) pending))) → OwnStands now
+own_stands n depth pending now v tier range fit = subst OwnStands v (λ part e. own_in n.faults depth part (batch_of booking_service (tables0 depth) part.pending)
+    (at_most_one part.log (range_at n depth pending (mid_view n depth pending) refl tier range part e)) refl (subst (λ z. FitsMid (Batch (batch_of booking_service (tables0 depth) z))) (sym (mid_up n.part.mode pending part e).1) (fit depth)))
+
+pub past_stands : (n : LogView) (depth : ℕ) (pending : List (Option Entry)) (now : MidView) (f : ℕ) → mid_view n depth pending ≡ now → n.tier ≡ InMid → IsRanged n → Opens n f → 0 < f → OwnStands now
+past_stands n depth pending now f v tier range opens l part e = subst (λ z. IsOwnIn (CanStand InMid) (open_at part.log) z) (own_past n depth pending now f v tier range opens l part e) tt
+
+pub retries_none : (n : LogView) (depth : ℕ) (pending : List (Option Entry)) (now : MidView) (a : DiskState) (before after : List (End × List ℕ)) (result : Result Answer Fault) → mid_view n depth pending ≡ now → result ≡ Err faults.Memory → MidMoves now now a a before after (λ σ. retry now.faults now.me σ) result
+retries_none n depth pending now a before after result v e = mid_none now a before after (λ σ. retry now.faults now.me σ) result
+    (λ part m. subst (λ (z : Move Mid). StandIn InMid (open_at part.log) z.facts) (sym (retry_is now.faults now.me now.depth part)) (nothing_stands InMid (open_at part.log)))
+    (λ part m. subst (λ (z : Move Mid). open_at z.state.log ≡ open_after_all (open_at part.log) z.facts) (sym (retry_is now.faults now.me now.depth part)) refl)
+    e

@@ -179,3 +179,7 @@ take_front (x ∷ xs) ys = ap (λ zs. x ∷ zs) (take_front xs ys)
 -- a full list takes no more
 pub take_full : {A : Type 0} (n : ℕ) (xs ys : List A) → length xs ≡ n → xs ≡ take n (xs ++ ys)
 take_full n xs ys e = sym (subst (λ z. take z (xs ++ ys) ≡ xs) e (take_front xs ys))
+
+-- the batch that can be offered fits
+pub batch_stands : (depth : ℕ) (xs now : List (Option Entry)) → ArePending xs → xs ≡ now → FitsMid (Batch (batch_of booking_service (tables0 depth) now))
+batch_stands depth xs now k v = batch_fits xs 16 (batch_of booking_service (tables0 depth) now) k (sym (batch_made depth 16 xs now (take 8 (joined xs 16)) k v refl refl))

@@ -1,111 +1,318 @@
--- A node restarts on its blank disk.
-use Rattle.std.proofs.Common.{◌≡◌, ℕ, ◌+◌, ◌*◌, ◌<◌, ◌≤◌, List, [], ◌∷◌, refl, sym, ap, ◌∙◌, subst, arith}
-use Rattle.std.specs.Prelude.{nat_lt}
-use Rattle.std.proofs.lemmas.Bool.{cond-true, lt-ltb}
+-- A node restarts, and comes up from one of the lists that its disk stands for, or its disk fails.
+use Rattle.std.proofs.Common.{◌≡◌, ℕ, ◌+◌, ◌*◌, ◌<◌, ◌≤◌, Bool, true, false, cond, List, [], ◌∷◌, ◌++◌, refl, sym, ap, ◌∙◌, subst, inl, inr, arith, length, Some, Result, Ok, Err, zero, suc}
+use Rattle.std.specs.Prelude.{nat_lt, slice_get, slice_set, codes, ◌⊎◌}
+use Rattle.std.specs.List.{AllByRecursion}
+use Rattle.std.proofs.lemmas.Bool.{le-ltb, lt-ltb}
 use Rattle.aeg_base.specs.declared.limits.TheConstants.{JOURNAL_BYTES}
 use Rattle.aeg_base.specs.declared.names.Tier.{Tier}
 use Rattle.aeg_base.specs.declared.names.Tier.TheVariants.{Mid as MidTier, Inv, Pay}
 use Rattle.aeg_base.specs.declared.names.NodeId.{NodeId}
-use Rattle.server_model.specs.Backends.{Amounts}
-use Rattle.log_model.specs.World.{Mode, Node as NodeOf, stands, put}
-use Rattle.log_model.specs.World.Mode.{Up, Down}
+use Rattle.aeg_disk.specs.Disk.{DiskState, Later, Rose}
+use Rattle.fact_journal.specs.Standing.{StandsFor}
+use Rattle.fact_journal.specs.Fitting.{Fit, EachFits, all_facts}
+use Rattle.fact_journal.proofs.Standing.{having_stands, same_stands}
+use Rattle.log_model.specs.Log.{open_at}
+use Rattle.log_model.specs.World.{Mode, Node as NodeOf, stands}
+use Rattle.log_model.specs.World.Mode.{Up, Down, Gone}
 use Rattle.log_model.specs.Recover.{newest}
 use Rattle.log_values.specs.declared.fact.Fact.{Fact}
-use Rattle.tier_model.specs.Mid.{Mid}
+use Rattle.log_values.specs.Records.{record_text}
+use Rattle.frames.specs.declared.turn.Fault.{Fault as NodeFault}
+use Rattle.frames.specs.declared.turn.Fault.TheVariants as faults
 use Rattle.tier_model.specs.MidRows as mids
-use Rattle.tier_model.specs.Back.{Back}
 use Rattle.tier_model.specs.BackRows as backs
-use Rattle.run_model.specs.declared.trace.Found.TheVariants.{Reads}
+use Rattle.run_model.specs.declared.trace.Found.{Found}
+use Rattle.run_model.specs.declared.trace.Found.TheVariants.{Reads as ReadsList, Fault as Fails}
 use Rattle.run_model.specs.World as worlds
-use Rattle.run_model.specs.World.{journal_length, restarted, happens}
+use Rattle.run_model.specs.World.{up_from, up_as, found_at, restarted}
+use Rattle.run_model.specs.Resolving.{others_at}
 use Rattle.run_model.specs.Text as texts
-use Rattle.run_model.specs.Text.{own_text}
-use Rattle.world.specs.declared.nodes.all_nodes.Nodes.{Nodes}
 use Rattle.run_model.specs.BookingRuns.{config, booking_service, BookingWorld}
-use Rattle.world.specs.Parts.{NodePart, MidView, BackView, as_mid, as_back, new_part}
-use Rattle.world.specs.NodeLists.{IsNewIn, RestartIn, MidRestarts, BackRestarts}
-use Rattle.world.specs.Standing.{mode_by, journal_of, IsNode, IsMid, IsBack, AreAll, AreNodes}
-use Rattle.world.proofs.AtNodes.{some_below}
-use Rattle.world.proofs.Doing.{set_one}
+use Rattle.world.specs.declared.nodes.all_nodes.Nodes.{Nodes}
+use Rattle.world.specs.declared.nodes.condition.Condition.TheVariants as conditions
+use Rattle.world.specs.Arming.{at_rest}
+use Rattle.world.specs.Calling.{found_of}
+use Rattle.world.specs.Disks.{IsReady, IsDiskOf, AreDisks, first_of}
+use Rattle.world.specs.Parts.{NodePart, MidRestarts, BackRestarts, as_mid, as_back, AllStand, CanWrite, MayRead, Reads, list_found, is_down_in}
+use Rattle.world.specs.NodeLists.{condition_in, condition_at, mid_condition, back_condition, KeepTiers, RestartIn, down_in, mid_down, back_down}
+use Rattle.world.specs.Telling.{told_restart, HadMemory}
+use Rattle.world.specs.Standing.{mode_by, journal_of, IsPlaced, IsDoubted, IsOpen, IsNode, IsMid, IsBack, AreNodes, open_of_mid}
+use Rattle.world.proofs.Moving.{journal-last, size_is, rest_content}
 use Rattle.world.proofs.Commands.{Commanded}
+use Rattle.world.proofs.Placing.{mid_placed, inv_placed, pay_placed, mid_kept, inv_kept, pay_kept}
+use Rattle.world.proofs.Present.{some_get, node_condition}
 
--- a journal of one byte has no records
-blank : (rs : List (List Fact)) → 1 ≡ journal_of rs → rs ≡ []
-blank [] e = refl
-blank (r ∷ rs) e = absurd (omega arith)
+-- ONE OF THE LISTS
 
-down_now : {S T : Type 0} (whole : S → T) (node : NodeOf T Fact) (part : NodePart S) → IsNode whole node part → part ≡ new_part → node.mode ≡ Down
-down_now whole node part k e = k.mode ∙ ap (λ (p : NodePart _). mode_by whole p.mode) e
+all_get : {A : Type 0} (P : A → Type 0) (xs : List A) (k : ℕ) (x : A) → AllByRecursion P xs → slice_get xs k ≡ Some x → P x
+all_get P [] k x h e = absurd (cc)
+all_get P (y ∷ xs) zero x h e = let f : y ≡ x = cc in subst P f h.0
+all_get P (y ∷ xs) (suc k) x h e = all_get P xs k x h.1 e
 
-comes_up : {S T : Type 0} (whole : S → T) (recover : List Fact → T) (node : NodeOf T Fact) (part new : NodePart S) (s : S) → IsNode whole node part → part ≡ new_part → new ≡ record { mode = Up s; written = 1 } → whole s ≡ recover [] → IsNode whole (restarted recover node (Reads 0) node.mode) new
-comes_up {S} {T} whole recover node part new s k e n r =
-    let records : node.records ≡ [] = blank node.records (sym (ap (λ (p : NodePart S). p.written) e) ∙ k.written) in
-    let is : restarted recover node (Reads 0) node.mode ≡ stands (Up (recover [])) [] = ap (restarted recover node (Reads 0)) (down_now whole node part k e) ∙ (λ i. stands (Up (recover (newest (records i)))) (records i)) in
-    let small : 1 ≤ JOURNAL_BYTES = omega arith in
-    let up : IsNode whole (stands (Up (recover [])) []) (record { mode = Up s; written = 1 }) = record { mode = ap Up (sym r); here = tt; written = refl; within = small } in
-    subst (λ z. IsNode whole z new) (sym is) (subst (λ z. IsNode whole (stands (Up (recover [])) []) z) (sym n) up)
+fits_get : (t : Tier) (lists : List (List (List Fact))) (k : ℕ) (rs : List (List Fact)) → EachFits t lists → slice_get lists k ≡ Some rs → Fit t rs
+fits_get t [] k rs h e = absurd (cc)
+fits_get t (qs ∷ lists) zero rs h e = let f : qs ≡ rs = cc in subst (Fit t) f h.0
+fits_get t (qs ∷ lists) (suc k) rs h e = fits_get t lists k rs h.1 e
 
-mid_up_again : (u depth x : ℕ) (node : NodeOf Mid Fact) (m n : MidView) → IsMid u depth x node m → m.part ≡ new_part → MidRestarts m n → IsMid u depth x (restarted (mids.recovered u booking_service depth) node (Reads 0) node.mode) n
-mid_up_again u depth x node m n k e h = record {
-  faults = h.same.0 ∙ k.faults;
-  deep = h.same.1.0 ∙ k.deep;
-  me = h.same.1.1 ∙ k.me;
-  part = comes_up (as_mid depth) (mids.recovered u booking_service depth) node m.part n.part h.part.0 k.part e h.part.1.0 (subst (λ z. as_mid z h.part.0 ≡ mids.recovered u booking_service z []) k.deep (subst (λ z. as_mid m.depth h.part.0 ≡ mids.recovered z booking_service m.depth []) k.faults h.part.1.1));
+stand_get : (t : Tier) (lists : List (List (List Fact))) (k : ℕ) (rs : List (List Fact)) → AllStand t lists → slice_get lists k ≡ Some rs → AllStand t (rs ∷ [])
+stand_get t lists k rs h e = record { fit = (fits_get t lists k rs h.fit e, tt); can = can }
+  where
+    can : (i : ℕ) (qs : List (List Fact)) → slice_get (rs ∷ []) i ≡ Some qs → AllByRecursion (CanWrite t) (all_facts qs)
+    can zero qs f = let g : rs ≡ qs = cc in subst (λ z. AllByRecursion (CanWrite t) (all_facts z)) g (h.can k rs e)
+    can (suc i) qs f = absurd (cc)
+
+-- its length tells which one it is
+names : {S : Type 0} (recover : List Fact → S) (node : NodeOf S Fact) (doubt : Bool) (k list known found : ℕ) (rs : List (List Fact)) → IsDoubted doubt node.records node.others → (doubt ≡ true → known + 1 ≡ journal_of node.records) → slice_get (node.records ∷ node.others) k ≡ Some rs → found + 1 ≡ journal_of rs → list ≡ list_found doubt known found
+    → (found_at recover node list ≡ up_from recover rs) × (list ≤ length node.others)
+names recover node false zero list known found rs d p g f e =
+    let same : node.records ≡ rs = cc in
+    (ap (found_at recover node) e ∙ ap (up_from recover) same, omega (arith, e))
+names recover node false (suc k) list known found rs d p g f e = absurd (let h : slice_get [] k ≡ Some rs = subst (λ z. slice_get z k ≡ Some rs) d g in cc)
+names recover node true zero list known found rs d p g f e =
+    let same : node.records ≡ rs = cc in
+    let long : known + 1 ≡ journal_of rs = p refl ∙ ap journal_of same in
+    let no_more : nat_lt known found ≡ false = le-ltb known found (omega (arith, long, f)) in
+    let none : list ≡ 0 = e ∙ ap (λ z. cond z 1 0) no_more in
+    (ap (found_at recover node) none ∙ ap (up_from recover) same, omega (arith, none))
+names recover node true (suc zero) list known found rs d p g f e =
+    let h : slice_get ((node.records ++ d.0 ∷ []) ∷ []) 0 ≡ Some rs = subst (λ z. slice_get z 0 ≡ Some rs) d.2 g in
+    let same : node.records ++ d.0 ∷ [] ≡ rs = cc in
+    let long : known + 1 ≡ journal_of node.records = p refl in
+    let longer : found + 1 ≡ journal_of node.records + (5 + length (record_text d.0)) = f ∙ ap journal_of (sym same) ∙ journal-last (λ facts. length (record_text facts)) node.records d.0 in
+    let more : nat_lt known found ≡ true = lt-ltb known found (omega (arith, long, longer)) in
+    let one : list ≡ 1 = e ∙ ap (λ z. cond z 1 0) more in
+    (ap (found_at recover node) one ∙ ap (up_as recover node) g, omega (arith, one, ap length d.2))
+names recover node true (suc (suc k)) list known found rs d p g f e = absurd (let h : slice_get ((node.records ++ d.0 ∷ []) ∷ []) (suc k) ≡ Some rs = subst (λ z. slice_get z (suc k) ≡ Some rs) d.2 g in cc)
+
+-- A NODE THAT IS DOWN
+
+abbrev pub IsAmong : List (List (List Fact)) → Found → Type 0
+IsAmong others (ReadsList k) = k ≤ length others
+IsAmong others Fails = Unit {0}
+
+abbrev pub is_failing : Found → Bool
+is_failing (ReadsList k) = false
+is_failing Fails = true
+
+-- it came up with one of the lists, or its disk failed
+pub record Risen {S T : Type 0} (t : Tier) (whole : S → T) (open_of : S → ℕ) (recover : List Fact → T) (node : NodeOf T Fact) (new : NodePart S) (disk disk_after : DiskState) (found : Found) : Type 0 where
+  pub is : IsNode t whole open_of (restarted recover node found node.mode) new
+  pub on : IsDiskOf (restarted recover node found node.mode) disk_after
+  pub among : IsAmong node.others found
+  pub cause : is_failing found ≡ true → Rose disk.faults disk_after.faults
+
+rises : {S T : Type 0} (t : Tier) (whole : S → T) (open_of : S → ℕ) (recover : List Fact → T) (node : NodeOf T Fact) (part new : NodePart S) (disk disk_after : DiskState) (result : Result ℕ NodeFault) → IsNode t whole open_of node part → IsDiskOf node disk → part.mode ≡ Down → HadMemory result
+    → Reads t whole open_of recover part new (at_rest disk) disk_after (node.records ∷ node.others) result → Later (at_rest disk) disk_after → Risen t whole open_of recover node new disk disk_after (found_of result)
+rises {S} {T} t whole open_of recover node part new disk disk_after (Ok list) k d m memory h later = record {
+  is = subst (λ z. IsNode t whole open_of z new) (sym is_up) (record {
+    mode = ap Up (sym h.3.2) ∙ sym (ap (mode_by whole) h.3.1);
+    placed = subst (λ z. IsPlaced z new.place new.doubt h.1) (sym h.3.1) (place, h.4);
+    doubted = subst (λ z. IsDoubted z h.1 []) (sym h.4) refl;
+    within = (all_get (λ records. journal_of records ≤ JOURNAL_BYTES) (node.records ∷ node.others) h.0 h.1 k.within h.2, tt);
+    stand = stand_get t (node.records ∷ node.others) h.0 h.1 k.stand h.2;
+    opened = subst (λ z. IsOpen open_of z h.1) (sym h.3.1) h.3.3;
+  });
+  on = subst (λ z. IsDiskOf z disk_after) (sym is_up) (record { rest = later.free refl refl; lists = having_stands h.1 disk_after new.place (later.tells ∙ d.lists.tells) h.5; ready = (new.place, h.5) });
+  among = named.1;
+  cause = λ e. absurd (cc);
 }
+  where
+    down : node.mode ≡ Down
+    down = k.mode ∙ ap (mode_by whole) m
 
-back_up_again : (u x : ℕ) (t : Tier) (node : NodeOf (Back Amounts) Fact) (b n : BackView) → IsBack u t x node b → b.part ≡ new_part → BackRestarts b n → IsBack u t x (restarted (backs.recovered u booking_service t) node (Reads 0) node.mode) n
-back_up_again u x t node b n k e h = record {
-  faults = h.same.0 ∙ k.faults;
-  tier = h.same.1.0 ∙ k.tier;
-  me = h.same.1.1 ∙ k.me;
-  part = comes_up (as_back u t) (backs.recovered u booking_service t) node b.part n.part h.part.0 k.part e h.part.1.0 (subst (λ z. as_back u z h.part.0 ≡ backs.recovered u booking_service z []) k.tier (subst (λ z. as_back z b.tier h.part.0 ≡ backs.recovered z booking_service b.tier []) k.faults h.part.1.1));
+    place : new.place + 1 ≡ journal_of h.1
+    place = h.5.long ∙ size_is h.1
+
+    known : part.doubt ≡ true → part.place + 1 ≡ journal_of node.records
+    known = subst (λ z. IsPlaced z part.place part.doubt node.records) m k.placed
+
+    named : (found_at recover node list ≡ up_from recover h.1) × (list ≤ length node.others)
+    named = names recover node part.doubt h.0 list part.place new.place h.1 k.doubted known h.2 place h.6
+
+    is_up : restarted recover node (ReadsList list) node.mode ≡ stands (Up (recover (newest h.1))) h.1
+    is_up = ap (restarted recover node (ReadsList list)) down ∙ named.0
+rises {S} {T} t whole open_of recover node part new disk disk_after (Err faults.Disk) k d m memory h later = record {
+  is = subst (λ z. IsNode t whole open_of z new) (sym same) (subst (IsNode t whole open_of node) (sym h.0) k);
+  on = subst (λ z. IsDiskOf z disk_after) (sym same) (record { rest = later.free refl refl; lists = h.1; ready = subst (λ z. IsReady z node.records disk_after) (sym down) tt });
+  among = tt;
+  cause = λ e. rose h.2;
 }
+  where
+    down : node.mode ≡ Down
+    down = k.mode ∙ ap (mode_by whole) m
 
-quiet : (name : List ℕ) {S : Type 0} (m : Mode S) → m ≡ Down → texts.restart_text name (Reads 0) m ≡ []
-quiet name m e = ap (texts.restart_text name (Reads 0)) e
+    same : restarted recover node Fails node.mode ≡ node
+    same = ap (restarted recover node Fails) down
 
--- the node's event: it comes up, and nothing is sent or printed
-pub restart_by : (u depth : ℕ) (w : BookingWorld) (old new : Nodes) (n : NodeId) (t : Tier) → AreNodes u depth w old → IsNewIn old t n.index → RestartIn old new t n.index
-    → Commanded u depth w (worlds.restarts (config u depth) w (Reads 0) t n.index) new [] (texts.by_mode w (λ S. texts.restart_text {S = S} (texts.node_name n) (Reads 0)) t n.index) []
-restart_by u depth w old new n MidTier k f h =
-    let i = k.mids.each n.index f.0 f.1 in
-    let r = h.0 f.0 f.1 in
-    let node = restarted (mids.recovered u booking_service depth) (w.mids n.index) (Reads 0) (w.mids n.index).mode in
-    let l : n.index < 2 * u + 1 = omega (arith, k.mids.size, some_below old.mids.items n.index f.0 f.1) in
-    let is : worlds.restarts (config u depth) w (Reads 0) MidTier n.index ≡ worlds.with_mid w n.index node [] [] = cond-true (nat_lt n.index (2 * u + 1)) (worlds.with_mid w n.index node [] []) w (lt-ltb n.index (2 * u + 1) l) in
-    let all : AreAll (2 * u + 1) (IsMid u depth) (put w.mids n.index node) new.mids.items = subst (AreAll (2 * u + 1) (IsMid u depth) (put w.mids n.index node)) (sym r.1) (set_one (2 * u + 1) (IsMid u depth) w.mids old.mids.items n.index node r.0 k.mids (mid_up_again u depth n.index (w.mids n.index) f.0 r.0 i f.2 r.2)) in
-    subst (λ z. Commanded u depth w z new [] (texts.restart_text (texts.node_name n) (Reads 0) (w.mids n.index).mode) []) (sym is) (record {
-      packets = [];
-      sends = refl;
-      leads = record { are = record { mids = all; invs = subst (AreAll (2 * u + 1) (IsBack u Inv) (w.backs Inv)) (sym h.1.0) k.invs; pays = subst (AreAll (2 * u + 1) (IsBack u Pay) (w.backs Pay)) (sym h.1.1) k.pays }; soup = refl; log = refl; logs = refl; hist = refl; fit = λ j p e. absurd (cc); reach = λ j p e. absurd (cc) };
-      clients = refl;
-      text_is = quiet (texts.node_name n) (w.mids n.index).mode (down_now (as_mid depth) (w.mids n.index) f.0.part i.part f.2);
-    })
-restart_by u depth w old new n Inv k f h =
-    let i = k.invs.each n.index f.0 f.1 in
-    let r = h.0 f.0 f.1 in
-    let node = restarted (backs.recovered u booking_service Inv) (w.backs Inv n.index) (Reads 0) (w.backs Inv n.index).mode in
-    let l : n.index < 2 * u + 1 = omega (arith, k.invs.size, some_below old.invs.items n.index f.0 f.1) in
-    let is : worlds.restarts (config u depth) w (Reads 0) Inv n.index ≡ worlds.with_back w Inv n.index node [] = cond-true (nat_lt n.index (2 * u + 1)) (worlds.with_back w Inv n.index node []) w (lt-ltb n.index (2 * u + 1) l) in
-    let all : AreAll (2 * u + 1) (IsBack u Inv) (put (w.backs Inv) n.index node) new.invs.items = subst (AreAll (2 * u + 1) (IsBack u Inv) (put (w.backs Inv) n.index node)) (sym r.1) (set_one (2 * u + 1) (IsBack u Inv) (w.backs Inv) old.invs.items n.index node r.0 k.invs (back_up_again u n.index Inv (w.backs Inv n.index) f.0 r.0 i f.2 r.2)) in
-    subst (λ z. Commanded u depth w z new [] (texts.restart_text (texts.node_name n) (Reads 0) (w.backs Inv n.index).mode) []) (sym is) (record {
-      packets = [];
-      sends = refl;
-      leads = record { are = record { mids = subst (AreAll (2 * u + 1) (IsMid u depth) w.mids) (sym h.1.0) k.mids; invs = all; pays = subst (AreAll (2 * u + 1) (IsBack u Pay) (w.backs Pay)) (sym h.1.1) k.pays }; soup = refl; log = refl; logs = refl; hist = refl; fit = λ j p e. absurd (cc); reach = λ j p e. absurd (cc) };
-      clients = refl;
-      text_is = quiet (texts.node_name n) (w.backs Inv n.index).mode (down_now (as_back u Inv) (w.backs Inv n.index) f.0.part i.part f.2);
-    })
-restart_by u depth w old new n Pay k f h =
-    let i = k.pays.each n.index f.0 f.1 in
-    let r = h.0 f.0 f.1 in
-    let node = restarted (backs.recovered u booking_service Pay) (w.backs Pay n.index) (Reads 0) (w.backs Pay n.index).mode in
-    let l : n.index < 2 * u + 1 = omega (arith, k.pays.size, some_below old.pays.items n.index f.0 f.1) in
-    let is : worlds.restarts (config u depth) w (Reads 0) Pay n.index ≡ worlds.with_back w Pay n.index node [] = cond-true (nat_lt n.index (2 * u + 1)) (worlds.with_back w Pay n.index node []) w (lt-ltb n.index (2 * u + 1) l) in
-    let all : AreAll (2 * u + 1) (IsBack u Pay) (put (w.backs Pay) n.index node) new.pays.items = subst (AreAll (2 * u + 1) (IsBack u Pay) (put (w.backs Pay) n.index node)) (sym r.1) (set_one (2 * u + 1) (IsBack u Pay) (w.backs Pay) old.pays.items n.index node r.0 k.pays (back_up_again u n.index Pay (w.backs Pay n.index) f.0 r.0 i f.2 r.2)) in
-    subst (λ z. Commanded u depth w z new [] (texts.restart_text (texts.node_name n) (Reads 0) (w.backs Pay n.index).mode) []) (sym is) (record {
-      packets = [];
-      sends = refl;
-      leads = record { are = record { mids = subst (AreAll (2 * u + 1) (IsMid u depth) w.mids) (sym h.1.0) k.mids; invs = subst (AreAll (2 * u + 1) (IsBack u Inv) (w.backs Inv)) (sym h.1.1) k.invs; pays = all }; soup = refl; log = refl; logs = refl; hist = refl; fit = λ j p e. absurd (cc); reach = λ j p e. absurd (cc) };
-      clients = refl;
-      text_is = quiet (texts.node_name n) (w.backs Pay n.index).mode (down_now (as_back u Pay) (w.backs Pay n.index) f.0.part i.part f.2);
-    })
+    rose : (disk_after.stopped ≡ true) ⊎ Rose disk.faults disk_after.faults → Rose disk.faults disk_after.faults
+    rose (inl e) = absurd (let f : disk_after.stopped ≡ false = (later.free refl refl).1 in cc)
+    rose (inr r) = r
+rises t whole open_of recover node part new disk disk_after (Err faults.Memory) k d m memory h later = absurd memory
+rises t whole open_of recover node part new disk disk_after (Err (faults.JournalFull size)) k d m memory h later = absurd h
+rises t whole open_of recover node part new disk disk_after (Err (faults.BadRecord at)) k d m memory h later = absurd h
+
+down_mode : {S : Type 0} (m : Mode S) → condition_in m ≡ conditions.Down → m ≡ Down
+down_mode (Up s) e = absurd (cc)
+down_mode Down e = refl
+down_mode Gone e = absurd (cc)
+
+-- what a restart can answer
+abbrev IsRestart : Result ℕ NodeFault → Type 0
+IsRestart (Ok list) = Unit {0}
+IsRestart (Err faults.Disk) = Unit {0}
+IsRestart (Err faults.Memory) = Unit {0}
+IsRestart (Err (faults.JournalFull size)) = ⊥
+IsRestart (Err (faults.BadRecord at)) = ⊥
+
+told_is : {S : Type 0} (n : NodeId) (result : Result ℕ NodeFault) (m : Mode S) → m ≡ Down → HadMemory result → IsRestart result → texts.restart_text (texts.node_name n) (found_of result) m ≡ told_restart n result
+told_is n (Ok list) m e k r = ap (texts.restart_text (texts.node_name n) (ReadsList list)) e
+told_is n (Err faults.Disk) m e k r = ap (texts.restart_text (texts.node_name n) Fails) e
+told_is n (Err faults.Memory) m e k r = absurd k
+told_is n (Err (faults.JournalFull size)) m e k r = absurd r
+told_is n (Err (faults.BadRecord at)) m e k r = absurd r
+
+read_is : {S T : Type 0} (t : Tier) (whole : S → T) (open_of : S → ℕ) (recover : List Fact → T) (old new : NodePart S) (before after : DiskState) (lists : List (List (List Fact))) (result : Result ℕ NodeFault) → Reads t whole open_of recover old new before after lists result → IsRestart result
+read_is t whole open_of recover old new before after lists (Ok list) h = tt
+read_is t whole open_of recover old new before after lists (Err faults.Disk) h = tt
+read_is t whole open_of recover old new before after lists (Err faults.Memory) h = tt
+read_is t whole open_of recover old new before after lists (Err (faults.JournalFull size)) h = h
+read_is t whole open_of recover old new before after lists (Err (faults.BadRecord at)) h = h
+
+rest_stands : {T : Type 0} (node : NodeOf T Fact) (disk : DiskState) → IsDiskOf node disk → StandsFor (node.records ∷ node.others) (at_rest disk)
+rest_stands node disk d = same_stands (node.records ∷ node.others) disk (at_rest disk) d.lists (rest_content disk) refl
+
+-- WHAT A RESTART ASKS
+
+pub may_read : (u depth : ℕ) (w : BookingWorld) (nodes : Nodes) (t : Tier) (x : ℕ) (disks : List DiskState) (disk : DiskState) → u ≤ 2 → AreNodes u depth w nodes → AreDisks w disks → x < 2 * u + 1 → slice_get disks (first_of t + x) ≡ Some disk → MayRead t (at_rest disk)
+may_read u depth w nodes MidTier x disks disk few k d l e =
+    let m = some_get nodes.mids.items x (omega (arith, k.mids.size, l)) in
+    ((w.mids x).records ∷ (w.mids x).others, rest_stands (w.mids x) disk (d.mids x disk (omega (arith, few, l)) e), (k.mids.each x m.0 m.1).part.stand)
+may_read u depth w nodes Inv x disks disk few k d l e =
+    let m = some_get nodes.invs.items x (omega (arith, k.invs.size, l)) in
+    ((w.backs Inv x).records ∷ (w.backs Inv x).others, rest_stands (w.backs Inv x) disk (d.invs x disk (omega (arith, few, l)) e), (k.invs.each x m.0 m.1).part.stand)
+may_read u depth w nodes Pay x disks disk few k d l e =
+    let m = some_get nodes.pays.items x (omega (arith, k.pays.size, l)) in
+    ((w.backs Pay x).records ∷ (w.backs Pay x).others, rest_stands (w.backs Pay x) disk (d.pays x disk (omega (arith, few, l)) e), (k.pays.each x m.0 m.1).part.stand)
+
+pub keep_tiers : (u depth : ℕ) (w : BookingWorld) (nodes : Nodes) → AreNodes u depth w nodes → KeepTiers nodes
+keep_tiers u depth w nodes k = record { invs = λ x b e. (k.invs.each x b e).tier; pays = λ x b e. (k.pays.each x b e).tier }
+
+down_by : {S : Type 0} (m : Mode S) → condition_in m ≡ conditions.Down → is_down_in m ≡ true
+down_by (Up s) e = absurd (cc)
+down_by Down e = refl
+down_by Gone e = absurd (cc)
+
+pub is_down_there : (u depth : ℕ) (w : BookingWorld) (nodes : Nodes) (t : Tier) (x : ℕ) → AreNodes u depth w nodes → x < 2 * u + 1 → condition_at nodes t x ≡ conditions.Down → down_in nodes t x ≡ true
+is_down_there u depth w nodes MidTier x k l e =
+    let m = some_get nodes.mids.items x (omega (arith, k.mids.size, l)) in
+    ap mid_down m.1 ∙ down_by m.0.part.mode (sym (ap mid_condition m.1) ∙ e)
+is_down_there u depth w nodes Inv x k l e =
+    let m = some_get nodes.invs.items x (omega (arith, k.invs.size, l)) in
+    ap back_down m.1 ∙ down_by m.0.part.mode (sym (ap back_condition m.1) ∙ e)
+is_down_there u depth w nodes Pay x k l e =
+    let m = some_get nodes.pays.items x (omega (arith, k.pays.size, l)) in
+    ap back_down m.1 ∙ down_by m.0.part.mode (sym (ap back_condition m.1) ∙ e)
+
+-- THE NODE'S EVENT
+
+pub restart_by : (u depth : ℕ) (w : BookingWorld) (old new : Nodes) (n : NodeId) (disks : List DiskState) (disk disk_after : DiskState) (result : Result ℕ NodeFault) (t : Tier) → u ≤ 2 → AreNodes u depth w old → AreDisks w disks → n.index < 2 * u + 1 → slice_get disks (first_of t + n.index) ≡ Some disk → condition_at old t n.index ≡ conditions.Down → HadMemory result → RestartIn old new t n.index (at_rest disk) disk_after result
+    → Commanded u depth w (worlds.restarts (config u depth) w (found_of result) t n.index) new (slice_set disks (first_of t + n.index) disk_after) [] (texts.by_mode w (λ S. texts.restart_text {S = S} (texts.node_name n) (found_of result)) t n.index) (told_restart n result) × IsAmong (others_at w t n.index) (found_of result) × (is_failing (found_of result) ≡ true → Rose disk.faults disk_after.faults) × (disk.faults ≤ disk_after.faults)
+restart_by u depth w old new n disks disk disk_after result MidTier few k d l b c memory move =
+    let x = n.index in
+    let m = some_get old.mids.items x (omega (arith, k.mids.size, l)) in
+    let i = k.mids.each x m.0 m.1 in
+    let v = move.0 m.0 m.1 in
+    let h : MidRestarts (record { faults = u; depth = depth; me = x; part = m.0.part }) v.0 (at_rest disk) disk_after result = subst (λ z. MidRestarts z v.0 (at_rest disk) disk_after result) (λ j. record { faults = i.faults j; depth = i.deep j; me = i.me j; part = m.0.part }) v.2 in
+    let on = d.mids x disk (omega (arith, few, l)) b in
+    let down : m.0.part.mode ≡ Down = down_mode m.0.part.mode (sym (ap mid_condition m.1) ∙ c) in
+    let read = h.reads ((w.mids x).records ∷ (w.mids x).others) (rest_stands (w.mids x) disk on) i.part.stand in
+    let r = rises MidTier (as_mid depth) open_of_mid (mids.recovered u booking_service depth) (w.mids x) m.0.part v.0.part disk disk_after result i.part on down memory read h.later in
+    let to : IsMid u depth x (restarted (mids.recovered u booking_service depth) (w.mids x) (found_of result) (w.mids x).mode) v.0 = record { faults = h.same.0; deep = h.same.1.0; me = h.same.1.1; part = r.is } in (
+      mid_placed u depth w old new x disks disk_after (restarted (mids.recovered u booking_service depth) (w.mids x) (found_of result) (w.mids x).mode) v.0 _ (told_restart n result) few l k d to r.on v.1 move.1.0 move.1.1
+          (told_is n result (w.mids x).mode (i.part.mode ∙ ap (mode_by _) down) memory (read_is MidTier (as_mid depth) open_of_mid (mids.recovered u booking_service depth) m.0.part v.0.part (at_rest disk) disk_after ((w.mids x).records ∷ (w.mids x).others) result read)),
+      r.among,
+      r.cause,
+      h.later.faults,
+    )
+restart_by u depth w old new n disks disk disk_after result Inv few k d l b c memory move =
+    let x = n.index in
+    let m = some_get old.invs.items x (omega (arith, k.invs.size, l)) in
+    let i = k.invs.each x m.0 m.1 in
+    let v = move.0 m.0 m.1 in
+    let h : BackRestarts (record { faults = u; tier = Inv; me = x; part = m.0.part }) v.0 (at_rest disk) disk_after result = subst (λ z. BackRestarts z v.0 (at_rest disk) disk_after result) (λ j. record { faults = i.faults j; tier = i.tier j; me = i.me j; part = m.0.part }) v.2 in
+    let on = d.invs x disk (omega (arith, few, l)) b in
+    let down : m.0.part.mode ≡ Down = down_mode m.0.part.mode (sym (ap back_condition m.1) ∙ c) in
+    let read = h.reads ((w.backs Inv x).records ∷ (w.backs Inv x).others) (rest_stands (w.backs Inv x) disk on) i.part.stand in
+    let r = rises Inv (as_back u Inv) open_at (backs.recovered u booking_service Inv) (w.backs Inv x) m.0.part v.0.part disk disk_after result i.part on down memory read h.later in
+    let to : IsBack u Inv x (restarted (backs.recovered u booking_service Inv) (w.backs Inv x) (found_of result) (w.backs Inv x).mode) v.0 = record { faults = h.same.0; tier = h.same.1.0; me = h.same.1.1; part = r.is } in (
+      inv_placed u depth w old new x disks disk_after (restarted (backs.recovered u booking_service Inv) (w.backs Inv x) (found_of result) (w.backs Inv x).mode) v.0 _ (told_restart n result) few l k d to r.on v.1 move.1.0 move.1.1
+          (told_is n result (w.backs Inv x).mode (i.part.mode ∙ ap (mode_by _) down) memory (read_is Inv (as_back u Inv) open_at (backs.recovered u booking_service Inv) m.0.part v.0.part (at_rest disk) disk_after ((w.backs Inv x).records ∷ (w.backs Inv x).others) result read)),
+      r.among,
+      r.cause,
+      h.later.faults,
+    )
+restart_by u depth w old new n disks disk disk_after result Pay few k d l b c memory move =
+    let x = n.index in
+    let m = some_get old.pays.items x (omega (arith, k.pays.size, l)) in
+    let i = k.pays.each x m.0 m.1 in
+    let v = move.0 m.0 m.1 in
+    let h : BackRestarts (record { faults = u; tier = Pay; me = x; part = m.0.part }) v.0 (at_rest disk) disk_after result = subst (λ z. BackRestarts z v.0 (at_rest disk) disk_after result) (λ j. record { faults = i.faults j; tier = i.tier j; me = i.me j; part = m.0.part }) v.2 in
+    let on = d.pays x disk (omega (arith, few, l)) b in
+    let down : m.0.part.mode ≡ Down = down_mode m.0.part.mode (sym (ap back_condition m.1) ∙ c) in
+    let read = h.reads ((w.backs Pay x).records ∷ (w.backs Pay x).others) (rest_stands (w.backs Pay x) disk on) i.part.stand in
+    let r = rises Pay (as_back u Pay) open_at (backs.recovered u booking_service Pay) (w.backs Pay x) m.0.part v.0.part disk disk_after result i.part on down memory read h.later in
+    let to : IsBack u Pay x (restarted (backs.recovered u booking_service Pay) (w.backs Pay x) (found_of result) (w.backs Pay x).mode) v.0 = record { faults = h.same.0; tier = h.same.1.0; me = h.same.1.1; part = r.is } in (
+      pay_placed u depth w old new x disks disk_after (restarted (backs.recovered u booking_service Pay) (w.backs Pay x) (found_of result) (w.backs Pay x).mode) v.0 _ (told_restart n result) few l k d to r.on v.1 move.1.0 move.1.1
+          (told_is n result (w.backs Pay x).mode (i.part.mode ∙ ap (mode_by _) down) memory (read_is Pay (as_back u Pay) open_at (backs.recovered u booking_service Pay) m.0.part v.0.part (at_rest disk) disk_after ((w.backs Pay x).records ∷ (w.backs Pay x).others) result read)),
+      r.among,
+      r.cause,
+      h.later.faults,
+    )
+
+-- A NODE THAT ISN'T DOWN
+
+restarted_up : {S : Type 0} (recover : List Fact → S) (node : NodeOf S Fact) (found : Found) (m : Mode S) → condition_in m ≡ conditions.Up → restarted recover node found m ≡ node
+restarted_up recover node (ReadsList k) (Up s) e = refl
+restarted_up recover node Fails (Up s) e = refl
+restarted_up recover node found Down e = absurd (cc)
+restarted_up recover node found Gone e = absurd (cc)
+
+restarted_gone : {S : Type 0} (recover : List Fact → S) (node : NodeOf S Fact) (found : Found) (m : Mode S) → condition_in m ≡ conditions.Gone → restarted recover node found m ≡ node
+restarted_gone recover node found (Up s) e = absurd (cc)
+restarted_gone recover node found Down e = absurd (cc)
+restarted_gone recover node (ReadsList k) Gone e = refl
+restarted_gone recover node Fails Gone e = refl
+
+up_told : {S : Type 0} (n : NodeId) (found : Found) (m : Mode S) → condition_in m ≡ conditions.Up → texts.restart_text (texts.node_name n) found m ≡ texts.idle_line (texts.node_name n) (codes "up")
+up_told n found (Up s) e = refl
+up_told n found Down e = absurd (cc)
+up_told n found Gone e = absurd (cc)
+
+gone_told : {S : Type 0} (n : NodeId) (found : Found) (m : Mode S) → condition_in m ≡ conditions.Gone → texts.restart_text (texts.node_name n) found m ≡ texts.gone_line (texts.node_name n)
+gone_told n found (Up s) e = absurd (cc)
+gone_told n found Down e = absurd (cc)
+gone_told n found Gone e = refl
+
+pub restart_up : (u depth : ℕ) (w : BookingWorld) (old : Nodes) (n : NodeId) (disks : List DiskState) (found : Found) (t : Tier) → u ≤ 2 → AreNodes u depth w old → AreDisks w disks → n.index < 2 * u + 1 → condition_at old t n.index ≡ conditions.Up
+    → Commanded u depth w (worlds.restarts (config u depth) w found t n.index) old disks [] (texts.by_mode w (λ S. texts.restart_text {S = S} (texts.node_name n) found) t n.index) (texts.idle_line (texts.node_name n) (codes "up"))
+restart_up u depth w old n disks found MidTier few k d l e =
+    let is : condition_in (w.mids n.index).mode ≡ conditions.Up = sym (node_condition u depth w old MidTier n.index k l) ∙ e in
+    mid_kept u depth w old n.index disks (restarted (mids.recovered u booking_service depth) (w.mids n.index) found (w.mids n.index).mode) _ (texts.idle_line (texts.node_name n) (codes "up")) few l k d (restarted_up (mids.recovered u booking_service depth) (w.mids n.index) found (w.mids n.index).mode is) (up_told n found (w.mids n.index).mode is)
+restart_up u depth w old n disks found Inv few k d l e =
+    let is : condition_in (w.backs Inv n.index).mode ≡ conditions.Up = sym (node_condition u depth w old Inv n.index k l) ∙ e in
+    inv_kept u depth w old n.index disks (restarted (backs.recovered u booking_service Inv) (w.backs Inv n.index) found (w.backs Inv n.index).mode) _ (texts.idle_line (texts.node_name n) (codes "up")) few l k d (restarted_up (backs.recovered u booking_service Inv) (w.backs Inv n.index) found (w.backs Inv n.index).mode is) (up_told n found (w.backs Inv n.index).mode is)
+restart_up u depth w old n disks found Pay few k d l e =
+    let is : condition_in (w.backs Pay n.index).mode ≡ conditions.Up = sym (node_condition u depth w old Pay n.index k l) ∙ e in
+    pay_kept u depth w old n.index disks (restarted (backs.recovered u booking_service Pay) (w.backs Pay n.index) found (w.backs Pay n.index).mode) _ (texts.idle_line (texts.node_name n) (codes "up")) few l k d (restarted_up (backs.recovered u booking_service Pay) (w.backs Pay n.index) found (w.backs Pay n.index).mode is) (up_told n found (w.backs Pay n.index).mode is)
+
+pub restart_gone : (u depth : ℕ) (w : BookingWorld) (old : Nodes) (n : NodeId) (disks : List DiskState) (found : Found) (t : Tier) → u ≤ 2 → AreNodes u depth w old → AreDisks w disks → n.index < 2 * u + 1 → condition_at old t n.index ≡ conditions.Gone
+    → Commanded u depth w (worlds.restarts (config u depth) w found t n.index) old disks [] (texts.by_mode w (λ S. texts.restart_text {S = S} (texts.node_name n) found) t n.index) (texts.gone_line (texts.node_name n))
+restart_gone u depth w old n disks found MidTier few k d l e =
+    let is : condition_in (w.mids n.index).mode ≡ conditions.Gone = sym (node_condition u depth w old MidTier n.index k l) ∙ e in
+    mid_kept u depth w old n.index disks (restarted (mids.recovered u booking_service depth) (w.mids n.index) found (w.mids n.index).mode) _ (texts.gone_line (texts.node_name n)) few l k d (restarted_gone (mids.recovered u booking_service depth) (w.mids n.index) found (w.mids n.index).mode is) (gone_told n found (w.mids n.index).mode is)
+restart_gone u depth w old n disks found Inv few k d l e =
+    let is : condition_in (w.backs Inv n.index).mode ≡ conditions.Gone = sym (node_condition u depth w old Inv n.index k l) ∙ e in
+    inv_kept u depth w old n.index disks (restarted (backs.recovered u booking_service Inv) (w.backs Inv n.index) found (w.backs Inv n.index).mode) _ (texts.gone_line (texts.node_name n)) few l k d (restarted_gone (backs.recovered u booking_service Inv) (w.backs Inv n.index) found (w.backs Inv n.index).mode is) (gone_told n found (w.backs Inv n.index).mode is)
+restart_gone u depth w old n disks found Pay few k d l e =
+    let is : condition_in (w.backs Pay n.index).mode ≡ conditions.Gone = sym (node_condition u depth w old Pay n.index k l) ∙ e in
+    pay_kept u depth w old n.index disks (restarted (backs.recovered u booking_service Pay) (w.backs Pay n.index) found (w.backs Pay n.index).mode) _ (texts.gone_line (texts.node_name n)) few l k d (restarted_gone (backs.recovered u booking_service Pay) (w.backs Pay n.index) found (w.backs Pay n.index).mode is) (gone_told n found (w.backs Pay n.index).mode is)

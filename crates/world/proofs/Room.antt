@@ -1,13 +1,13 @@
 -- What an event sends has room where it may begin.
-use Rattle.std.proofs.Common.{◌≡◌, ℕ, ◌+◌, ◌*◌, ◌≤◌, Bool, true, List, [], ◌++◌, length, map, refl, ap, ◌∙◌, subst, arith, Option, Some, None, Result, Ok, Err}
+use Rattle.std.proofs.Common.{◌≡◌, ℕ, ◌+◌, ◌*◌, ◌≤◌, true, List, [], ◌++◌, length, map, refl, ap, ◌∙◌, subst, arith, Option, Some, None, Result, Ok, Err}
 use Rattle.std.specs.Prelude.{slice_get, OnOk}
 use Rattle.std.proofs.lemmas.List.{length-map}
 use Rattle.std.proofs.lemmas.Result.{on_ok_weaker}
 use Rattle.aeg_base.specs.declared.limits.TheConstants.{PACKETS, PACKETS_BEFORE}
 use Rattle.aeg_base.specs.declared.names.Tier.{Tier}
 use Rattle.aeg_base.specs.declared.names.Tier.TheVariants as tiers
-use Rattle.aeg_base.specs.declared.names.NodeId.{NodeId}
 use Rattle.aeg_base.specs.declared.names.End.{End}
+use Rattle.aeg_disk.specs.Disk.{DiskState}
 use Rattle.server_model.specs.Backends.{Amounts}
 use Rattle.log_model.specs.Log.{LogState, nobody}
 use Rattle.log_model.specs.World.{Mode}
@@ -21,68 +21,62 @@ use Rattle.tier_model.specs.Mid.{Mid}
 use Rattle.tier_model.specs.Back.{Back}
 use Rattle.run_model.specs.World.{requests, request_to}
 use Rattle.world.specs.declared.nodes.all_nodes.Nodes.{Nodes}
-use Rattle.world.specs.declared.progress.Progress.{Progress}
 use Rattle.world.specs.Parts.{MidPart, MidView, BackView, NodePart, MidMoves, BackMoves, Makes, HaveRoom, as_mid, as_back, is_up_in, is_up, sealed}
-use Rattle.world.specs.NodeLists.{mid_up, back_up, up_in, up_at, MidsMove, BacksMove, MoveIn, NodesMove}
+use Rattle.world.specs.NodeLists.{mid_up, back_up, up_in, MidsMove, BacksMove, MoveIn}
 use Rattle.world.specs.Telling.{HadMemory}
-use Rattle.world.specs.Run.{world_of}
-use Rattle.world.specs.declared.stop.Stop.{Stop}
-use Rattle.world.specs.declared.stop.Stop.TheVariants as stops
-use Rattle.world.specs.Going.{run_of, StaysInStep}
 use Rattle.world.proofs.Few.{each_few}
-use Rattle.world.proofs.Stepping.{packets_of}
 
 -- A NODE'S CALL
 
 makes_room : {S T : Type 0} (whole : S → T) (old new : NodePart S) (after : List (End × List ℕ)) (move : Move T) (result : Result Answer Fault) → Makes whole old new [] after move result → OnOk result (HaveRoom move.sends) → HadMemory result → HaveRoom after
-makes_room whole old new after move (Ok answer) k few memory = omega (arith, few, ap length k.3, length-map move.sends sealed)
-makes_room whole old new after move (Err (faults.JournalFull size)) k few memory = omega (arith, ap length k.3)
+makes_room whole old new after move (Ok answer) k few memory = omega (arith, few, ap length k.4, length-map move.sends sealed)
+makes_room whole old new after move (Err (faults.JournalFull size)) k few memory = omega (arith, ap length k.4)
 makes_room whole old new after move (Err faults.Memory) k few memory = absurd memory
-makes_room whole old new after move (Err faults.Disk) k few memory = absurd k
+makes_room whole old new after move (Err faults.Disk) k few memory = omega (arith, ap length k.4)
 makes_room whole old new after move (Err (faults.BadRecord at)) k few memory = absurd k
 
-mid_room : (m n : MidView) (after : List (End × List ℕ)) (move : Mid → Move Mid) (result : Result Answer Fault) → is_up m.part ≡ true → MidMoves m n [] after move result → HadMemory result → HaveRoom after
-mid_room m n after move result up k memory = go m.part.mode refl up
+mid_room : (m n : MidView) (a b : DiskState) (after : List (End × List ℕ)) (move : Mid → Move Mid) (result : Result Answer Fault) → is_up m.part ≡ true → MidMoves m n a b [] after move result → HadMemory result → HaveRoom after
+mid_room m n a b after move result up k memory = go m.part.mode refl up
   where
     go : (mode : Mode MidPart) → m.part.mode ≡ mode → is_up_in mode ≡ true → HaveRoom after
     go (Up part) e f = makes_room (as_mid m.depth) m.part n.part after (move (as_mid m.depth part)) result (k.row part e) (on_ok_weaker result (λ h. h part e) k.few) memory
     go Down e f = absurd (cc)
     go Gone e f = absurd (cc)
 
-back_room : (b n : BackView) (after : List (End × List ℕ)) (move : Back Amounts → Move (Back Amounts)) (result : Result Answer Fault) → is_up b.part ≡ true → BackMoves b n [] after move result → HadMemory result → HaveRoom after
-back_room b n after move result up k memory = go b.part.mode refl up
+back_room : (b n : BackView) (a z : DiskState) (after : List (End × List ℕ)) (move : Back Amounts → Move (Back Amounts)) (result : Result Answer Fault) → is_up b.part ≡ true → BackMoves b n a z [] after move result → HadMemory result → HaveRoom after
+back_room b n a z after move result up k memory = go b.part.mode refl up
   where
     go : (mode : Mode (LogState AnyValue)) → b.part.mode ≡ mode → is_up_in mode ≡ true → HaveRoom after
     go (Up log) e f = makes_room (as_back b.faults b.tier) b.part n.part after (move (as_back b.faults b.tier log)) result (k.row log e) (on_ok_weaker result (λ h. h log e) k.few) memory
     go Down e f = absurd (cc)
     go Gone e f = absurd (cc)
 
-mids_room : (old new : List MidView) (x : ℕ) (after : List (End × List ℕ)) (move : MidView → Mid → Move Mid) (result : Result Answer Fault) → mid_up (slice_get old x) ≡ true → MidsMove old new x [] after move result → HadMemory result → HaveRoom after
-mids_room old new x after move result up k memory = go (slice_get old x) refl up
+mids_room : (old new : List MidView) (x : ℕ) (a b : DiskState) (after : List (End × List ℕ)) (move : MidView → Mid → Move Mid) (result : Result Answer Fault) → mid_up (slice_get old x) ≡ true → MidsMove old new x a b [] after move result → HadMemory result → HaveRoom after
+mids_room old new x a b after move result up k memory = go (slice_get old x) refl up
   where
     go : (o : Option MidView) → slice_get old x ≡ o → mid_up o ≡ true → HaveRoom after
     go None e f = absurd (cc)
-    go (Some m) e f = let r = k m e in mid_room m r.0 after (move m) result f r.2 memory
+    go (Some m) e f = let r = k m e in mid_room m r.0 a b after (move m) result f r.2 memory
 
-backs_room : (old new : List BackView) (x : ℕ) (after : List (End × List ℕ)) (move : BackView → Back Amounts → Move (Back Amounts)) (result : Result Answer Fault) → back_up (slice_get old x) ≡ true → BacksMove old new x [] after move result → HadMemory result → HaveRoom after
-backs_room old new x after move result up k memory = go (slice_get old x) refl up
+backs_room : (old new : List BackView) (x : ℕ) (a z : DiskState) (after : List (End × List ℕ)) (move : BackView → Back Amounts → Move (Back Amounts)) (result : Result Answer Fault) → back_up (slice_get old x) ≡ true → BacksMove old new x a z [] after move result → HadMemory result → HaveRoom after
+backs_room old new x a z after move result up k memory = go (slice_get old x) refl up
   where
     go : (o : Option BackView) → slice_get old x ≡ o → back_up o ≡ true → HaveRoom after
     go None e f = absurd (cc)
-    go (Some b) e f = let r = k b e in back_room b r.0 after (move b) result f r.2 memory
+    go (Some b) e f = let r = k b e in back_room b r.0 a z after (move b) result f r.2 memory
 
-move_room : (old new : Nodes) (t : Tier) (x : ℕ) (after : List (End × List ℕ)) (mid : MidView → Mid → Move Mid) (back : BackView → Back Amounts → Move (Back Amounts)) (result : Result Answer Fault) → up_in old t x ≡ true → MoveIn old new t x [] after mid back result → HadMemory result → HaveRoom after
-move_room old new tiers.Mid x after mid back result up k memory = mids_room old.mids.items new.mids.items x after mid result up k.0 memory
-move_room old new tiers.Inv x after mid back result up k memory = backs_room old.invs.items new.invs.items x after back result up k.0 memory
-move_room old new tiers.Pay x after mid back result up k memory = backs_room old.pays.items new.pays.items x after back result up k.0 memory
+move_room : (old new : Nodes) (t : Tier) (x : ℕ) (a b : DiskState) (after : List (End × List ℕ)) (mid : MidView → Mid → Move Mid) (back : BackView → Back Amounts → Move (Back Amounts)) (result : Result Answer Fault) → up_in old t x ≡ true → MoveIn old new t x a b [] after mid back result → HadMemory result → HaveRoom after
+move_room old new tiers.Mid x a b after mid back result up k memory = mids_room old.mids.items new.mids.items x a b after mid result up k.0 memory
+move_room old new tiers.Inv x a b after mid back result up k memory = backs_room old.invs.items new.invs.items x a b after back result up k.0 memory
+move_room old new tiers.Pay x a b after mid back result up k memory = backs_room old.pays.items new.pays.items x a b after back result up k.0 memory
 
 -- AN EVENT
 
 -- a call of a node that is up
-pub nodes_fit : (old new : Nodes) (n : NodeId) (soup before after : List (End × List ℕ)) (mid : MidView → Mid → Move Mid) (back : BackView → Back Amounts → Move (Back Amounts)) (result : Result Answer Fault) → length soup ≤ PACKETS_BEFORE → before ≡ [] → up_at old n ≡ true
-    → NodesMove old new n before after mid back result → HadMemory result → length soup + length after ≤ PACKETS
-nodes_fit old new n soup before after mid back result l e up k memory =
-    omega (arith, l, move_room old new n.tier n.index after mid back result up (subst (λ z. NodesMove old new n z after mid back result) e k) memory)
+pub nodes_fit : (old new : Nodes) (t : Tier) (x : ℕ) (a b : DiskState) (soup before after : List (End × List ℕ)) (mid : MidView → Mid → Move Mid) (back : BackView → Back Amounts → Move (Back Amounts)) (result : Result Answer Fault) → length soup ≤ PACKETS_BEFORE → before ≡ [] → up_in old t x ≡ true
+    → MoveIn old new t x a b before after mid back result → HadMemory result → length soup + length after ≤ PACKETS
+nodes_fit old new t x a b soup before after mid back result l e up k memory =
+    omega (arith, l, move_room old new t x a b after mid back result up (subst (λ z. MoveIn old new t x a b z after mid back result) e k) memory)
 
 -- nothing is sent
 pub nothing_fits : (soup out : List (End × List ℕ)) → length soup ≤ PACKETS → out ≡ [] → length soup + length out ≤ PACKETS
@@ -92,10 +86,3 @@ nothing_fits soup out l e = omega (arith, l, ap length e)
 pub requests_fit : (u client seq : ℕ) (text : List ℕ) (soup before out : List (End × List ℕ)) → u ≤ 2 → length soup ≤ PACKETS_BEFORE → before ≡ [] → out ≡ before ++ map sealed (requests u client seq text) → length soup + length out ≤ PACKETS
 requests_fit u client seq text soup before out few l e f =
     omega (arith, few, l, ap length (f ∙ ap (λ z. z ++ map sealed (requests u client seq text)) e), length-map (requests u client seq text) sealed, each_few (2 * u + 1) nobody (request_to client seq text))
-
--- A RUN
-
-pub within_after : (p : Progress) (result : Result Bool Stop) → StaysInStep p result → OnOk result (length (world_of (run_of p)).soup ≤ PACKETS)
-within_after p (Ok again) s = omega (arith, packets_of p s, s.within)
-within_after p (Err stops.Limit) s = tt
-within_after p (Err stops.Memory) s = tt

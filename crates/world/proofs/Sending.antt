@@ -1,8 +1,7 @@
 -- What a turn of a log in range writes down and sends: its facts fit, its packets are frames, and they reach nodes.
-use Rattle.std.proofs.Common.{◌≡◌, ℕ, ◌+◌, ◌*◌, ◌<◌, ◌≤◌, true, false, List, [], ◌∷◌, map, refl, ap, subst, inl, inr, arith, Some, None, zero, suc}
-use Rattle.std.specs.Prelude.{slice_get, nat_lt}
+use Rattle.std.proofs.Common.{◌≡◌, ℕ, ◌+◌, ◌*◌, ◌<◌, ◌≤◌, true, List, [], ◌∷◌, map, refl, ap, subst, inl, inr, arith, Some, None, zero, suc}
+use Rattle.std.specs.Prelude.{slice_get}
 use Rattle.std.specs.List.{AllByRecursion}
-use Rattle.aeg_base.specs.declared.limits.TheConstants.{JOURNAL_BYTES}
 use Rattle.aeg_base.specs.declared.names.Ballot.{Ballot}
 use Rattle.aeg_base.specs.declared.names.Tier.{Tier}
 use Rattle.aeg_base.specs.declared.names.Tier.TheVariants.{Mid as InMid, Inv, Pay}
@@ -11,24 +10,22 @@ use Rattle.log_model.specs.declared.fact.Fact.TheVariants as logs
 use Rattle.log_model.specs.declared.message.PaxMsg.{PaxMsg}
 use Rattle.log_model.specs.declared.message.PaxMsg.TheVariants.{Prepare, Promise, Accept, Accepted, Ask, Learn, Behind}
 use Rattle.log_model.specs.Ranges.{IsFactIn, IsSendIn, MayRaise}
-use Rattle.log_model.proofs.Rows.{no_from}
 use Rattle.log_values.specs.declared.any_value.AnyValue.{AnyValue}
 use Rattle.log_values.specs.declared.any_value.AnyValue.TheVariants as values
 use Rattle.log_values.specs.declared.mid_value.MidValue.TheVariants.{Batch, Verdict as Decided}
-use Rattle.log_values.specs.declared.fact.Fact.{Fact}
 use Rattle.log_values.specs.Fields.{FitsBallot}
 use Rattle.log_values.specs.Records.{FitsFact}
-use Rattle.log_values.proofs.BoolTests.{lt_is, lt_true}
+use Rattle.log_values.proofs.BoolTests.{lt_is}
 use Rattle.frames.specs.declared.message.Msg.TheVariants as msgs
 use Rattle.frames.specs.Headers.{is_sent_by_tier}
 use Rattle.frames.specs.LogMessages.{IsCarried, FitsLog, log_kind}
 use Rattle.frames.specs.Frames.{FitsFrame}
 use Rattle.tier_model.specs.Moves.{node, is_node_of, Packet, log_packet, log_packets, as_fact}
-use Rattle.world.specs.Parts.{CanStand, IsLogMessage, Reaches, length_with, is_past}
+use Rattle.world.specs.Parts.{CanStand, IsLogMessage, Reaches}
 
 -- VALUES AND MESSAGES
 
-stand_carried : (t : Tier) (p : ℕ) (v : AnyValue) → CanStand t p v → IsCarried t p v
+pub stand_carried : (t : Tier) (p : ℕ) (v : AnyValue) → CanStand t p v → IsCarried t p v
 stand_carried InMid p (values.Mid (Batch es)) k = k
 stand_carried InMid p (values.Mid (Decided v)) k = absurd k
 stand_carried InMid p (values.Back v) k = absurd k
@@ -100,12 +97,6 @@ pub all_reach : (u : ℕ) (t : Tier) (x : ℕ) (sends : List (ℕ × PaxMsg AnyV
 all_reach u t x [] l f i k e = absurd (cc)
 all_reach u t x (s ∷ ss) l f zero k e = let same : log_packet t x s ≡ k = cc in subst (λ (z : Packet). Reaches u z.from z.to z.message) same (f.0.0, (peer_is u t x l, f.0.1))
 all_reach u t x (s ∷ ss) l f (suc i) k e = all_reach u t x ss l f.1 i k e
-
--- THE JOURNAL'S LENGTH
-
-pub past_false : (w n : ℕ) (fs : List Fact) → n ≡ length_with w fs → n ≤ JOURNAL_BYTES → is_past w fs ≡ false
-past_false w n [] e l = refl
-past_false w n (f ∷ fs) e l = no_from (nat_lt JOURNAL_BYTES (length_with w (f ∷ fs))) (λ b. let c : JOURNAL_BYTES < length_with w (f ∷ fs) = lt_true JOURNAL_BYTES (length_with w (f ∷ fs)) b in omega arith)
 
 -- BALLOTS
 

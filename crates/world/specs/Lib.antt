@@ -7,5 +7,9 @@ pub mod Standing
 pub mod NodeLists
 pub mod Telling
 pub mod Packets
+pub mod Restoring
+pub mod Arming
+pub mod Calling
+pub mod Disks
 pub mod LogNodes
 pub mod PendingEntries

@@ -1,24 +1,32 @@
--- What a middle and a backend node share: a log in memory, in range, and the length of its journal.
-use Rattle.std.specs.Prelude.{◌≡◌, ℕ, ◌+◌, ◌*◌, ◌<◌, ◌≤◌, Bool, true, false, List, map, Option, Some, None, IfSome}
+-- What a middle and a backend node share: a log in memory, in range, and its journal.
+use Rattle.std.specs.Prelude.{◌≡◌, ℕ, ◌+◌, ◌*◌, ◌<◌, ◌≤◌, Bool, true, false, List, ◌++◌, map, slice_get, Option, Some, None, IfSome}
 use Rattle.std.specs.declared.result.Result.{Result}
-use Rattle.aeg_base.specs.declared.limits.TheConstants.{MAX_FAULTS, JOURNAL_BYTES}
+use Rattle.aeg_base.specs.declared.limits.TheConstants.{MAX_FAULTS}
 use Rattle.aeg_base.specs.declared.names.End.{End}
 use Rattle.aeg_base.specs.declared.names.Tier.{Tier}
+use Rattle.aeg_base.specs.declared.names.Tier.TheVariants as tiers
+use Rattle.log_model.specs.declared.message.PaxMsg.{PaxMsg}
 use Rattle.log_model.specs.declared.turn.LogTurn.{LogTurn}
 use Rattle.log_model.specs.declared.turn.Offering.{Offering}
 use Rattle.log_model.specs.declared.turn.Offering.TheVariants.{NotLeader, NoPromises, InFlight, LogFull, Taken, Free}
-use Rattle.log_model.specs.Log.{LogState, Turn}
-use Rattle.log_model.specs.Ranges.{IsLogIn, IsTurnIn}
+use Rattle.log_model.specs.Log.{LogState, Turn, open_at}
+use Rattle.log_model.specs.Ranges.{IsLogIn, IsTurnIn, IsOwnIn}
 use Rattle.log_model.specs.World.{Mode}
 use Rattle.log_model.specs.World.Mode.{Up, Down, Gone}
 use Rattle.log_values.specs.declared.any_value.AnyValue.{AnyValue}
 use Rattle.log_values.specs.declared.entry.Entry.{Entry}
 use Rattle.log_values.specs.Fields.{FitsBallot}
+use Rattle.frames.specs.declared.message.Msg.TheVariants.{Log}
 use Rattle.frames.specs.declared.turn.Turn.{Turn as Answer}
 use Rattle.frames.specs.declared.turn.Fault.{Fault}
+use Rattle.aeg_disk.specs.Disk.{DiskState, Later}
+use Rattle.frames.specs.Frames.{frame}
 use Rattle.paxos_log.specs.TierLog.{NodeLog}
-use Rattle.tier_model.specs.Moves.{Move, log_packets, as_fact, log_answer}
-use Rattle.world.specs.Parts.{CanStand, NodePart, MidPart, Makes}
+use Rattle.world.specs.declared.nodes.working.Working.{Working}
+use Rattle.tier_model.specs.MidRows.{own_value}
+use Rattle.run_model.specs.BookingRuns.{booking_service}
+use Rattle.tier_model.specs.Moves.{Move, node, log_packets, as_fact, log_answer}
+use Rattle.world.specs.Parts.{CanStand, NodePart, MidPart, MidView, as_mid, Makes, Wrote, goes_down, sealed}
 
 -- of which tier it is and with which index, in a tier of 2 * faults + 1
 pub record LogView : Type 0 where
@@ -27,10 +35,16 @@ pub record LogView : Type 0 where
   pub me : ℕ
   pub part : NodePart (LogState AnyValue)
 
--- with this log in memory, or none
-abbrev pub mode_of : Option (NodeLog AnyValue) → Mode (LogState AnyValue)
-mode_of None = Down
-mode_of (Some log) = Up log.state
+-- up with this log in memory, or gone, or down
+abbrev pub mode_of : Option Working → Bool → Mode (LogState AnyValue)
+mode_of (Some up) gone = Up up.log.state
+mode_of None true = Gone
+mode_of None false = Down
+
+-- the place of the gate that ends the journal
+abbrev pub place_by : Option Working → ℕ → ℕ
+place_by (Some up) known = up.journal
+place_by None known = known
 
 -- this node's own log, in range
 pub record IsOwnLog (u : ℕ) (t : Tier) (x : ℕ) (log : NodeLog AnyValue) : Type 0 where
@@ -38,11 +52,29 @@ pub record IsOwnLog (u : ℕ) (t : Tier) (x : ℕ) (log : NodeLog AnyValue) : Ty
   pub me : log.me ≡ x
   pub range : IsLogIn (CanStand t) FitsBallot log.state
 
-pub record IsLogNode (u : ℕ) (t : Tier) (x written : ℕ) (log : Option (NodeLog AnyValue)) : Type 0 where
+-- a node that is up is neither gone nor in doubt
+pub record IsAtWork (u : ℕ) (t : Tier) (x : ℕ) (gone doubt : Bool) (up : Working) : Type 0 where
+  pub here : gone ≡ false
+  pub sure : doubt ≡ false
+  pub log : IsOwnLog u t x up.log
+
+pub record IsLogNode (u : ℕ) (t : Tier) (x : ℕ) (gone doubt : Bool) (up : Option Working) : Type 0 where
   pub few : u ≤ MAX_FAULTS
   pub node : x < 2 * u + 1
-  pub within : written ≤ JOURNAL_BYTES
-  pub own : IfSome log (IsOwnLog u t x)
+  pub own : IfSome up (IsAtWork u t x gone doubt)
+
+-- a node of which a call has taken log and journal, until they are put back
+abbrev pub without_log : LogView → LogView
+without_log n = record { faults = n.faults; tier = n.tier; me = n.me; part = goes_down n.part }
+
+-- it was up with them, and in no doubt
+pub record WasAtWork (n : LogView) (up : Working) : Type 0 where
+  pub few : n.faults ≤ MAX_FAULTS
+  pub node : n.me < 2 * n.faults + 1
+  pub mode : n.part.mode ≡ Up up.log.state
+  pub place : n.part.place ≡ up.journal
+  pub sure : n.part.doubt ≡ false
+  pub log : IsOwnLog n.faults n.tier n.me up.log
 
 -- what is known of the log in memory
 abbrev pub IsRanged : LogView → Type 0
@@ -62,12 +94,18 @@ log_itself log = log
 abbrev pub MakesTurn : LogView → LogView → List (End × List ℕ) → List (End × List ℕ) → Turn AnyValue → Result Answer Fault → Type 0
 MakesTurn old new before after turn result = Makes log_itself old.part new.part before after (log_move old.tier old.me turn) result
 
+-- its facts were written down before
+abbrev pub WritesTurn : LogView → LogView → DiskState → DiskState → Turn AnyValue → Result Answer Fault → Type 0
+WritesTurn old new disk_before disk_after turn result = Wrote disk_before disk_after old.part.place new.part.place (log_move old.tier old.me turn).facts result
+
 abbrev pub IsSameNode : LogView → LogView → Type 0
 IsSameNode old new = (new.faults ≡ old.faults) × ((new.tier ≡ old.tier) × (new.me ≡ old.me))
 
 -- a call made this turn of its log, in range
-pub record Turns (old new : LogView) (before after : List (End × List ℕ)) (turn : LogState AnyValue → Turn AnyValue) (result : Result Answer Fault) : Type 0 where
+pub record Turns (old new : LogView) (disk_before disk_after : DiskState) (before after : List (End × List ℕ)) (turn : LogState AnyValue → Turn AnyValue) (result : Result Answer Fault) : Type 0 where
   pub row : (log : LogState AnyValue) → old.part.mode ≡ Up log → MakesTurn old new before after (turn log) result
+  pub disk : (log : LogState AnyValue) → old.part.mode ≡ Up log → WritesTurn old new disk_before disk_after (turn log) result
+  pub later : Later disk_before disk_after
   pub range : (log : LogState AnyValue) → old.part.mode ≡ Up log → IsTurnIn old.faults (CanStand old.tier) FitsBallot (turn log)
   pub same : IsSameNode old new
 
@@ -78,7 +116,19 @@ mid_mode Down pending = Down
 mid_mode Gone pending = Gone
 
 abbrev pub mid_part : NodePart (LogState AnyValue) → List (Option Entry) → NodePart MidPart
-mid_part part pending = record { mode = mid_mode part.mode pending; written = part.written }
+mid_part part pending = record { mode = mid_mode part.mode pending; place = part.place; doubt = part.doubt }
+
+-- the own value of a middle node that is up can stand at its first open position
+abbrev pub OwnStands : MidView → Type 0
+OwnStands m = (part : MidPart) → m.part.mode ≡ Up part → IsOwnIn (CanStand tiers.Mid) (open_at part.log) (own_value m.faults booking_service (as_mid m.depth part))
+
+-- the last packets are those of these messages
+abbrev pub HasSent : Tier → ℕ → List (ℕ × PaxMsg AnyValue) → List (End × List ℕ) → Type 0
+HasSent t x sends sent = (before : List (End × List ℕ)) × (sent ≡ before ++ map sealed (log_packets t x sends))
+
+-- the bytes are the frame of the message with this number
+abbrev pub IsFrameAt : Tier → ℕ → List (ℕ × PaxMsg AnyValue) → ℕ → List ℕ → Type 0
+IsFrameAt t x sends i bytes = (send : ℕ × PaxMsg AnyValue) → slice_get sends i ≡ Some send → bytes ≡ frame (node t x) (Log send.1)
 
 -- a leader that may offer a value of its own, since none was reported
 abbrev pub needs_own : Offering → Bool

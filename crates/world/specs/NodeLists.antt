@@ -7,7 +7,9 @@ use Rattle.aeg_base.specs.declared.names.NodeId.{NodeId}
 use Rattle.aeg_base.specs.declared.names.End.{End}
 use Rattle.server_model.specs.Backends.{Amounts}
 use Rattle.log_model.specs.Log.{LogState, nobody}
-use Rattle.log_model.specs.World.Mode.{Up}
+use Rattle.aeg_disk.specs.Disk.{DiskState}
+use Rattle.log_model.specs.World.{Mode}
+use Rattle.log_model.specs.World.Mode.{Up, Down, Gone}
 use Rattle.log_values.specs.declared.any_value.AnyValue.{AnyValue}
 use Rattle.frames.specs.declared.message.Msg.{Msg}
 use Rattle.frames.specs.declared.turn.Turn.{Turn as Answer}
@@ -15,12 +17,11 @@ use Rattle.frames.specs.declared.turn.Fault.{Fault}
 use Rattle.round_model.specs.Lists.{each}
 use Rattle.tier_model.specs.Moves.{Move}
 use Rattle.tier_model.specs.Mid.{Mid}
-use Rattle.tier_model.specs.MidRows as mids
 use Rattle.tier_model.specs.Back.{Back}
-use Rattle.tier_model.specs.BackRows as backs
 use Rattle.world.specs.declared.nodes.all_nodes.Nodes.{Nodes}
-use Rattle.run_model.specs.BookingRuns.{booking_service}
-use Rattle.world.specs.Parts.{MidPart, MidView, BackView, MidMoves, BackMoves, CanReach, as_mid, as_back, is_up, new_part}
+use Rattle.world.specs.declared.nodes.condition.Condition.{Condition}
+use Rattle.world.specs.declared.nodes.condition.Condition.TheVariants as conditions
+use Rattle.world.specs.Parts.{NodePart, MidPart, MidView, BackView, MidMoves, BackMoves, MidRestarts, BackRestarts, MayWrite, CanReach, is_up, is_down_in, new_part, mid_with, back_with}
 
 -- NEW NODES
 
@@ -83,50 +84,97 @@ CanReachAt nodes n from message = CanReachIn nodes n.tier n.index from message
 -- CALLS
 
 -- the node x of the list makes the move, and no other changes
-abbrev pub MidsMove : List MidView → List MidView → ℕ → List (End × List ℕ) → List (End × List ℕ) → (MidView → Mid → Move Mid) → Result Answer Fault → Type 0
-MidsMove old new x before after move result = (m : MidView) → slice_get old x ≡ Some m → (n : MidView) × (new ≡ slice_set old x n) × MidMoves m n before after (move m) result
+abbrev pub MidsMove : List MidView → List MidView → ℕ → DiskState → DiskState → List (End × List ℕ) → List (End × List ℕ) → (MidView → Mid → Move Mid) → Result Answer Fault → Type 0
+MidsMove old new x disk_before disk_after before after move result = (m : MidView) → slice_get old x ≡ Some m → (n : MidView) × (new ≡ slice_set old x n) × MidMoves m n disk_before disk_after before after (move m) result
 
-abbrev pub BacksMove : List BackView → List BackView → ℕ → List (End × List ℕ) → List (End × List ℕ) → (BackView → Back Amounts → Move (Back Amounts)) → Result Answer Fault → Type 0
-BacksMove old new x before after move result = (b : BackView) → slice_get old x ≡ Some b → (n : BackView) × (new ≡ slice_set old x n) × BackMoves b n before after (move b) result
+abbrev pub BacksMove : List BackView → List BackView → ℕ → DiskState → DiskState → List (End × List ℕ) → List (End × List ℕ) → (BackView → Back Amounts → Move (Back Amounts)) → Result Answer Fault → Type 0
+BacksMove old new x disk_before disk_after before after move result = (b : BackView) → slice_get old x ≡ Some b → (n : BackView) × (new ≡ slice_set old x n) × BackMoves b n disk_before disk_after before after (move b) result
 
 -- at a node of the tier, and the other tiers stay
-abbrev pub MoveIn : Nodes → Nodes → Tier → ℕ → List (End × List ℕ) → List (End × List ℕ) → (MidView → Mid → Move Mid) → (BackView → Back Amounts → Move (Back Amounts)) → Result Answer Fault → Type 0
-MoveIn old new tiers.Mid x before after mid back result = MidsMove old.mids.items new.mids.items x before after mid result × ((new.invs.items ≡ old.invs.items) × (new.pays.items ≡ old.pays.items))
-MoveIn old new tiers.Inv x before after mid back result = BacksMove old.invs.items new.invs.items x before after back result × ((new.mids.items ≡ old.mids.items) × (new.pays.items ≡ old.pays.items))
-MoveIn old new tiers.Pay x before after mid back result = BacksMove old.pays.items new.pays.items x before after back result × ((new.mids.items ≡ old.mids.items) × (new.invs.items ≡ old.invs.items))
+abbrev pub MoveIn : Nodes → Nodes → Tier → ℕ → DiskState → DiskState → List (End × List ℕ) → List (End × List ℕ) → (MidView → Mid → Move Mid) → (BackView → Back Amounts → Move (Back Amounts)) → Result Answer Fault → Type 0
+MoveIn old new tiers.Mid x disk_before disk_after before after mid back result = MidsMove old.mids.items new.mids.items x disk_before disk_after before after mid result × ((new.invs.items ≡ old.invs.items) × (new.pays.items ≡ old.pays.items))
+MoveIn old new tiers.Inv x disk_before disk_after before after mid back result = BacksMove old.invs.items new.invs.items x disk_before disk_after before after back result × ((new.mids.items ≡ old.mids.items) × (new.pays.items ≡ old.pays.items))
+MoveIn old new tiers.Pay x disk_before disk_after before after mid back result = BacksMove old.pays.items new.pays.items x disk_before disk_after before after back result × ((new.mids.items ≡ old.mids.items) × (new.invs.items ≡ old.invs.items))
 
-abbrev pub NodesMove : Nodes → Nodes → NodeId → List (End × List ℕ) → List (End × List ℕ) → (MidView → Mid → Move Mid) → (BackView → Back Amounts → Move (Back Amounts)) → Result Answer Fault → Type 0
-NodesMove old new n before after mid back result = MoveIn old new n.tier n.index before after mid back result
+abbrev pub NodesMove : Nodes → Nodes → NodeId → DiskState → DiskState → List (End × List ℕ) → List (End × List ℕ) → (MidView → Mid → Move Mid) → (BackView → Back Amounts → Move (Back Amounts)) → Result Answer Fault → Type 0
+NodesMove old new n disk_before disk_after before after mid back result = MoveIn old new n.tier n.index disk_before disk_after before after mid back result
+
+-- the disk of the node is such as it may write to
+abbrev pub MayWriteIn : Nodes → Tier → ℕ → DiskState → Type 0
+MayWriteIn nodes tiers.Mid x disk = (m : MidView) → slice_get nodes.mids.items x ≡ Some m → MayWrite m.part disk
+MayWriteIn nodes tiers.Inv x disk = (b : BackView) → slice_get nodes.invs.items x ≡ Some b → MayWrite b.part disk
+MayWriteIn nodes tiers.Pay x disk = (b : BackView) → slice_get nodes.pays.items x ≡ Some b → MayWrite b.part disk
+
+abbrev pub MayWriteAt : Nodes → NodeId → DiskState → Type 0
+MayWriteAt nodes n disk = MayWriteIn nodes n.tier n.index disk
 
 -- RESTARTS
 
-abbrev pub IsNewIn : Nodes → Tier → ℕ → Type 0
-IsNewIn nodes tiers.Mid x = (m : MidView) × (slice_get nodes.mids.items x ≡ Some m) × (m.part ≡ new_part)
-IsNewIn nodes tiers.Inv x = (b : BackView) × (slice_get nodes.invs.items x ≡ Some b) × (b.part ≡ new_part)
-IsNewIn nodes tiers.Pay x = (b : BackView) × (slice_get nodes.pays.items x ≡ Some b) × (b.part ≡ new_part)
+-- the backend nodes are of their tiers
+pub record KeepTiers (nodes : Nodes) : Type 0 where
+  pub invs : (x : ℕ) (b : BackView) → slice_get nodes.invs.items x ≡ Some b → b.tier ≡ tiers.Inv
+  pub pays : (x : ℕ) (b : BackView) → slice_get nodes.pays.items x ≡ Some b → b.tier ≡ tiers.Pay
 
-abbrev pub IsNewAt : Nodes → NodeId → Type 0
-IsNewAt nodes n = IsNewIn nodes n.tier n.index
+abbrev pub is_down : {S : Type 0} → NodePart S → Bool
+is_down part = is_down_in part.mode
 
--- up with what a blank disk leaves
-pub record MidRestarts (old new : MidView) : Type 0 where
-  pub part : (part : MidPart) × ((new.part ≡ record { mode = Up part; written = 1 }) × (as_mid old.depth part ≡ mids.recovered old.faults booking_service old.depth []))
-  pub same : (new.faults ≡ old.faults) × ((new.depth ≡ old.depth) × (new.me ≡ old.me))
+abbrev pub mid_down : Option MidView → Bool
+mid_down None = false
+mid_down (Some m) = is_down m.part
 
-pub record BackRestarts (old new : BackView) : Type 0 where
-  pub part : (log : LogState AnyValue) × ((new.part ≡ record { mode = Up log; written = 1 }) × (as_back old.faults old.tier log ≡ backs.recovered old.faults booking_service old.tier []))
-  pub same : (new.faults ≡ old.faults) × ((new.tier ≡ old.tier) × (new.me ≡ old.me))
+abbrev pub back_down : Option BackView → Bool
+back_down None = false
+back_down (Some b) = is_down b.part
 
-abbrev pub MidsRestart : List MidView → List MidView → ℕ → Type 0
-MidsRestart old new x = (m : MidView) → slice_get old x ≡ Some m → (n : MidView) × (new ≡ slice_set old x n) × MidRestarts m n
+abbrev pub down_in : Nodes → Tier → ℕ → Bool
+down_in nodes tiers.Mid x = mid_down (slice_get nodes.mids.items x)
+down_in nodes tiers.Inv x = back_down (slice_get nodes.invs.items x)
+down_in nodes tiers.Pay x = back_down (slice_get nodes.pays.items x)
 
-abbrev pub BacksRestart : List BackView → List BackView → ℕ → Type 0
-BacksRestart old new x = (b : BackView) → slice_get old x ≡ Some b → (n : BackView) × (new ≡ slice_set old x n) × BackRestarts b n
+abbrev pub IsDownAt : Nodes → NodeId → Type 0
+IsDownAt nodes n = down_in nodes n.tier n.index ≡ true
 
-abbrev pub RestartIn : Nodes → Nodes → Tier → ℕ → Type 0
-RestartIn old new tiers.Mid x = MidsRestart old.mids.items new.mids.items x × ((new.invs.items ≡ old.invs.items) × (new.pays.items ≡ old.pays.items))
-RestartIn old new tiers.Inv x = BacksRestart old.invs.items new.invs.items x × ((new.mids.items ≡ old.mids.items) × (new.pays.items ≡ old.pays.items))
-RestartIn old new tiers.Pay x = BacksRestart old.pays.items new.pays.items x × ((new.mids.items ≡ old.mids.items) × (new.invs.items ≡ old.invs.items))
+abbrev pub MidsRestart : List MidView → List MidView → ℕ → DiskState → DiskState → Result ℕ Fault → Type 0
+MidsRestart old new x before after result = (m : MidView) → slice_get old x ≡ Some m → (n : MidView) × (new ≡ slice_set old x n) × MidRestarts m n before after result
 
-abbrev pub Restarts : Nodes → Nodes → NodeId → Type 0
-Restarts old new n = RestartIn old new n.tier n.index
+abbrev pub BacksRestart : List BackView → List BackView → ℕ → DiskState → DiskState → Result ℕ Fault → Type 0
+BacksRestart old new x before after result = (b : BackView) → slice_get old x ≡ Some b → (n : BackView) × (new ≡ slice_set old x n) × BackRestarts b n before after result
+
+abbrev pub RestartIn : Nodes → Nodes → Tier → ℕ → DiskState → DiskState → Result ℕ Fault → Type 0
+RestartIn old new tiers.Mid x before after result = MidsRestart old.mids.items new.mids.items x before after result × ((new.invs.items ≡ old.invs.items) × (new.pays.items ≡ old.pays.items))
+RestartIn old new tiers.Inv x before after result = BacksRestart old.invs.items new.invs.items x before after result × ((new.mids.items ≡ old.mids.items) × (new.pays.items ≡ old.pays.items))
+RestartIn old new tiers.Pay x before after result = BacksRestart old.pays.items new.pays.items x before after result × ((new.mids.items ≡ old.mids.items) × (new.invs.items ≡ old.invs.items))
+
+abbrev pub NodeRestarts : Nodes → Nodes → NodeId → DiskState → DiskState → Result ℕ Fault → Type 0
+NodeRestarts old new n before after result = RestartIn old new n.tier n.index before after result
+
+-- DOWN, GONE, AND WITHOUT DOUBT
+
+-- the node's part is changed so, and nothing else
+abbrev pub ChangedIn : Nodes → Nodes → Tier → ℕ → ((S : Type 0) → NodePart S → NodePart S) → Type 0
+ChangedIn old new tiers.Mid x change = ((m : MidView) → slice_get old.mids.items x ≡ Some m → new.mids.items ≡ slice_set old.mids.items x (mid_with (change MidPart) m)) × ((new.invs.items ≡ old.invs.items) × (new.pays.items ≡ old.pays.items))
+ChangedIn old new tiers.Inv x change = ((b : BackView) → slice_get old.invs.items x ≡ Some b → new.invs.items ≡ slice_set old.invs.items x (back_with (change (LogState AnyValue)) b)) × ((new.mids.items ≡ old.mids.items) × (new.pays.items ≡ old.pays.items))
+ChangedIn old new tiers.Pay x change = ((b : BackView) → slice_get old.pays.items x ≡ Some b → new.pays.items ≡ slice_set old.pays.items x (back_with (change (LogState AnyValue)) b)) × ((new.mids.items ≡ old.mids.items) × (new.invs.items ≡ old.invs.items))
+
+abbrev pub Changes : Nodes → Nodes → NodeId → ((S : Type 0) → NodePart S → NodePart S) → Type 0
+Changes old new n change = ChangedIn old new n.tier n.index change
+
+-- WHETHER A NODE IS THERE
+
+abbrev pub condition_in : {S : Type 0} → Mode S → Condition
+condition_in (Up s) = conditions.Up
+condition_in Down = conditions.Down
+condition_in Gone = conditions.Gone
+
+abbrev pub mid_condition : Option MidView → Condition
+mid_condition None = conditions.Down
+mid_condition (Some m) = condition_in m.part.mode
+
+abbrev pub back_condition : Option BackView → Condition
+back_condition None = conditions.Down
+back_condition (Some b) = condition_in b.part.mode
+
+abbrev pub condition_at : Nodes → Tier → ℕ → Condition
+condition_at nodes tiers.Mid x = mid_condition (slice_get nodes.mids.items x)
+condition_at nodes tiers.Inv x = back_condition (slice_get nodes.invs.items x)
+condition_at nodes tiers.Pay x = back_condition (slice_get nodes.pays.items x)

@@ -1,24 +1,30 @@
 -- The nodes of the tiers, as far as they go while nothing is run: a node has its log, and a middle node its pending entries.
-use Rattle.std.specs.Prelude.{◌≡◌, ℕ, ◌+◌, ◌*◌, ◌<◌, ◌≤◌, Bool, true, false, List, [], ◌∷◌, ◌++◌, length, map, nat_lt, replicate, Option, Some, None, OnOk, slice_get}
+use Rattle.std.specs.Prelude.{◌≡◌, ◌⊎◌, ℕ, ◌+◌, ◌*◌, ◌<◌, ◌≤◌, Bool, true, false, ◌&&◌, List, [], ◌++◌, length, map, nat_lt, replicate, Option, Some, None, OnOk, slice_get, if◌then◌else◌}
+use Rattle.std.specs.List.{AllByRecursion}
 use Rattle.std.specs.declared.result.Result.{Result}
 use Rattle.std.specs.declared.result.Result.TheVariants.{Ok, Err}
-use Rattle.aeg_base.specs.declared.limits.TheConstants.{JOURNAL_BYTES, PACKETS, PACKETS_BEFORE}
+use Rattle.aeg_base.specs.declared.limits.TheConstants.{PACKETS, PACKETS_BEFORE}
 use Rattle.aeg_base.specs.declared.names.Tier.{Tier}
 use Rattle.aeg_base.specs.declared.names.Tier.TheVariants as tiers
 use Rattle.aeg_base.specs.declared.names.End.{End}
 use Rattle.aeg_base.specs.declared.names.End.TheVariants.{Node, Client}
+use Rattle.aeg_disk.specs.Disk.{DiskState, Rose, Later}
+use Rattle.fact_journal.specs.Standing.{HasFacts, StandsFor}
+use Rattle.fact_journal.specs.Fitting.{FactsFit, EachFits, all_facts, open_after_all}
+use Rattle.fact_journal.specs.Calls.{length_with, is_past, old_or_new, IsCut}
 use Rattle.server_model.specs.Backends.{Amounts}
 use Rattle.log_model.specs.declared.message.PaxMsg.{PaxMsg}
-use Rattle.log_model.specs.Log.{LogState}
+use Rattle.log_model.specs.Log.{LogState, open_at}
+use Rattle.log_model.specs.Recover.{newest}
 use Rattle.log_model.specs.Ranges.{IsMessageIn}
-use Rattle.log_model.specs.World.{Mode}
+use Rattle.log_model.specs.World.{Mode, recorded, writes}
 use Rattle.log_model.specs.World.Mode.{Up, Down, Gone}
 use Rattle.log_values.specs.declared.any_value.AnyValue.{AnyValue}
 use Rattle.log_values.specs.declared.any_value.AnyValue.TheVariants as values
 use Rattle.log_values.specs.declared.mid_value.MidValue.TheVariants.{Batch}
 use Rattle.log_values.specs.declared.entry.Entry.{Entry}
 use Rattle.log_values.specs.declared.fact.Fact.{Fact}
-use Rattle.log_values.specs.Records.{record_text}
+use Rattle.log_values.specs.declared.fact.Fact.TheVariants as facts
 use Rattle.log_values.specs.Fields.{FitsBallot, IsClient, IsSeq}
 use Rattle.frames.specs.declared.message.Msg.{Msg}
 use Rattle.frames.specs.declared.message.Msg.TheVariants as msgs
@@ -30,6 +36,8 @@ use Rattle.frames.specs.LogMessages.{IsCarried}
 use Rattle.round_model.specs.Service.{is_request}
 use Rattle.round_model.specs.Tables.{tables0}
 use Rattle.tier_model.specs.Moves.{is_node_of, Packet, Move}
+use Rattle.tier_model.specs.MidRows as mids
+use Rattle.tier_model.specs.BackRows as backs
 use Rattle.tier_model.specs.Mid.{Mid}
 use Rattle.tier_model.specs.Back.{Back}
 use Rattle.run_model.specs.BookingRuns.{booking_service}
@@ -72,6 +80,23 @@ CanStand tiers.Pay p v = NoValue p v
 abbrev pub IsLogMessage : Tier → PaxMsg AnyValue → Type 0
 IsLogMessage t m = IsMessageIn (CanStand t) FitsBallot m
 
+-- a fact that a node of the tier can write while nothing is run: it is one of its log
+abbrev pub CanWrite : Tier → Fact → Type 0
+CanWrite t (facts.Promised b) = FitsBallot b
+CanWrite t (facts.Accepted p b v) = FitsBallot b × CanStand t p v
+CanWrite t (facts.Learned p v) = CanStand t p v
+CanWrite t (facts.Held tier number code) = ⊥
+
+-- such facts, where so many positions were learned before them
+pub record StandIn (t : Tier) (first : ℕ) (written : List Fact) : Type 0 where
+  pub fit : FactsFit t first written
+  pub can : AllByRecursion (CanWrite t) written
+
+-- each of the lists of records is one that a node of the tier can have written
+pub record AllStand (t : Tier) (lists : List (List (List Fact))) : Type 0 where
+  pub fit : EachFits t lists
+  pub can : (k : ℕ) (rs : List (List Fact)) → slice_get lists k ≡ Some rs → AllByRecursion (CanWrite t) (all_facts rs)
+
 -- a client's request
 abbrev pub IsAsked : End → ℕ → List ℕ → Type 0
 IsAsked (Client c) seq text = IsClient c × (IsSeq seq × (is_request booking_service (record { client = c; seq = seq }) text ≡ true))
@@ -104,16 +129,6 @@ AllReach u packets = (i : ℕ) (k : Packet) → slice_get packets i ≡ Some k �
 
 -- EVENTS AT A NODE
 
--- how long a journal is once these facts are written to it
-abbrev pub length_with : ℕ → List Fact → ℕ
-length_with written [] = written
-length_with written (f ∷ fs) = written + (5 + length (record_text (f ∷ fs)))
-
--- they are written and pass the journal's limit
-abbrev pub is_past : ℕ → List Fact → Bool
-is_past written [] = false
-is_past written (f ∷ fs) = nat_lt JOURNAL_BYTES (length_with written (f ∷ fs))
-
 -- a packet as it is sent: with whom it goes to, and its bytes
 abbrev pub sealed : Packet → End × List ℕ
 sealed k = (k.to, frame k.from k.message)
@@ -126,32 +141,55 @@ AreFit packets = (i : ℕ) (k : Packet) → slice_get packets i ≡ Some k → F
 abbrev pub HaveRoom : {A : Type 0} → List A → Type 0
 HaveRoom packets = PACKETS_BEFORE + length packets ≤ PACKETS
 
--- A node: down or up with a state, and the length of its journal.
+-- A node: up with a state, down or gone, and the place of the shut gate that ends its journal, as far as it knows. It is in
+-- doubt where its disk may have one record more.
 pub record NodePart (S : Type 0) : Type 0 where
   pub mode : Mode S
-  pub written : ℕ
+  pub place : ℕ
+  pub doubt : Bool
 
 abbrev pub is_up_in : {S : Type 0} → Mode S → Bool
 is_up_in (Up s) = true
 is_up_in Down = false
 is_up_in Gone = false
 
+abbrev pub is_down_in : {S : Type 0} → Mode S → Bool
+is_down_in (Up s) = false
+is_down_in Down = true
+is_down_in Gone = false
+
 abbrev pub is_up : {S : Type 0} → NodePart S → Bool
 is_up part = is_up_in part.mode
 
--- a node before its first start, on a blank disk: a journal begins with one byte
+-- a node before its first start, on a blank disk
 abbrev pub new_part : {S : Type 0} → NodePart S
-new_part = record { mode = Down; written = 1 }
+new_part = record { mode = Down; place = 0; doubt = false }
+
+-- What a call with these facts did to the disk of its node, whose journal's gate was there. No facts are no record. At Ok
+-- the record is on the disk, and no stop was armed for it. Where the disk failed it stands for the old records, or these
+-- and the new one, and an armed stop that was met tells which. Want of memory says nothing.
+abbrev pub Wrote : DiskState → DiskState → ℕ → ℕ → List Fact → Result Answer Fault → Type 0
+Wrote old new at now facts (Ok answer) = ((rs : List (List Fact)) → old.tells ≡ true → HasFacts rs old at → HasFacts (recorded rs facts) new now)
+    × (writes facts ≡ true → old.armed ≤ 4 → old.armed ≡ 0) × (writes facts ≡ false → new ≡ old)
+Wrote old new at now facts (Err (faults.JournalFull size)) = new ≡ old
+Wrote old new at now facts (Err faults.Disk) = (writes facts ≡ true) × ((new.stopped ≡ true) ⊎ Rose old.faults new.faults)
+    × ((rs : List (List Fact)) → old.tells ≡ true → HasFacts rs old at → StandsFor (old_or_new rs facts) new × (old.stopped ≡ false → new.stopped ≡ true → IsCut rs facts old new))
+Wrote old new at now facts (Err faults.Memory) = Unit {0}
+Wrote old new at now facts (Err (faults.BadRecord place)) = ⊥
 
 -- The node makes the move: its state, its journal's length, its packets and its answer are the move's. Where the journal
--- would pass its limit the node goes down and sends nothing. Want of memory says nothing.
+-- would pass its limit, or the disk failed, the node goes down and sends nothing. Want of memory says nothing.
 abbrev pub Makes : {S T : Type 0} → (S → T) → NodePart S → NodePart S → List (End × List ℕ) → List (End × List ℕ) → Move T → Result Answer Fault → Type 0
-Makes {S = S} whole old new sent_before sent_after move (Ok answer) = (is_past old.written move.facts ≡ false) × ((s : S) × (new.mode ≡ Up s) × (whole s ≡ move.state))
-    × (new.written ≡ length_with old.written move.facts) × (sent_after ≡ sent_before ++ map sealed move.sends) × AreFit move.sends × (answer ≡ move.answer)
-Makes whole old new sent_before sent_after move (Err (faults.JournalFull size)) = (is_past old.written move.facts ≡ true) × (new.mode ≡ Down) × (new.written ≡ old.written) × (sent_after ≡ sent_before)
+Makes {S = S} whole old new sent_before sent_after move (Ok answer) = (is_past (old.place + 1) move.facts ≡ false) × ((s : S) × (new.mode ≡ Up s) × (whole s ≡ move.state))
+    × (new.place + 1 ≡ length_with (old.place + 1) move.facts) × (new.doubt ≡ old.doubt) × (sent_after ≡ sent_before ++ map sealed move.sends) × AreFit move.sends × (answer ≡ move.answer)
+Makes whole old new sent_before sent_after move (Err (faults.JournalFull size)) = (is_past (old.place + 1) move.facts ≡ true) × (new.mode ≡ Down) × (new.place ≡ old.place) × (new.doubt ≡ old.doubt) × (sent_after ≡ sent_before)
+Makes whole old new sent_before sent_after move (Err faults.Disk) = (is_past (old.place + 1) move.facts ≡ false) × (new.mode ≡ Down) × (new.place ≡ old.place) × (new.doubt ≡ true) × (sent_after ≡ sent_before)
 Makes whole old new sent_before sent_after move (Err faults.Memory) = Unit {0}
-Makes whole old new sent_before sent_after move (Err faults.Disk) = ⊥
 Makes whole old new sent_before sent_after move (Err (faults.BadRecord at)) = ⊥
+
+-- the disk of a node that is up tells just some records, with the shut gate at the node's place
+abbrev pub MayWrite : {S : Type 0} → NodePart S → DiskState → Type 0
+MayWrite part disk = disk.tells ≡ true → (rs : List (List Fact)) × HasFacts rs disk part.place
 
 -- THE NODES
 
@@ -168,15 +206,74 @@ pub record BackView : Type 0 where
   pub me : ℕ
   pub part : NodePart (LogState AnyValue)
 
--- A call of a node that is up makes the move. What the move sends reaches nodes, and has room. All but its part stays.
-pub record MidMoves (old new : MidView) (before after : List (End × List ℕ)) (move : Mid → Move Mid) (result : Result Answer Fault) : Type 0 where
+-- A call of a node that is up makes the move, and its facts are written down before. What the move sends reaches nodes, and
+-- has room. All but its part stays.
+pub record MidMoves (old new : MidView) (disk_before disk_after : DiskState) (before after : List (End × List ℕ)) (move : Mid → Move Mid) (result : Result Answer Fault) : Type 0 where
   pub row : (part : MidPart) → old.part.mode ≡ Up part → Makes (as_mid old.depth) old.part new.part before after (move (as_mid old.depth part)) result
+  pub disk : (part : MidPart) → old.part.mode ≡ Up part → Wrote disk_before disk_after old.part.place new.part.place (move (as_mid old.depth part)).facts result
+  pub later : Later disk_before disk_after
   pub reach : OnOk result ((part : MidPart) → old.part.mode ≡ Up part → AllReach old.faults (move (as_mid old.depth part)).sends)
   pub few : OnOk result ((part : MidPart) → old.part.mode ≡ Up part → HaveRoom (move (as_mid old.depth part)).sends)
+  pub fits : (part : MidPart) → old.part.mode ≡ Up part → StandIn tiers.Mid (open_at part.log) (move (as_mid old.depth part)).facts
+  pub opens : (part : MidPart) → old.part.mode ≡ Up part → open_at (move (as_mid old.depth part)).state.log ≡ open_after_all (open_at part.log) (move (as_mid old.depth part)).facts
   pub same : (new.faults ≡ old.faults) × ((new.depth ≡ old.depth) × (new.me ≡ old.me))
 
-pub record BackMoves (old new : BackView) (before after : List (End × List ℕ)) (move : Back Amounts → Move (Back Amounts)) (result : Result Answer Fault) : Type 0 where
+pub record BackMoves (old new : BackView) (disk_before disk_after : DiskState) (before after : List (End × List ℕ)) (move : Back Amounts → Move (Back Amounts)) (result : Result Answer Fault) : Type 0 where
   pub row : (log : LogState AnyValue) → old.part.mode ≡ Up log → Makes (as_back old.faults old.tier) old.part new.part before after (move (as_back old.faults old.tier log)) result
+  pub disk : (log : LogState AnyValue) → old.part.mode ≡ Up log → Wrote disk_before disk_after old.part.place new.part.place (move (as_back old.faults old.tier log)).facts result
+  pub later : Later disk_before disk_after
   pub reach : OnOk result ((log : LogState AnyValue) → old.part.mode ≡ Up log → AllReach old.faults (move (as_back old.faults old.tier log)).sends)
   pub few : OnOk result ((log : LogState AnyValue) → old.part.mode ≡ Up log → HaveRoom (move (as_back old.faults old.tier log)).sends)
+  pub fits : (log : LogState AnyValue) → old.part.mode ≡ Up log → StandIn old.tier (open_at log) (move (as_back old.faults old.tier log)).facts
+  pub opens : (log : LogState AnyValue) → old.part.mode ≡ Up log → open_at (move (as_back old.faults old.tier log)).state.log ≡ open_after_all (open_at log) (move (as_back old.faults old.tier log)).facts
   pub same : (new.faults ≡ old.faults) × ((new.tier ≡ old.tier) × (new.me ≡ old.me))
+
+-- RESTARTS
+
+-- Which list a restart reads: where the node is in doubt and its journal is longer than it knew, the one with the record more.
+abbrev pub list_found : Bool → ℕ → ℕ → ℕ
+list_found doubt known found = if doubt && nat_lt known found then 1 else 0
+
+-- A node that is down restarts on a disk that stands for lists of records which a node of the tier can have written. It comes
+-- up with what one of them leaves, and the disk has that one then. Where the disk fails the node stays down, and the disk
+-- stands for the same lists. Want of memory says nothing.
+abbrev pub Reads : {S T : Type 0} → Tier → (S → T) → (S → ℕ) → (List Fact → T) → NodePart S → NodePart S → DiskState → DiskState → List (List (List Fact)) → Result ℕ Fault → Type 0
+Reads {S = S} t whole open_of recover old new before after lists (Ok list) = (k : ℕ) × (rs : List (List Fact)) × (slice_get lists k ≡ Some rs)
+    × ((s : S) × (new.mode ≡ Up s) × (whole s ≡ recover (newest rs)) × (open_of s ≡ open_after_all 0 (all_facts rs)))
+    × (new.doubt ≡ false) × HasFacts rs after new.place × (list ≡ list_found old.doubt old.place new.place)
+Reads t whole open_of recover old new before after lists (Err faults.Disk) = (new ≡ old) × StandsFor lists after × ((after.stopped ≡ true) ⊎ Rose before.faults after.faults)
+Reads t whole open_of recover old new before after lists (Err faults.Memory) = Unit {0}
+Reads t whole open_of recover old new before after lists (Err (faults.JournalFull size)) = ⊥
+Reads t whole open_of recover old new before after lists (Err (faults.BadRecord at)) = ⊥
+
+-- the disk stands for lists of records of which each can be a node's of the tier
+abbrev pub MayRead : Tier → DiskState → Type 0
+MayRead t disk = (lists : List (List (List Fact))) × StandsFor lists disk × AllStand t lists
+
+pub record MidRestarts (old new : MidView) (before after : DiskState) (result : Result ℕ Fault) : Type 0 where
+  pub reads : (lists : List (List (List Fact))) → StandsFor lists before → AllStand tiers.Mid lists → Reads tiers.Mid (as_mid old.depth) (λ part. open_at part.log) (mids.recovered old.faults booking_service old.depth) old.part new.part before after lists result
+  pub later : Later before after
+  pub same : (new.faults ≡ old.faults) × ((new.depth ≡ old.depth) × (new.me ≡ old.me))
+
+pub record BackRestarts (old new : BackView) (before after : DiskState) (result : Result ℕ Fault) : Type 0 where
+  pub reads : (lists : List (List (List Fact))) → StandsFor lists before → AllStand old.tier lists → Reads old.tier (as_back old.faults old.tier) open_at (backs.recovered old.faults booking_service old.tier) old.part new.part before after lists result
+  pub later : Later before after
+  pub same : (new.faults ≡ old.faults) × ((new.tier ≡ old.tier) × (new.me ≡ old.me))
+
+-- DOWN, GONE, AND WITHOUT DOUBT
+
+abbrev pub goes_down : {S : Type 0} → NodePart S → NodePart S
+goes_down part = record { mode = Down; place = part.place; doubt = part.doubt }
+
+abbrev pub is_wiped : {S : Type 0} → NodePart S → NodePart S
+is_wiped part = record { mode = Gone; place = part.place; doubt = false }
+
+abbrev pub is_sure_now : {S : Type 0} → NodePart S → NodePart S
+is_sure_now part = record { mode = part.mode; place = part.place; doubt = false }
+
+-- a node with another part
+abbrev pub mid_with : (NodePart MidPart → NodePart MidPart) → MidView → MidView
+mid_with change m = record { faults = m.faults; depth = m.depth; me = m.me; part = change m.part }
+
+abbrev pub back_with : (NodePart (LogState AnyValue) → NodePart (LogState AnyValue)) → BackView → BackView
+back_with change b = record { faults = b.faults; tier = b.tier; me = b.me; part = change b.part }

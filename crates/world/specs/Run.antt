@@ -5,9 +5,12 @@ use Rattle.std.specs.declared.result.Result.TheVariants.{Ok, Err}
 use Rattle.aeg_base.specs.declared.limits.TheConstants.{PACKETS, PACKETS_BEFORE}
 use Rattle.run_model.specs.declared.line.Event.{Event}
 use Rattle.run_model.specs.declared.trace.TraceEvent.{TraceEvent}
+use Rattle.run_model.specs.World.{start}
 use Rattle.run_model.specs.Runs.{world}
-use Rattle.run_model.specs.Text.{event_text, closing}
-use Rattle.run_model.specs.Resolving.{Place, Turned, turn, goes_on, starts, first_place}
+use Rattle.run_model.specs.Text.{event_text, text, closing}
+use Rattle.run_model.specs.Resolving.{Place, Turned, turn, goes_on, Becomes, AllBecome, Finds, AllFind, starts, first_place}
+use Rattle.aeg_disk.specs.Disk.{DiskState}
+use Rattle.world.specs.Disks.{AreDisks, HasCause, AllCaused, NoneFell}
 use Rattle.world.specs.declared.stop.Stop.{Stop}
 use Rattle.world.specs.declared.stop.Stop.TheVariants as stops
 use Rattle.run_model.specs.BookingRuns.{config, BookingWorld}
@@ -26,10 +29,6 @@ world_of r = world (config r.u r.depth) r.trace
 abbrev pub new_run : ℕ → ℕ → Run
 new_run u depth = record { u = u; depth = depth; trace = []; place = first_place }
 
--- every node was restarted
-abbrev pub started : ℕ → ℕ → Run
-started u depth = record { u = u; depth = depth; trace = starts u; place = first_place }
-
 abbrev pub at_place : Run → Place → Run
 at_place r place = record { u = r.u; depth = r.depth; trace = r.trace; place = place }
 
@@ -45,26 +44,51 @@ turn_of r line = turn (config r.u r.depth) (world_of r) r.place line
 abbrev pub text_of : Run → TraceEvent → List ℕ
 text_of r event = event_text (config r.u r.depth) (world_of r) event
 
--- The line's event was made and what it prints was added. An event begins only where no more packets than the limit were
--- sent; else nothing is changed. Want of memory says nothing.
-abbrev pub AppliesEvent : Run → Run → List ℕ → List ℕ → Event → Place → TraceEvent → Result Bool Stop → Type 0
-AppliesEvent old new before now line place event (Ok again) = (length (world_of old).soup ≤ PACKETS_BEFORE) × (new ≡ with_event old event place) × (now ≡ before ++ text_of old event) × (again ≡ goes_on line)
-AppliesEvent old new before now line place event (Err stops.Limit) = (PACKETS_BEFORE < length (world_of old).soup) × (new ≡ old) × (now ≡ before)
-AppliesEvent old new before now line place event (Err stops.Memory) = Unit {0}
+-- STARTING
+
+-- Each node was restarted in its turn, and what these events print was added. The disks are those of the world then.
+pub record Starts (old new : Run) (disks_before disks_after : List DiskState) (before now : List ℕ) : Type 0 where
+  pub become : AllBecome (starts old.u) new.trace
+  pub finds : AllFind (config old.u old.depth) start new.trace
+  pub run : new ≡ record old { trace = new.trace }
+  pub told : now ≡ before ++ text (config old.u old.depth) new.trace
+  pub disks : AreDisks (world_of new) disks_after
+  pub causes : AllCaused disks_before disks_after new.trace
+  pub later : NoneFell disks_before disks_after
+
+-- LINES
+
+-- What was due at the line was made, or what it became by a fault of its disk. What it prints was added, and the disks are
+-- those of the world then.
+pub record MakesEvent (old new : Run) (disks_before disks_after : List DiskState) (before now : List ℕ) (due : TraceEvent) (place : Place) : Type 0 where
+  pub event : TraceEvent
+  pub becomes : Becomes due event
+  pub finds : Finds (world_of old) event
+  pub cause : HasCause (world_of old) disks_before disks_after event
+  pub later : NoneFell disks_before disks_after
+  pub run : new ≡ with_event old event place
+  pub told : now ≡ before ++ text_of old event
+  pub disks : AreDisks (world_of new) disks_after
+
+-- An event begins only where no more packets than the limit were sent; else nothing is changed. Want of memory says nothing.
+abbrev pub AppliesEvent : Run → Run → List DiskState → List DiskState → List ℕ → List ℕ → Event → Place → TraceEvent → Result Bool Stop → Type 0
+AppliesEvent old new disks_before disks_after before now line place due (Ok again) = (length (world_of old).soup ≤ PACKETS_BEFORE) × MakesEvent old new disks_before disks_after before now due place × (again ≡ goes_on line)
+AppliesEvent old new disks_before disks_after before now line place due (Err stops.Limit) = (PACKETS_BEFORE < length (world_of old).soup) × (new ≡ old) × (disks_after ≡ disks_before) × (now ≡ before)
+AppliesEvent old new disks_before disks_after before now line place due (Err stops.Memory) = Unit {0}
 
 -- nothing is left to do for the line
-abbrev pub AppliesNothing : Run → Run → List ℕ → List ℕ → Place → Result Bool Stop → Type 0
-AppliesNothing old new before now place (Ok again) = (new ≡ at_place old place) × (now ≡ before) × (again ≡ false)
-AppliesNothing old new before now place (Err stops.Limit) = ⊥
-AppliesNothing old new before now place (Err stops.Memory) = Unit {0}
+abbrev pub AppliesNothing : Run → Run → List DiskState → List DiskState → List ℕ → List ℕ → Place → Result Bool Stop → Type 0
+AppliesNothing old new disks_before disks_after before now place (Ok again) = (new ≡ at_place old place) × (disks_after ≡ disks_before) × (now ≡ before) × (again ≡ false)
+AppliesNothing old new disks_before disks_after before now place (Err stops.Limit) = ⊥
+AppliesNothing old new disks_before disks_after before now place (Err stops.Memory) = Unit {0}
 
-abbrev pub AppliesBy : Run → Run → List ℕ → List ℕ → Event → Place → Option TraceEvent → Result Bool Stop → Type 0
-AppliesBy old new before now line place None answer = AppliesNothing old new before now place answer
-AppliesBy old new before now line place (Some event) answer = AppliesEvent old new before now line place event answer
+abbrev pub AppliesBy : Run → Run → List DiskState → List DiskState → List ℕ → List ℕ → Event → Place → Option TraceEvent → Result Bool Stop → Type 0
+AppliesBy old new disks_before disks_after before now line place None answer = AppliesNothing old new disks_before disks_after before now place answer
+AppliesBy old new disks_before disks_after before now line place (Some due) answer = AppliesEvent old new disks_before disks_after before now line place due answer
 
 -- a call of `apply` with this line
-abbrev pub Applies : Run → Run → List ℕ → List ℕ → Event → Result Bool Stop → Type 0
-Applies old new before now line answer = AppliesBy old new before now line (turn_of old line).place (turn_of old line).event answer
+abbrev pub Applies : Run → Run → List DiskState → List DiskState → List ℕ → List ℕ → Event → Result Bool Stop → Type 0
+Applies old new disks_before disks_after before now line answer = AppliesBy old new disks_before disks_after before now line (turn_of old line).place (turn_of old line).event answer
 
 -- the closing lines
 abbrev pub closing_of : Run → List ℕ

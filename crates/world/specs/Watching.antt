@@ -1,11 +1,12 @@
 -- What is seen of the three tiers, from the frames that are sent.
-use Rattle.std.specs.Prelude.{ℕ, List, [], ◌∷◌, length}
+use Rattle.std.specs.Prelude.{ℕ, List, [], ◌∷◌, length, Bool, false, ◌==◌}
 use Rattle.std.specs.declared.result.Result.{Result}
 use Rattle.std.specs.declared.result.Result.TheVariants.{Ok, Err}
 use Rattle.aeg_base.specs.declared.names.End.{End}
 use Rattle.aeg_base.specs.declared.names.Tier.TheVariants.{Mid, Inv, Pay}
 use Rattle.aeg_base.specs.declared.names.End.TheVariants.{Node, Client}
 use Rattle.log_values.specs.declared.any_value.AnyValue.{AnyValue}
+use Rattle.log_values.specs.declared.format.TheConstants.{ACCEPTED_KIND}
 use Rattle.log_model.specs.declared.message.PaxMsg.{PaxMsg}
 use Rattle.frames.specs.declared.header.Header.{Header}
 use Rattle.frames.specs.declared.header.Refused.{Refused}
@@ -42,6 +43,12 @@ hears_found s (Err refusal) = s
 -- one frame more
 abbrev pub hears_frame : OfTiers Seen → List ℕ → OfTiers Seen
 hears_frame s bytes = hears_found s (frame_of bytes)
+
+-- bytes of the kind of an Accepted, the one message that is counted
+abbrev pub is_of_vote : List ℕ → Bool
+is_of_vote [] = false
+is_of_vote (version ∷ []) = false
+is_of_vote (version ∷ (kind ∷ bytes)) = kind == ACCEPTED_KIND
 
 -- more packets, each with whom it goes to
 abbrev pub hears_packets : OfTiers Seen → List (End × List ℕ) → OfTiers Seen

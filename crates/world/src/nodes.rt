@@ -1,10 +1,13 @@
-// The nodes of the tiers, as far as they go while nothing is run. Facts stay in memory: of a journal the length alone is
-// counted.
+// The nodes of the tiers, as far as they go while nothing is run.
 mod all_nodes;
 mod back_node;
+mod condition;
 mod log_node;
 mod mid_node;
 mod pending;
+mod restoring;
 mod telling;
+mod working;
 
 pub use all_nodes::Nodes;
+pub use condition::Condition;

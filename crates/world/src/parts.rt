@@ -1,18 +1,25 @@
 // The nodes, the clients and the packets of a run.
-ghost use Rattle.std.specs.Prelude.{◌≡◌, ℕ, ◌+◌, ◌*◌, ◌<◌, ◌≤◌, ◌++◌, length, OnOk};
+ghost use Rattle.std.specs.Prelude.{◌≡◌, ℕ, ◌+◌, ◌*◌, ◌<◌, ◌≤◌, ◌++◌, [], length, OnOk};
 ghost use Rattle.round_model.specs.Lists.{of_tier};
+ghost use Rattle.world.specs.Calling.{absent_text, parts_after};
+ghost use Rattle.world.specs.NodeLists.{HasNode, condition_at};
 ghost use Rattle.world.specs.Watching.{hears_packets, all_grown};
 
+mod arming;
+mod calls;
 mod clients;
 mod commands;
 mod deliveries;
 mod flow;
+mod power;
 mod starting;
 
-use crate::nodes::Nodes;
+use crate::nodes::{Condition, Nodes};
+use crate::text::{add_gone, add_idle_down};
 use crate::watch::Watch;
-use aeg_base::limits::PACKETS;
-use aeg_base::{Bytes, End, Memory, Tier};
+use aeg_base::limits::{PACKETS, PACKETS_BEFORE};
+use aeg_base::{Bytes, End, Memory, NodeId, Tier};
+pub use arming::StopAt;
 use frames::Outbox;
 use net_script::{ClientEnd, Soup};
 use std::alloc::Global;
@@ -61,6 +68,22 @@ impl Parts {
         ensures { result ≡ (of_tier self.now.watch tier).chosen }
     {
         self.watch.chosen(tier)
+    }
+
+    /// A command at a node that isn't up tells why, and nothing is done.
+    fn pass_over(&mut self, node: NodeId, lines: &mut Bytes) -> Result<(), Memory>
+        requires there { HasNode self.old.nodes node }
+        requires few { length self.old.soup ≤ PACKETS_BEFORE }
+        ensures told { OnOk result (lines.new ≡ lines.old ++ absent_text node (condition_at self.old.nodes node.tier node.index)) }
+        ensures same { OnOk result (self.new ≡ parts_after self.old self.old.nodes []) }
+        ensures within { OnOk result (length self.new.soup ≤ PACKETS) }
+    {
+        match self.nodes.condition(node) {
+            Condition::Up => {}
+            Condition::Down => add_idle_down(lines, node)?,
+            Condition::Gone => add_gone(lines, node)?,
+        }
+        self.send(Outbox::new(self.alloc))
     }
 
     /// Ends an event: its packets are on their way, and the logs go on by what they let be chosen.

@@ -2,13 +2,14 @@
 ghost use Rattle.std.specs.Prelude.{◌≡◌, OnOk};
 ghost use Rattle.round_model.specs.Lists.{of_tier, with_tier};
 ghost use Rattle.world.specs.Tallies.{hears};
-ghost use Rattle.world.specs.Watching.{new_watch, hears_log, hears_message, hears_frame, all_grown};
+ghost use Rattle.world.specs.Watching.{new_watch, hears_log, hears_message, hears_frame, is_of_vote, all_grown};
 
 use crate::observer::Observer;
 use aeg_base::{End, Memory, NodeId, Tier};
 use frames::{FrameErr, Msg, decode};
 use log_model::PaxMsg;
 use log_values::AnyValue;
+use log_values::format::ACCEPTED_KIND;
 use std::alloc::Global;
 use std::marker::Model;
 
@@ -28,6 +29,13 @@ impl Model for Watch {
     ghost Value = { OfTiers Seen };
 
     ghost view = { λ w. record { mid = w.mid; inv = w.inv; pay = w.pay } };
+}
+
+/// Whether the bytes have the kind of an Accepted, the one message that is counted.
+fn is_of_vote(bytes: &[u8]) -> bool
+    ensures { result ≡ is_of_vote bytes.now }
+{
+    bytes.len() > 1 && bytes[1] == ACCEPTED_KIND
 }
 
 impl Watch {
@@ -88,10 +96,13 @@ impl Watch {
         }
     }
 
-    /// Takes note of one frame more.
+    /// Takes note of one frame more. Only a frame that is counted is read.
     pub fn hear(&mut self, bytes: &[u8]) -> Result<(), Memory>
         ensures { OnOk result (self.new ≡ hears_frame self.old bytes.now) }
     {
+        if !is_of_vote(bytes) {
+            return Ok(());
+        }
         match decode(self.alloc, bytes) {
             Ok((header, msg)) => self.hear_message(header.from, &msg),
             Err(FrameErr::Refused(_)) => Ok(()),

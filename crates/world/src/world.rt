@@ -1,12 +1,14 @@
 // The world that a script's lines are played in.
-ghost use Rattle.std.specs.Prelude.{◌≡◌, ◌++◌, ◌≤◌, length, IfOk, OnOk};
+ghost use Rattle.std.specs.Prelude.{◌≡◌, ◌++◌, ◌≤◌, length, map, IfOk, OnOk};
 ghost use Rattle.net_script.specs.Events.{IsProper};
-ghost use Rattle.world.specs.Run.{new_run, world_of, started, Applies, ComesFurther, closing_of};
+ghost use Rattle.world.specs.Disks.{AreBlank, AreDisks};
+ghost use Rattle.world.specs.Run.{new_run, world_of, Starts, Applies, ComesFurther, closing_of};
 
 use crate::progress::Progress;
 use crate::stop::Stop;
 use aeg_base::limits::{MAX_FAULTS, PACKETS};
 use aeg_base::{Bytes, Memory};
+use aeg_disk::Device;
 use run_model::{Event, TraceEvent};
 use std::alloc::Global;
 use std::marker::Model;
@@ -44,30 +46,37 @@ impl World {
         })
     }
 
-    /// Each node restarts on its blank disk.
-    pub fn start(&mut self) -> Result<(), Memory>
-        requires { self.old ≡ new_run self.old.u self.old.depth }
-        ensures { OnOk result (self.new ≡ started self.old.u self.old.depth) }
+    /// Each node restarts on its blank disk. A disk that fails leaves its node down.
+    pub fn start<D: Device>(&mut self, disks: &mut [D], lines: &mut Bytes) -> Result<(), Memory>
+        requires new { self.old ≡ new_run self.old.u self.old.depth }
+        requires blank { AreBlank (map D.state disks.old) }
+        ensures { OnOk result (Starts self.old self.new (map D.state disks.old) (map D.state disks.new) lines.old lines.new) }
     {
         if self.has_ended {
             return Err(Memory);
         }
-        let answer = self.progress.start();
+        let answer = self.progress.start(disks, lines);
         self.has_ended = answer.is_err();
         answer
     }
 
     /// Does what is next for the line, at most one event, and answers whether more may be left of it.
-    pub fn apply(&mut self, line: &Event, lines: &mut Bytes) -> Result<bool, Stop>
-        requires { IsProper self.old.u line.now }
-        ensures applies { Applies self.old self.new lines.old lines.new line.now result }
+    pub fn apply<D: Device>(
+        &mut self,
+        line: &Event,
+        disks: &mut [D],
+        lines: &mut Bytes,
+    ) -> Result<bool, Stop>
+        requires proper { IsProper self.old.u line.now }
+        requires disks { AreDisks (world_of self.old) (map D.state disks.old) }
+        ensures applies { Applies self.old self.new (map D.state disks.old) (map D.state disks.new) lines.old lines.new line.now result }
         ensures further { ComesFurther self.old self.new result }
         ensures within { OnOk result (length (world_of self.new).soup ≤ PACKETS) }
     {
         if self.has_ended {
             return Err(Stop::Memory);
         }
-        let answer = self.progress.apply(line, lines);
+        let answer = self.progress.apply(line, disks, lines);
         self.has_ended = matches!(answer, Err(Stop::Memory));
         answer
     }

@@ -7,12 +7,16 @@ ghost use Rattle.round_model.specs.Lists.{each};
 ghost use Rattle.tier_model.specs.MidRows as mids;
 ghost use Rattle.tier_model.specs.BackRows as backs;
 ghost use Rattle.run_model.specs.BookingRuns.{booking_service};
-ghost use Rattle.world.specs.NodeLists.{new_mid, new_back, AreNew, HasNode, up_at, IsUpAt, NodesMove, CanReachAt, IsNewAt, Restarts};
+ghost use Rattle.aeg_disk.specs.Disk.{DiskState};
+ghost use Rattle.world.specs.Parts.{MayRead, goes_down, is_sure_now, is_wiped};
+ghost use Rattle.world.specs.NodeLists.{new_mid, new_back, AreNew, HasNode, KeepTiers, up_at, IsUpAt, IsDownAt, condition_at, Changes, NodesMove, NodeRestarts, CanReachAt, MayWriteAt};
 
 use super::back_node::BackNode;
+use super::condition::Condition;
 use super::mid_node::MidNode;
 use aeg_base::limits::MAX_FAULTS;
 use aeg_base::{End, Memory, NodeId, Tier};
+use aeg_disk::Disk;
 use frames::{Fault, Msg, Outbox, Turn};
 use std::alloc::Global;
 
@@ -61,6 +65,18 @@ impl Nodes {
         Ok(Nodes { mids, invs, pays })
     }
 
+    pub fn condition(&self, node: NodeId) -> Condition
+        requires { HasNode self.now node }
+        ensures { result ≡ condition_at self.now node.tier node.index }
+    {
+        let x = usize::from(node.index);
+        match node.tier {
+            Tier::Mid => self.mids[x].condition(),
+            Tier::Inv => self.invs[x].condition(),
+            Tier::Pay => self.pays[x].condition(),
+        }
+    }
+
     pub fn is_up(&self, node: NodeId) -> bool
         requires { HasNode self.now node }
         ensures { result ≡ up_at self.now node }
@@ -73,60 +89,115 @@ impl Nodes {
         }
     }
 
-    /// The node comes up from a blank disk.
-    pub fn restart(&mut self, node: NodeId)
-        requires { IsNewAt self.old node }
-        ensures { Restarts self.old self.new node }
+    /// The node goes down: all but its disk is lost.
+    pub fn crash(&mut self, node: NodeId)
+        requires { IsUpAt self.old node }
+        ensures { Changes self.old self.new node (λ S. goes_down {S = S}) }
     {
         let x = usize::from(node.index);
         match node.tier {
-            Tier::Mid => self.mids[x].restart(),
-            Tier::Inv => self.invs[x].restart(),
-            Tier::Pay => self.pays[x].restart(),
+            Tier::Mid => self.mids[x].crash(),
+            Tier::Inv => self.invs[x].crash(),
+            Tier::Pay => self.pays[x].crash(),
+        }
+    }
+
+    /// The node is gone for good.
+    pub fn wipe(&mut self, node: NodeId)
+        requires { HasNode self.old node }
+        ensures { Changes self.old self.new node (λ S. is_wiped {S = S}) }
+    {
+        let x = usize::from(node.index);
+        match node.tier {
+            Tier::Mid => self.mids[x].wipe(),
+            Tier::Inv => self.invs[x].wipe(),
+            Tier::Pay => self.pays[x].wipe(),
+        }
+    }
+
+    /// The node is told that its disk has just the records that its stop left.
+    pub fn be_sure(&mut self, node: NodeId)
+        requires { HasNode self.old node }
+        ensures { Changes self.old self.new node (λ S. is_sure_now {S = S}) }
+    {
+        let x = usize::from(node.index);
+        match node.tier {
+            Tier::Mid => self.mids[x].be_sure(),
+            Tier::Inv => self.invs[x].be_sure(),
+            Tier::Pay => self.pays[x].be_sure(),
+        }
+    }
+
+    /// The node comes up from what its disk has, and answers which of the lists that it may stand for that is.
+    pub fn restart<D: Disk>(&mut self, node: NodeId, disk: &mut D) -> Result<u8, Fault>
+        requires down { IsDownAt self.old node }
+        requires disk { MayRead node.tier (D.state disk.old) }
+        requires tiers { KeepTiers self.old }
+        ensures { NodeRestarts self.old self.new node (D.state disk.old) (D.state disk.new) result }
+    {
+        let x = usize::from(node.index);
+        match node.tier {
+            Tier::Mid => self.mids[x].restart(disk),
+            Tier::Inv => self.invs[x].restart(disk),
+            Tier::Pay => self.pays[x].restart(disk),
         }
     }
 
     /// The node takes a packet.
-    pub fn deliver(
+    pub fn deliver<D: Disk>(
         &mut self,
         node: NodeId,
         from: End,
         msg: &Msg,
+        disk: &mut D,
         out: &mut Outbox,
     ) -> Result<Turn, Fault>
         requires up { IsUpAt self.old node }
+        requires disk { MayWriteAt self.old node (D.state disk.old) }
         requires reach { CanReachAt self.old node from msg.now }
-        ensures { NodesMove self.old self.new node out.old out.new (λ m σ. mids.on_frame m.faults booking_service m.me σ from msg.now) (λ b σ. backs.on_frame b.faults booking_service b.tier b.me σ from msg.now) result }
+        ensures { NodesMove self.old self.new node (D.state disk.old) (D.state disk.new) out.old out.new (λ m σ. mids.on_frame m.faults booking_service m.me σ from msg.now) (λ b σ. backs.on_frame b.faults booking_service b.tier b.me σ from msg.now) result }
     {
         let x = usize::from(node.index);
         match node.tier {
-            Tier::Mid => self.mids[x].deliver(from, msg, out),
-            Tier::Inv => self.invs[x].deliver(from, msg, out),
-            Tier::Pay => self.pays[x].deliver(from, msg, out),
+            Tier::Mid => self.mids[x].deliver(from, msg, disk, out),
+            Tier::Inv => self.invs[x].deliver(from, msg, disk, out),
+            Tier::Pay => self.pays[x].deliver(from, msg, disk, out),
         }
     }
 
     /// The node begins to lead.
-    pub fn lead(&mut self, node: NodeId, out: &mut Outbox) -> Result<Turn, Fault>
-        requires { IsUpAt self.old node }
-        ensures { NodesMove self.old self.new node out.old out.new (λ m σ. mids.leads m.faults booking_service m.me σ) (λ b σ. backs.leads b.faults booking_service b.tier b.me σ) result }
+    pub fn lead<D: Disk>(
+        &mut self,
+        node: NodeId,
+        disk: &mut D,
+        out: &mut Outbox,
+    ) -> Result<Turn, Fault>
+        requires up { IsUpAt self.old node }
+        requires disk { MayWriteAt self.old node (D.state disk.old) }
+        ensures { NodesMove self.old self.new node (D.state disk.old) (D.state disk.new) out.old out.new (λ m σ. mids.leads m.faults booking_service m.me σ) (λ b σ. backs.leads b.faults booking_service b.tier b.me σ) result }
     {
         let x = usize::from(node.index);
         match node.tier {
-            Tier::Mid => self.mids[x].lead(out),
-            Tier::Inv => self.invs[x].lead(out),
-            Tier::Pay => self.pays[x].lead(out),
+            Tier::Mid => self.mids[x].lead(disk, out),
+            Tier::Inv => self.invs[x].lead(disk, out),
+            Tier::Pay => self.pays[x].lead(disk, out),
         }
     }
 
     /// The node offers a value, where it can.
-    pub fn offer(&mut self, node: NodeId, out: &mut Outbox) -> Result<Turn, Fault>
-        requires { IsUpAt self.old node }
-        ensures { NodesMove self.old self.new node out.old out.new (λ m σ. mids.offers m.faults booking_service m.me σ) (λ b σ. backs.offers b.faults booking_service b.tier b.me σ) result }
+    pub fn offer<D: Disk>(
+        &mut self,
+        node: NodeId,
+        disk: &mut D,
+        out: &mut Outbox,
+    ) -> Result<Turn, Fault>
+        requires up { IsUpAt self.old node }
+        requires disk { MayWriteAt self.old node (D.state disk.old) }
+        ensures { NodesMove self.old self.new node (D.state disk.old) (D.state disk.new) out.old out.new (λ m σ. mids.offers m.faults booking_service m.me σ) (λ b σ. backs.offers b.faults booking_service b.tier b.me σ) result }
     {
         let x = usize::from(node.index);
         match node.tier {
-            Tier::Mid => self.mids[x].offer(out),
+            Tier::Mid => self.mids[x].offer(disk, out),
             Tier::Inv => Ok(self.invs[x].offer()),
             Tier::Pay => Ok(self.pays[x].offer()),
         }
@@ -135,7 +206,7 @@ impl Nodes {
     /// The node tells again what may be lost.
     pub fn retry(&mut self, node: NodeId, out: &mut Outbox) -> Result<Turn, Fault>
         requires { IsUpAt self.old node }
-        ensures { NodesMove self.old self.new node out.old out.new (λ m σ. mids.retry m.faults m.me σ) (λ b σ. backs.retry b.faults b.tier b.me σ) result }
+        ensures { (disk : DiskState) → NodesMove self.old self.new node disk disk out.old out.new (λ m σ. mids.retry m.faults m.me σ) (λ b σ. backs.retry b.faults b.tier b.me σ) result }
     {
         let x = usize::from(node.index);
         match node.tier {

@@ -2,18 +2,20 @@
 ghost use Rattle.std.specs.Prelude.{◌≡◌, ℕ, ◌+◌, ◌*◌, ◌<◌, ◌≤◌, List, [], true};
 ghost use Rattle.svc_api.specs.Plan.{IsBackend};
 ghost use Rattle.aeg_base.specs.declared.names.End.{End};
-ghost use Rattle.log_model.specs.World.Mode.{Up};
-ghost use Rattle.log_model.specs.Log.{LogState};
-ghost use Rattle.log_values.specs.declared.any_value.AnyValue.{AnyValue};
+ghost use Rattle.aeg_disk.specs.Disk.{DiskState};
+ghost use Rattle.log_model.specs.World.Mode.{Down};
 ghost use Rattle.frames.specs.declared.message.Msg.TheVariants as msgs;
-ghost use Rattle.tier_model.specs.BackRows.{on_frame, leads, offers, retry, recovered};
+ghost use Rattle.tier_model.specs.BackRows.{on_frame, leads, offers, retry};
 ghost use Rattle.run_model.specs.BookingRuns.{booking_service};
-ghost use Rattle.world.specs.Parts.{CanReach, BackMoves, as_back, is_up, new_part};
+ghost use Rattle.world.specs.NodeLists.{condition_in};
+ghost use Rattle.world.specs.Parts.{BackMoves, BackRestarts, CanReach, MayRead, MayWrite, back_with, goes_down, is_sure_now, is_up, is_wiped, new_part};
 
+use super::condition::Condition;
 use super::log_node::LogNode;
 use super::telling::offer_cause;
 use aeg_base::limits::MAX_FAULTS;
 use aeg_base::{End, NodeId, Tier};
+use aeg_disk::Disk;
 use frames::{Fault, Idle, Msg, Outbox, Refused, Turn};
 use log_values::AnyValue;
 use paxos_log::PaxMsg;
@@ -52,61 +54,99 @@ impl BackNode {
         }
     }
 
+    pub fn condition(&self) -> Condition
+        ensures { result ≡ condition_in self.now.part.mode }
+    {
+        self.node.condition()
+    }
+
     pub fn is_up(&self) -> bool
         ensures { result ≡ is_up self.now.part }
     {
         self.node.is_up()
     }
 
-    /// Comes up from a blank disk.
-    pub fn restart(&mut self)
-        requires { self.old.part ≡ new_part }
-        ensures part { (log : LogState AnyValue) × ((self.new.part ≡ record { mode = Up log; written = 1 }) × (as_back self.old.faults self.old.tier log ≡ recovered self.old.faults booking_service self.old.tier [])) }
-        ensures same { (self.new.faults ≡ self.old.faults) × ((self.new.tier ≡ self.old.tier) × (self.new.me ≡ self.old.me)) }
+    /// Goes down: all but its disk is lost.
+    pub fn crash(&mut self)
+        requires { is_up self.old.part ≡ true }
+        ensures { self.new ≡ back_with goes_down self.old }
     {
-        self.node.restart();
+        self.node.crash();
+    }
+
+    /// Is gone for good.
+    pub fn wipe(&mut self)
+        ensures { self.new ≡ back_with is_wiped self.old }
+    {
+        self.node.wipe();
+    }
+
+    /// Is told that its disk has just the records that its stop left.
+    pub fn be_sure(&mut self)
+        ensures { self.new ≡ back_with is_sure_now self.old }
+    {
+        self.node.be_sure();
+    }
+
+    /// Comes up from what its disk has, and answers which of the lists that it may stand for that is.
+    pub fn restart<D: Disk>(&mut self, disk: &mut D) -> Result<u8, Fault>
+        requires down { self.old.part.mode ≡ Down }
+        requires disk { MayRead self.old.tier (D.state disk.old) }
+        ensures { BackRestarts self.old self.new (D.state disk.old) (D.state disk.new) result }
+    {
+        self.node.restart(disk)
     }
 
     /// Takes a packet.
-    pub fn deliver(&mut self, from: End, msg: &Msg, out: &mut Outbox) -> Result<Turn, Fault>
+    pub fn deliver<D: Disk>(
+        &mut self,
+        from: End,
+        msg: &Msg,
+        disk: &mut D,
+        out: &mut Outbox,
+    ) -> Result<Turn, Fault>
         requires up { is_up self.old.part ≡ true }
+        requires disk { MayWrite self.old.part (D.state disk.old) }
         requires reach { CanReach self.old.faults from self.old.tier msg.now }
-        ensures { BackMoves self.old self.new out.old out.new (λ σ. on_frame self.old.faults booking_service self.old.tier self.old.me σ from msg.now) result }
+        ensures { BackMoves self.old self.new (D.state disk.old) (D.state disk.new) out.old out.new (λ σ. on_frame self.old.faults booking_service self.old.tier self.old.me σ from msg.now) result }
     {
         match msg {
-            Msg::Log(message) => self.on_log(from, message, out),
+            Msg::Log(message) => self.on_log(from, message, disk, out),
             _ => Ok(Turn::Dropped(Refused::Row(7))),
         }
     }
 
-    fn on_log(
+    fn on_log<D: Disk>(
         &mut self,
         from: End,
         message: &PaxMsg<AnyValue>,
+        disk: &mut D,
         out: &mut Outbox,
     ) -> Result<Turn, Fault>
         requires up { is_up self.old.part ≡ true }
+        requires disk { MayWrite self.old.part (D.state disk.old) }
         requires reach { CanReach self.old.faults from self.old.tier (msgs.Log message.now) }
-        ensures { BackMoves self.old self.new out.old out.new (λ σ. on_frame self.old.faults booking_service self.old.tier self.old.me σ from (msgs.Log message.now)) result }
+        ensures { BackMoves self.old self.new (D.state disk.old) (D.state disk.new) out.old out.new (λ σ. on_frame self.old.faults booking_service self.old.tier self.old.me σ from (msgs.Log message.now)) result }
     {
         let Some(index) = self.node.peer(from) else {
             return Ok(Turn::Dropped(Refused::Row(7)));
         };
-        self.node.on_msg(index, message, out)
+        self.node.on_msg(index, message, disk, out)
     }
 
     /// Begins to lead.
-    pub fn lead(&mut self, out: &mut Outbox) -> Result<Turn, Fault>
-        requires { is_up self.old.part ≡ true }
-        ensures { BackMoves self.old self.new out.old out.new (λ σ. leads self.old.faults booking_service self.old.tier self.old.me σ) result }
+    pub fn lead<D: Disk>(&mut self, disk: &mut D, out: &mut Outbox) -> Result<Turn, Fault>
+        requires up { is_up self.old.part ≡ true }
+        requires disk { MayWrite self.old.part (D.state disk.old) }
+        ensures { BackMoves self.old self.new (D.state disk.old) (D.state disk.new) out.old out.new (λ σ. leads self.old.faults booking_service self.old.tier self.old.me σ) result }
     {
-        self.node.lead(out)
+        self.node.lead(disk, out)
     }
 
     /// Has no value of its own to offer, and none was reported.
     pub fn offer(&self) -> Turn
         requires { is_up self.now.part ≡ true }
-        ensures { (out : List (End × List ℕ)) → BackMoves self.now self.now out out (λ σ. offers self.now.faults booking_service self.now.tier self.now.me σ) (Ok result) }
+        ensures { (disk : DiskState) (out : List (End × List ℕ)) → BackMoves self.now self.now disk disk out out (λ σ. offers self.now.faults booking_service self.now.tier self.now.me σ) (Ok result) }
     {
         if let Some(cause) = offer_cause(self.node.wants()) {
             return Turn::Idle(cause);
@@ -117,7 +157,7 @@ impl BackNode {
     /// Tells again what may be lost: while nothing is run, its Asks alone.
     pub fn retry(&self, out: &mut Outbox) -> Result<Turn, Fault>
         requires { is_up self.now.part ≡ true }
-        ensures { BackMoves self.now self.now out.old out.new (λ σ. retry self.now.faults self.now.tier self.now.me σ) result }
+        ensures { (disk : DiskState) → BackMoves self.now self.now disk disk out.old out.new (λ σ. retry self.now.faults self.now.tier self.now.me σ) result }
     {
         self.node.ask(out)?;
         Ok(Turn::Did)

@@ -1,5 +1,5 @@
-// What a middle and a backend node share: a log in memory, and the length of its journal.
-ghost use Rattle.std.specs.Prelude.{◌≡◌, ◌+◌, ◌*◌, ◌<◌, ◌≤◌, [], ◌++◌, true, false, map, IfOk, OnOk, MatchOption, option_copied};
+// What a middle and a backend node share: a log in memory, and a journal on a disk.
+ghost use Rattle.std.specs.Prelude.{◌≡◌, ◌+◌, ◌*◌, ◌<◌, ◌≤◌, [], ◌++◌, List, length, true, false, map, IfOk, OnOk, MatchOption, option_copied};
 ghost use Rattle.aeg_base.specs.declared.names.End.{End};
 ghost use Rattle.log_model.specs.Log.{LogState, open_at};
 ghost use Rattle.log_model.specs.Rows.{on_msg as message_row, lead as lead_row, offer as offer_row, wants as wants_of};
@@ -10,37 +10,49 @@ ghost use Rattle.log_values.specs.declared.any_value.AnyValue.{AnyValue};
 ghost use Rattle.log_values.specs.Fields.{FitsBallot};
 ghost use Rattle.paxos_log.specs.TierLog.{CanOffer};
 ghost use Rattle.server_model.specs.Server.{same_tier};
-ghost use Rattle.tier_model.specs.Moves.{is_node_of, index_of, asks, log_packets};
-ghost use Rattle.world.specs.Parts.{CanStand, IsLogMessage, is_up, new_part, sealed};
-ghost use Rattle.world.specs.LogNodes.{IsRanged, IsSameNode, MakesTurn, Turns, whole_turn};
+ghost use Rattle.tier_model.specs.Moves.{is_node_of, index_of, asks, log_facts, log_packets};
+ghost use Rattle.aeg_disk.specs.Disk.{Later};
+ghost use Rattle.fact_journal.specs.Standing.{StandsFor};
+ghost use Rattle.log_values.specs.declared.fact.Fact.{Fact};
+ghost use Rattle.world.specs.Parts.{AllStand, CanStand, IsLogMessage, MayRead, MayWrite, Reads, goes_down, is_sure_now, is_up, is_wiped, new_part, sealed};
+ghost use Rattle.world.specs.NodeLists.{condition_in};
+ghost use Rattle.world.specs.LogNodes.{IsRanged, IsSameNode, MakesTurn, WasAtWork, WritesTurn, Turns, log_itself, whole_turn, without_log};
 
-use super::telling::{answer_of, facts_of, length_after, send_all};
-use aeg_base::limits::{JOURNAL_BYTES, MAX_FAULTS, POSITIONS};
+use super::condition::Condition;
+use super::restoring::{fault_of, leaves_doubt, list_found, log_facts, opening_fault};
+use super::telling::{answer_of, facts_of, send_all};
+use super::working::Working;
+use aeg_base::limits::{MAX_FAULTS, POSITIONS};
 use aeg_base::{End, Memory, NodeId, Pos, Seq, Tier};
+use aeg_disk::Disk;
+use fact_journal::FactJournal;
 use frames::{Fault, Outbox, Turn};
-use log_values::AnyValue;
+use log_values::{AnyValue, Record};
 use paxos_log::{LogTurn, Offering, PaxMsg, TierLog};
 use std::alloc::Global;
 use std::marker::Model;
 
-/// A node's log while it is up, with the length of its journal.
+/// A node with its log and its journal while it is up. While it is down it knows where its journal ended, and whether its
+/// disk may have one record more.
 #[derive(Drop)]
 pub struct LogNode {
     alloc: Global,
     faults: u8,
     me: NodeId,
-    written: u64,
-    log: Option<TierLog<AnyValue>>,
+    known: u64,
+    doubt: bool,
+    gone: bool,
+    up: Option<Working>,
 }
 
 impl Model for LogNode {
-    ghost use Rattle.world.specs.LogNodes.{LogView, mode_of, IsLogNode};
+    ghost use Rattle.world.specs.LogNodes.{LogView, mode_of, place_by, IsLogNode};
 
     ghost Value = { LogView };
 
-    ghost view = { λ n. record { faults = n.faults; tier = n.me.tier; me = n.me.index; part = record { mode = mode_of n.log; written = n.written } } };
+    ghost view = { λ n. record { faults = n.faults; tier = n.me.tier; me = n.me.index; part = record { mode = mode_of n.up n.gone; place = place_by n.up n.known; doubt = n.doubt } } };
 
-    ghost invariant = { λ n. IsLogNode n.faults n.me.tier n.me.index n.written n.log };
+    ghost invariant = { λ n. IsLogNode n.faults n.me.tier n.me.index n.gone n.doubt n.up };
 }
 
 impl LogNode {
@@ -54,22 +66,77 @@ impl LogNode {
             alloc,
             faults: u,
             me,
-            written: 1,
-            log: None,
+            known: 0,
+            doubt: false,
+            gone: false,
+            up: None,
         }
+    }
+
+    pub fn condition(&self) -> Condition
+        ensures { result ≡ condition_in self.now.part.mode }
+    {
+        if self.up.is_some() {
+            return Condition::Up;
+        }
+        if self.gone {
+            return Condition::Gone;
+        }
+        Condition::Down
     }
 
     pub fn is_up(&self) -> bool
         ensures { result ≡ is_up self.now.part }
     {
-        self.log.is_some()
+        self.up.is_some()
     }
 
-    /// Comes up with an empty log, as a blank disk leaves it.
-    pub fn restart(&mut self)
-        ensures { self.new ≡ record { faults = self.old.faults; tier = self.old.tier; me = self.old.me; part = record { mode = Up (recover self.old.faults []); written = self.old.part.written } } }
+    /// The place of the gate that ends its journal, as far as it knows.
+    fn place(&self) -> u64
+        ensures { result ≡ self.now.part.place }
     {
-        self.log = Some(TierLog::new(self.alloc, self.faults, self.me.index));
+        match &self.up {
+            None => self.known,
+            Some(up) => up.journal.place(),
+        }
+    }
+
+    /// Takes the log and the journal of a node that is up.
+    fn take_up(&mut self) -> Working
+        requires { is_up self.old.part ≡ true }
+        ensures taken { WasAtWork self.old result }
+        ensures left { self.new ≡ without_log self.old }
+    {
+        let Some(up) = self.up.take() else {
+            unreachable!()
+        };
+        self.known = up.journal.place();
+        up
+    }
+
+    /// Goes down: all but its disk is lost.
+    pub fn crash(&mut self)
+        requires { is_up self.old.part ≡ true }
+        ensures { self.new ≡ record self.old { part = goes_down self.old.part } }
+    {
+        let _up = self.take_up();
+    }
+
+    /// Is gone for good.
+    pub fn wipe(&mut self)
+        ensures { self.new ≡ record self.old { part = is_wiped self.old.part } }
+    {
+        self.known = self.place();
+        self.up = None;
+        self.gone = true;
+        self.doubt = false;
+    }
+
+    /// Is told that its disk has just the records that its stop left.
+    pub fn be_sure(&mut self)
+        ensures { self.new ≡ record self.old { part = is_sure_now self.old.part } }
+    {
+        self.doubt = false;
     }
 
     /// The index of another end, where it is a node of the same tier.
@@ -93,9 +160,9 @@ impl LogNode {
         ensures within { result ≤ POSITIONS }
         ensures range { IsRanged self.now }
     {
-        match &self.log {
+        match &self.up {
             None => unreachable!(),
-            Some(log) => log.first_open(),
+            Some(up) => up.log.first_open(),
         }
     }
 
@@ -105,53 +172,56 @@ impl LogNode {
         ensures offering { (log : LogState AnyValue) → self.now.part.mode ≡ Up log → result ≡ wants_of self.now.faults log }
         ensures range { IsRanged self.now }
     {
-        match &self.log {
+        match &self.up {
             None => unreachable!(),
-            Some(log) => log.wants(),
+            Some(up) => up.log.wants(),
         }
     }
 
-    pub fn on_msg(
+    pub fn on_msg<D: Disk>(
         &mut self,
         from: u8,
         message: &PaxMsg<AnyValue>,
+        disk: &mut D,
         out: &mut Outbox,
     ) -> Result<Turn, Fault>
         requires up { is_up self.old.part ≡ true }
+        requires disk { MayWrite self.old.part (D.state disk.old) }
         requires sender { from < 2 * self.old.faults + 1 }
         requires range { IsLogMessage self.old.tier message.now }
-        ensures { Turns self.old self.new out.old out.new (λ log. message_row self.old.faults log from message.now) result }
+        ensures { Turns self.old self.new (D.state disk.old) (D.state disk.new) out.old out.new (λ log. message_row self.old.faults log from message.now) result }
     {
-        let Some(mut log) = self.log.take() else {
-            unreachable!()
-        };
-        let turn = log.on_msg(from, message)?;
-        self.settle(log, turn, out)
+        let mut up = self.take_up();
+        let turn = up.log.on_msg(from, message)?;
+        self.settle(up, turn, disk, out)
     }
 
-    pub fn lead(&mut self, out: &mut Outbox) -> Result<Turn, Fault>
-        requires { is_up self.old.part ≡ true }
-        ensures { Turns self.old self.new out.old out.new (λ log. lead_row self.old.faults self.old.me log) result }
+    pub fn lead<D: Disk>(&mut self, disk: &mut D, out: &mut Outbox) -> Result<Turn, Fault>
+        requires up { is_up self.old.part ≡ true }
+        requires disk { MayWrite self.old.part (D.state disk.old) }
+        ensures { Turns self.old self.new (D.state disk.old) (D.state disk.new) out.old out.new (λ log. lead_row self.old.faults self.old.me log) result }
     {
-        let Some(mut log) = self.log.take() else {
-            unreachable!()
-        };
-        let turn = log.lead()?;
-        self.settle(log, turn, out)
+        let mut up = self.take_up();
+        let turn = up.log.lead()?;
+        self.settle(up, turn, disk, out)
     }
 
     /// Offers the reported value or, where none was reported, its own.
-    pub fn offer(&mut self, own: Option<&AnyValue>, out: &mut Outbox) -> Result<Turn, Fault>
+    pub fn offer<D: Disk>(
+        &mut self,
+        own: Option<&AnyValue>,
+        disk: &mut D,
+        out: &mut Outbox,
+    ) -> Result<Turn, Fault>
         requires up { is_up self.old.part ≡ true }
+        requires disk { MayWrite self.old.part (D.state disk.old) }
         requires can { (log : LogState AnyValue) → self.old.part.mode ≡ Up log → CanOffer (wants_of self.old.faults log) (option_copied own) }
         requires range { (log : LogState AnyValue) → self.old.part.mode ≡ Up log → IsOwnIn (CanStand self.old.tier) (open_at log) (option_copied own) }
-        ensures { Turns self.old self.new out.old out.new (λ log. offer_row self.old.faults self.old.me log (option_copied own.entry)) result }
+        ensures { Turns self.old self.new (D.state disk.old) (D.state disk.new) out.old out.new (λ log. offer_row self.old.faults self.old.me log (option_copied own.entry)) result }
     {
-        let Some(mut log) = self.log.take() else {
-            unreachable!()
-        };
-        let turn = log.offer(own)?;
-        self.settle(log, turn, out)
+        let mut up = self.take_up();
+        let turn = up.log.offer(own)?;
+        self.settle(up, turn, disk, out)
     }
 
     /// Asks the others for the value at its first open position.
@@ -177,31 +247,66 @@ impl LogNode {
         Ok(list)
     }
 
-    /// A turn that was decided on the log in hand: its facts are written down first, and only then does the node take
-    /// over the log in its next state and hand out the packets. Where the journal would pass its limit, or memory runs
-    /// out, the node stays down.
-    fn settle(
+    /// A turn that was decided on the log in hand. Its packets are made, its facts are written down, and only then does the
+    /// node take over the log in its next state and hand the packets out. Where the journal would pass its limit, the disk
+    /// fails or memory runs out, the node stays down and hands out none.
+    fn settle<D: Disk>(
         &mut self,
-        log: TierLog<AnyValue>,
+        up: Working,
         turn: LogTurn<AnyValue>,
+        disk: &mut D,
         out: &mut Outbox,
     ) -> Result<Turn, Fault>
         requires down { self.old.part.mode ≡ Down }
-        requires own { (log.faults ≡ self.old.faults) × (log.me ≡ self.old.me) }
-        requires range { IsTurnIn self.old.faults (CanStand self.old.tier) FitsBallot (whole_turn log.state turn) }
-        ensures row { MakesTurn self.old self.new out.old out.new (whole_turn log.state turn) result }
+        requires sure { self.old.part.doubt ≡ false }
+        requires place { up.journal ≡ self.old.part.place }
+        requires own { (up.log.faults ≡ self.old.faults) × (up.log.me ≡ self.old.me) }
+        requires range { IsTurnIn self.old.faults (CanStand self.old.tier) FitsBallot (whole_turn up.log.state turn) }
+        requires short { length turn.facts ≤ 1 }
+        requires disk { MayWrite self.old.part (D.state disk.old) }
+        ensures row { MakesTurn self.old self.new out.old out.new (whole_turn up.log.state turn) result }
+        ensures disk { WritesTurn self.old self.new (D.state disk.old) (D.state disk.new) (whole_turn up.log.state turn) result }
+        ensures later { Later (D.state disk.old) (D.state disk.new) }
         ensures same { IsSameNode self.old self.new }
     {
         let me = self.me;
+        let mut up = up;
         let facts = facts_of(self.alloc, turn.facts)?;
-        let written = length_after(self.alloc, self.written, facts)?;
-        if written > JOURNAL_BYTES {
-            return Err(Fault::JournalFull { len: written });
-        }
+        let record = Record::of(facts);
+        let before = out.items().len();
         send_all(self.alloc, me, turn.sends, out)?;
-        self.written = written;
-        self.log = Some(log);
-        Ok(answer_of(turn.idle))
+        match up.journal.append(disk, &record) {
+            Ok(()) => {
+                self.up = Some(up);
+                Ok(answer_of(turn.idle))
+            }
+            Err(error) => {
+                drop(up);
+                out.truncate(before);
+                self.doubt = leaves_doubt(error);
+                Err(fault_of(error))
+            }
+        }
+    }
+
+    /// Comes up from what its disk has, and answers which of the lists that it may stand for that is, by its number.
+    pub fn restart<D: Disk>(&mut self, disk: &mut D) -> Result<u8, Fault>
+        requires down { self.old.part.mode ≡ Down }
+        requires disk { MayRead self.old.tier (D.state disk.old) }
+        ensures reads { (lists : List (List (List Fact))) → StandsFor lists (D.state disk.old) → AllStand self.old.tier lists → Reads self.old.tier log_itself open_at (λ facts. recover self.old.faults (log_facts facts)) self.old.part self.new.part (D.state disk.old) (D.state disk.new) lists result }
+        ensures later { Later (D.state disk.old) (D.state disk.new) }
+        ensures same { IsSameNode self.old self.new }
+    {
+        let (journal, facts) = match FactJournal::open_on(self.alloc, disk, self.me.tier) {
+            Ok(opened) => opened,
+            Err(error) => return Err(opening_fault(error)),
+        };
+        let mut log = TierLog::new(self.alloc, self.faults, self.me.index);
+        log.restore(&log_facts(self.alloc, facts)?)?;
+        let found = list_found(self.doubt, self.known, journal.place());
+        self.doubt = false;
+        self.up = Some(Working { log, journal });
+        Ok(found)
     }
 }
 

@@ -4,17 +4,22 @@ ghost use Rattle.aeg_base.specs.declared.names.Tier.TheVariants as tiers;
 ghost use Rattle.aeg_base.specs.declared.names.End.{End};
 ghost use Rattle.log_model.specs.Log.{open_at};
 ghost use Rattle.log_model.specs.Ranges.{IsOwnIn};
-ghost use Rattle.log_model.specs.World.Mode.{Up};
+ghost use Rattle.aeg_disk.specs.Disk.{DiskState};
+ghost use Rattle.log_model.specs.World.Mode.{Up, Down};
 ghost use Rattle.frames.specs.declared.message.Msg.TheVariants as msgs;
-ghost use Rattle.tier_model.specs.MidRows.{on_frame, leads, offers, retry, recovered, own_value, own_cause};
+ghost use Rattle.tier_model.specs.MidRows.{on_frame, leads, offers, retry, own_value, own_cause};
 ghost use Rattle.run_model.specs.BookingRuns.{booking_service};
-ghost use Rattle.world.specs.Parts.{CanReach, CanStand, IsAsked, MidMoves, MidPart, as_mid, is_up, new_part};
+ghost use Rattle.world.specs.LogNodes.{OwnStands};
+ghost use Rattle.world.specs.NodeLists.{condition_in};
+ghost use Rattle.world.specs.Parts.{CanReach, CanStand, IsAsked, MayRead, MayWrite, MidMoves, MidPart, MidRestarts, as_mid, goes_down, is_sure_now, is_up, is_wiped, mid_with, new_part};
 
+use super::condition::Condition;
 use super::log_node::LogNode;
 use super::pending::Pending;
 use super::telling::{needs_own, offer_cause};
 use aeg_base::limits::{MAX_DEPTH, MAX_FAULTS};
 use aeg_base::{Bytes, End, Memory, NodeId, Seq, Tier};
+use aeg_disk::Disk;
 use booking::read_request;
 use frames::{Fault, Idle, Msg, Outbox, Refused, Turn};
 use log_values::{AnyValue, Entry, MidValue};
@@ -64,47 +69,84 @@ impl MidNode {
         }
     }
 
+    pub fn condition(&self) -> Condition
+        ensures { result ≡ condition_in self.now.part.mode }
+    {
+        self.node.condition()
+    }
+
     pub fn is_up(&self) -> bool
         ensures { result ≡ is_up self.now.part }
     {
         self.node.is_up()
     }
 
-    /// Comes up from a blank disk.
-    pub fn restart(&mut self)
-        requires { self.old.part ≡ new_part }
-        ensures part { (part : MidPart) × ((self.new.part ≡ record { mode = Up part; written = 1 }) × (as_mid self.old.depth part ≡ recovered self.old.faults booking_service self.old.depth [])) }
-        ensures same { (self.new.faults ≡ self.old.faults) × ((self.new.depth ≡ self.old.depth) × (self.new.me ≡ self.old.me)) }
+    /// Goes down: all but its disk is lost.
+    pub fn crash(&mut self)
+        requires { is_up self.old.part ≡ true }
+        ensures { self.new ≡ mid_with goes_down self.old }
     {
-        self.node.restart();
+        self.node.crash();
+    }
+
+    /// Is gone for good.
+    pub fn wipe(&mut self)
+        ensures { self.new ≡ mid_with is_wiped self.old }
+    {
+        self.node.wipe();
+    }
+
+    /// Is told that its disk has just the records that its stop left.
+    pub fn be_sure(&mut self)
+        ensures { self.new ≡ mid_with is_sure_now self.old }
+    {
+        self.node.be_sure();
+    }
+
+    /// Comes up from what its disk has, and answers which of the lists that it may stand for that is.
+    pub fn restart<D: Disk>(&mut self, disk: &mut D) -> Result<u8, Fault>
+        requires down { self.old.part.mode ≡ Down }
+        requires disk { MayRead tiers.Mid (D.state disk.old) }
+        ensures { MidRestarts self.old self.new (D.state disk.old) (D.state disk.new) result }
+    {
         self.pending = Pending::new();
+        self.node.restart(disk)
     }
 
     /// Takes a packet.
-    pub fn deliver(&mut self, from: End, msg: &Msg, out: &mut Outbox) -> Result<Turn, Fault>
+    pub fn deliver<D: Disk>(
+        &mut self,
+        from: End,
+        msg: &Msg,
+        disk: &mut D,
+        out: &mut Outbox,
+    ) -> Result<Turn, Fault>
         requires up { is_up self.old.part ≡ true }
+        requires disk { MayWrite self.old.part (D.state disk.old) }
         requires reach { CanReach self.old.faults from tiers.Mid msg.now }
-        ensures { MidMoves self.old self.new out.old out.new (λ σ. on_frame self.old.faults booking_service self.old.me σ from msg.now) result }
+        ensures { MidMoves self.old self.new (D.state disk.old) (D.state disk.new) out.old out.new (λ σ. on_frame self.old.faults booking_service self.old.me σ from msg.now) result }
     {
         match msg {
-            Msg::Log(message) => self.on_log(from, message, out),
+            Msg::Log(message) => self.on_log(from, message, disk, out),
             Msg::Request { seq, body } => self.on_request(from, *seq, body),
             _ => Ok(Turn::Dropped(Refused::Row(7))),
         }
     }
 
     /// Begins to lead.
-    pub fn lead(&mut self, out: &mut Outbox) -> Result<Turn, Fault>
-        requires { is_up self.old.part ≡ true }
-        ensures { MidMoves self.old self.new out.old out.new (λ σ. leads self.old.faults booking_service self.old.me σ) result }
+    pub fn lead<D: Disk>(&mut self, disk: &mut D, out: &mut Outbox) -> Result<Turn, Fault>
+        requires up { is_up self.old.part ≡ true }
+        requires disk { MayWrite self.old.part (D.state disk.old) }
+        ensures { MidMoves self.old self.new (D.state disk.old) (D.state disk.new) out.old out.new (λ σ. leads self.old.faults booking_service self.old.me σ) result }
     {
-        self.node.lead(out)
+        self.node.lead(disk, out)
     }
 
     /// Offers the value that was reported, or its own.
-    pub fn offer(&mut self, out: &mut Outbox) -> Result<Turn, Fault>
-        requires { is_up self.old.part ≡ true }
-        ensures { MidMoves self.old self.new out.old out.new (λ σ. offers self.old.faults booking_service self.old.me σ) result }
+    pub fn offer<D: Disk>(&mut self, disk: &mut D, out: &mut Outbox) -> Result<Turn, Fault>
+        requires up { is_up self.old.part ≡ true }
+        requires disk { MayWrite self.old.part (D.state disk.old) }
+        ensures { MidMoves self.old self.new (D.state disk.old) (D.state disk.new) out.old out.new (λ σ. offers self.old.faults booking_service self.old.me σ) result }
     {
         let wants = self.node.wants();
         if let Some(cause) = offer_cause(wants) {
@@ -114,37 +156,39 @@ impl MidNode {
         if own.is_none() && needs_own(wants) {
             return Ok(Turn::Idle(self.own_cause()));
         }
-        self.node.offer(own.as_ref(), out)
+        self.node.offer(own.as_ref(), disk, out)
     }
 
     /// Tells again what may be lost: while nothing is run, its Asks alone.
     pub fn retry(&self, out: &mut Outbox) -> Result<Turn, Fault>
         requires { is_up self.now.part ≡ true }
-        ensures { MidMoves self.now self.now out.old out.new (λ σ. retry self.now.faults self.now.me σ) result }
+        ensures { (disk : DiskState) → MidMoves self.now self.now disk disk out.old out.new (λ σ. retry self.now.faults self.now.me σ) result }
     {
         self.node.ask(out)?;
         Ok(Turn::Did)
     }
 
-    fn on_log(
+    fn on_log<D: Disk>(
         &mut self,
         from: End,
         message: &PaxMsg<AnyValue>,
+        disk: &mut D,
         out: &mut Outbox,
     ) -> Result<Turn, Fault>
         requires up { is_up self.old.part ≡ true }
+        requires disk { MayWrite self.old.part (D.state disk.old) }
         requires reach { CanReach self.old.faults from tiers.Mid (msgs.Log message.now) }
-        ensures { MidMoves self.old self.new out.old out.new (λ σ. on_frame self.old.faults booking_service self.old.me σ from (msgs.Log message.now)) result }
+        ensures { MidMoves self.old self.new (D.state disk.old) (D.state disk.new) out.old out.new (λ σ. on_frame self.old.faults booking_service self.old.me σ from (msgs.Log message.now)) result }
     {
         let Some(index) = self.node.peer(from) else {
             return Ok(Turn::Dropped(Refused::Row(7)));
         };
-        self.node.on_msg(index, message, out)
+        self.node.on_msg(index, message, disk, out)
     }
 
     fn on_request(&mut self, from: End, seq: u32, body: &Bytes) -> Result<Turn, Fault>
         requires { IsAsked from seq body.now }
-        ensures { (out : List (End × List ℕ)) → MidMoves self.old self.new out out (λ σ. on_frame self.old.faults booking_service self.old.me σ from (msgs.Request seq body.now)) result }
+        ensures { (disk : DiskState) (out : List (End × List ℕ)) → MidMoves self.old self.new disk disk out out (λ σ. on_frame self.old.faults booking_service self.old.me σ from (msgs.Request seq body.now)) result }
     {
         let End::Client(client) = from else {
             return Ok(Turn::Dropped(Refused::Row(7)));
@@ -167,6 +211,8 @@ impl MidNode {
         requires { is_up self.now.part ≡ true }
         ensures value { (part : MidPart) → self.now.part.mode ≡ Up part → IfOk result (λ own. own ≡ own_value self.now.faults booking_service (as_mid self.now.depth part)) }
         ensures range { (part : MidPart) → self.now.part.mode ≡ Up part → IfOk result (λ own. IsOwnIn (CanStand tiers.Mid) (open_at part.log) own) }
+        // It can stand there, whether or not there was memory for it.
+        ensures stands { OwnStands self.now }
     {
         if self.node.first_open() > 0 {
             return Ok(None);

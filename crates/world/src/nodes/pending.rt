@@ -68,6 +68,7 @@ impl Pending {
     pub fn batch(&self, alloc: Global) -> Result<Vec<Entry>, Memory>
         ensures batch { (depth : ℕ) → IfOk result (λ batch. batch.items ≡ batch_of booking_service (tables0 depth) self.now) }
         ensures fit { IfOk result (λ batch. FitsMid (Batch batch.items)) }
+        ensures fits { (depth : ℕ) → FitsMid (Batch (batch_of booking_service (tables0 depth) self.now)) }
     {
         let mut batch = Vec::new(alloc);
         for client in 0..CLIENTS {

@@ -1,17 +1,17 @@
 // What a turn of a log writes down, sends and answers.
-ghost use Rattle.std.specs.Prelude.{◌≡◌, ◌+◌, ◌≤◌, ◌∷◌, ◌++◌, [], map, OnOk, IfOk};
+ghost use Rattle.std.specs.Prelude.{◌≡◌, ◌+◌, ◌<◌, ◌≤◌, ◌++◌, length, map, take, OnOk, IfOk};
+ghost use Rattle.std.specs.Bool.{OnTrue};
 ghost use Rattle.std.specs.List.{AllByRecursion};
 ghost use Rattle.log_values.specs.Records.{FitsFact};
 ghost use Rattle.frames.specs.LogMessages.{FitsLog};
-ghost use Rattle.tier_model.specs.Moves.{as_fact, log_packet, log_packets, log_cause, log_answer, offer_cause};
-ghost use Rattle.world.specs.Parts.{length_with, sealed};
-ghost use Rattle.world.specs.LogNodes.{needs_own};
+ghost use Rattle.tier_model.specs.Moves.{as_fact, log_packets, log_cause, log_answer, offer_cause};
+ghost use Rattle.world.specs.Parts.{sealed};
+ghost use Rattle.world.specs.LogNodes.{HasSent, IsFrameAt, needs_own};
 
-use aeg_base::limits::JOURNAL_BYTES;
-use aeg_base::{Bytes, End, Memory, NodeId, Seq};
-use frames::{Idle, Msg, Outbox, Turn, encode};
+use aeg_base::{Bytes, End, Memory, NodeId, Seq, Value};
+use frames::{Idle, Outbox, Turn, encode_log};
 use log_values::format::LAST_INDEX;
-use log_values::{AnyValue, Fact, Record};
+use log_values::{AnyValue, Fact};
 use paxos_log::{Fact as LogFact, LogIdle, Offering, PaxMsg};
 use std::alloc::Global;
 
@@ -30,46 +30,52 @@ fn as_fact(fact: LogFact<AnyValue>) -> Fact
 pub fn facts_of(alloc: Global, facts: Seq<LogFact<AnyValue>>) -> Result<Vec<Fact>, Memory>
     ensures { IfOk result (λ list. list.items ≡ map as_fact facts) }
 {
-    let mut list = Vec::new(alloc);
-    for fact in facts.into_vec() {
+    let facts = facts.into_vec();
+    let mut list = Vec::with_capacity(alloc, facts.len())?;
+    for fact in facts {
         list.push(as_fact(fact))?;
     }
     Ok(list)
 }
 
-/// How long a journal of this length is once these facts are written to it.
-pub fn length_after(alloc: Global, written: u64, facts: Vec<Fact>) -> Result<u64, Memory>
-    requires within { written ≤ JOURNAL_BYTES }
-    requires fit { AllByRecursion FitsFact facts.items }
-    ensures { IfOk result (λ len. len ≡ length_with written facts.items) }
+/// Whether the second message is the first one again, as when all are told the same.
+fn is_again(first: &PaxMsg<AnyValue>, second: &PaxMsg<AnyValue>) -> bool
+    ensures { OnTrue result (first.now ≡ second.now) }
 {
-    if facts.is_empty() {
-        return Ok(written);
+    match first {
+        PaxMsg::Prepare(b, p) => match second {
+            PaxMsg::Prepare(ballot, pos) => b == ballot && p == pos,
+            _ => false,
+        },
+        PaxMsg::Accepted(b, p, v) => match second {
+            PaxMsg::Accepted(ballot, pos, value) => b == ballot && p == pos && v.same(value),
+            _ => false,
+        },
+        _ => false,
     }
-    let record = Record::of(facts);
-    let mut bytes = Bytes::new(alloc);
-    record.encode(&mut bytes)?;
-    Ok(written + 5 + bytes.items().len() as u64)
 }
 
-/// Adds a message of the node's log as a packet.
-fn send(
+/// The frame of a message of the node's log. A message that is the one before again isn't written anew.
+fn frame_at(
     alloc: Global,
     from: NodeId,
-    to: u8,
-    message: PaxMsg<AnyValue>,
-    out: &mut Outbox,
-) -> Result<(), Memory>
+    sends: &[(u8, PaxMsg<AnyValue>)],
+    i: usize,
+    sent: &[(End, Bytes)],
+) -> Result<Bytes, Memory>
     requires node { from.index ≤ LAST_INDEX }
-    requires fit { FitsLog from.tier message }
-    ensures { OnOk result (out.new ≡ out.old ++ sealed (log_packet from.tier from.index (to, message)) ∷ []) }
+    requires fit { AllByRecursion (λ send. FitsLog from.tier send.1) sends.now }
+    requires within { i < length sends.now }
+    requires before { HasSent from.tier from.index (take i sends.now) sent.now }
+    ensures { IfOk result (λ bytes. IsFrameAt from.tier from.index sends.now i bytes) }
 {
-    let bytes = encode(alloc, End::Node(from), &Msg::Log(message))?;
-    let receiver = NodeId {
-        tier: from.tier,
-        index: to,
-    };
-    out.push(End::Node(receiver), bytes)
+    let message = &sends[i].1;
+    if i > 0 && is_again(&sends[i - 1].1, message) {
+        if let Some((_, bytes)) = sent.last() {
+            return bytes.copy();
+        }
+    }
+    encode_log(alloc, from, message)
 }
 
 /// Adds the messages of the node's log as packets, in order.
@@ -83,8 +89,15 @@ pub fn send_all(
     requires fit { AllByRecursion (λ send. FitsLog from.tier send.1) sends }
     ensures { OnOk result (out.new ≡ out.old ++ map sealed (log_packets from.tier from.index sends)) }
 {
-    for (to, message) in sends.into_vec() {
-        send(alloc, from, to, message, out)?;
+    let list = sends.items();
+    for i in 0..list.len() {
+        let bytes = frame_at(alloc, from, list, i, out.items())?;
+        let to = list[i].0;
+        let receiver = NodeId {
+            tier: from.tier,
+            index: to,
+        };
+        out.push(End::Node(receiver), bytes)?;
     }
     Ok(())
 }

@@ -1,49 +1,83 @@
 // Commands at nodes.
-ghost use Rattle.std.specs.Prelude.{◌≡◌, ◌+◌, ◌*◌, ◌<◌, ◌≤◌, length};
+ghost use Rattle.std.specs.Prelude.{◌≡◌, ◌+◌, ◌*◌, ◌<◌, ◌≤◌, length, map};
 ghost use Rattle.aeg_base.specs.declared.names.End.TheVariants as ends;
-ghost use Rattle.run_model.specs.declared.trace.Fared.TheVariants.{Fine};
+ghost use Rattle.run_model.specs.declared.trace.Fared.{Fared};
 ghost use Rattle.run_model.specs.declared.trace.TraceEvent.TheVariants as events;
-ghost use Rattle.world.specs.Standing.{AreShown, Plays};
+ghost use Rattle.world.specs.Arming.{CanStop, asked_of};
+ghost use Rattle.world.specs.Standing.{AreShown, AreShownOn, Plays, PlaysBy};
 
-use super::Parts;
-use crate::text::{add_command, add_idle_down};
+use super::arming::{StopAt, asked, fared, place_of};
+use super::{Parts, calls};
+use crate::text::add_command;
 use aeg_base::limits::PACKETS_BEFORE;
 use aeg_base::{Bytes, Memory, NodeId};
+use aeg_disk::Device;
 use frames::Outbox;
+use run_model::Fared;
 
 impl Parts {
-    /// `lead NODE`
-    pub fn lead(&mut self, node: NodeId, lines: &mut Bytes) -> Result<(), Memory>
-        requires shown { AreShown self.old }
+    /// `lead NODE`, during which the node's disk stops where that is asked.
+    pub fn lead<D: Device>(
+        &mut self,
+        node: NodeId,
+        stop: Option<StopAt>,
+        disks: &mut [D],
+        lines: &mut Bytes,
+    ) -> Result<Fared, Memory>
+        requires shown { AreShownOn self.old (map D.state disks.old) }
         requires there { node.index < 2 * self.old.u + 1 }
+        requires stop { CanStop stop }
         requires few { length self.old.soup ≤ PACKETS_BEFORE }
-        ensures { Plays self.old self.new lines.old lines.new (events.Lead node Fine) result }
+        ensures { PlaysBy self.old self.new (map D.state disks.old) (map D.state disks.new) lines.old lines.new (λ (f : Fared). events.Lead node f) (asked_of stop) result }
     {
-        let mut out = Outbox::new(self.alloc);
         if !self.nodes.is_up(node) {
-            add_idle_down(lines, node)?;
-            return self.send(out);
+            self.pass_over(node, lines)?;
+            return Ok(asked(stop));
         }
-        let answer = self.nodes.lead(node, &mut out);
-        add_command(lines, node, answer)?;
-        self.send(out)
+        let mut out = Outbox::new(self.alloc);
+        let (answer, met) = calls::lead(
+            &mut self.nodes,
+            node,
+            stop,
+            &mut disks[place_of(node)],
+            &mut out,
+        );
+        let fared = fared(stop, met, &answer);
+        add_command(lines, node, met, answer)?;
+        self.send(out)?;
+        Ok(fared)
     }
 
-    /// `offer NODE`
-    pub fn offer(&mut self, node: NodeId, lines: &mut Bytes) -> Result<(), Memory>
-        requires shown { AreShown self.old }
+    /// `offer NODE`, during which the node's disk stops where that is asked.
+    pub fn offer<D: Device>(
+        &mut self,
+        node: NodeId,
+        stop: Option<StopAt>,
+        disks: &mut [D],
+        lines: &mut Bytes,
+    ) -> Result<Fared, Memory>
+        requires shown { AreShownOn self.old (map D.state disks.old) }
         requires there { node.index < 2 * self.old.u + 1 }
+        requires stop { CanStop stop }
         requires few { length self.old.soup ≤ PACKETS_BEFORE }
-        ensures { Plays self.old self.new lines.old lines.new (events.Offer node Fine) result }
+        ensures { PlaysBy self.old self.new (map D.state disks.old) (map D.state disks.new) lines.old lines.new (λ (f : Fared). events.Offer node f) (asked_of stop) result }
     {
-        let mut out = Outbox::new(self.alloc);
         if !self.nodes.is_up(node) {
-            add_idle_down(lines, node)?;
-            return self.send(out);
+            self.pass_over(node, lines)?;
+            return Ok(asked(stop));
         }
-        let answer = self.nodes.offer(node, &mut out);
-        add_command(lines, node, answer)?;
-        self.send(out)
+        let mut out = Outbox::new(self.alloc);
+        let (answer, met) = calls::offer(
+            &mut self.nodes,
+            node,
+            stop,
+            &mut disks[place_of(node)],
+            &mut out,
+        );
+        let fared = fared(stop, met, &answer);
+        add_command(lines, node, met, answer)?;
+        self.send(out)?;
+        Ok(fared)
     }
 
     /// `retry NODE`
@@ -53,13 +87,12 @@ impl Parts {
         requires few { length self.old.soup ≤ PACKETS_BEFORE }
         ensures { Plays self.old self.new lines.old lines.new (events.Retry (ends.Node node)) result }
     {
-        let mut out = Outbox::new(self.alloc);
         if !self.nodes.is_up(node) {
-            add_idle_down(lines, node)?;
-            return self.send(out);
+            return self.pass_over(node, lines);
         }
+        let mut out = Outbox::new(self.alloc);
         let answer = self.nodes.retry(node, &mut out);
-        add_command(lines, node, answer)?;
+        add_command(lines, node, false, answer)?;
         self.send(out)
     }
 }

@@ -1,15 +1,20 @@
 // Packets that reach their ends.
-ghost use Rattle.std.specs.Prelude.{◌≡◌, ◌≤◌, length, slice_get, IfOk};
+ghost use Rattle.std.specs.Prelude.{◌≡◌, ◌≤◌, length, map, slice_get, IfOk};
+ghost use Rattle.run_model.specs.declared.trace.Fared.{Fared};
 ghost use Rattle.run_model.specs.declared.trace.Fared.TheVariants.{Fine};
 ghost use Rattle.run_model.specs.declared.trace.TraceEvent.TheVariants as events;
 ghost use Rattle.world.specs.Packets.{receiver_in, message_in, is_cut_in};
-ghost use Rattle.world.specs.Standing.{AreShown, Plays};
+ghost use Rattle.world.specs.Arming.{CanStop, asked_of};
+ghost use Rattle.world.specs.Standing.{AreShownOn, PlaysBy};
 
-use super::Parts;
+use super::arming::{StopAt, asked, fared, place_of};
+use super::{Parts, calls};
 use crate::text::{add_drop, add_frame, add_lost, add_none};
 use aeg_base::limits::PACKETS_BEFORE;
 use aeg_base::{Bytes, End, Memory, NodeId};
+use aeg_disk::Device;
 use frames::{FrameErr, Header, Msg, Outbox, Refused, decode};
+use run_model::Fared;
 
 impl Parts {
     /// The node to which the packet goes. While nothing is run, none goes to a client.
@@ -48,45 +53,72 @@ impl Parts {
     }
 
     /// `short PACKET BYTES`
-    pub fn short(&mut self, packet: u32, bytes: u32, lines: &mut Bytes) -> Result<(), Memory>
-        requires shown { AreShown self.old }
+    pub fn short<D: Device>(
+        &mut self,
+        packet: u32,
+        bytes: u32,
+        disks: &mut [D],
+        lines: &mut Bytes,
+    ) -> Result<Fared, Memory>
+        requires shown { AreShownOn self.old (map D.state disks.old) }
         requires few { length self.old.soup ≤ PACKETS_BEFORE }
-        ensures { Plays self.old self.new lines.old lines.new (events.Short packet bytes Fine) result }
+        ensures { PlaysBy self.old self.new (map D.state disks.old) (map D.state disks.new) lines.old lines.new (λ (f : Fared). events.Short packet bytes f) Fine result }
     {
         if !self.is_cut(packet, bytes) {
-            return self.deliver(packet, lines);
+            return self.deliver(packet, None, disks, lines);
         }
         let Some(node) = self.receiver(packet) else {
             unreachable!()
         };
         if !self.nodes.is_up(node) {
             add_lost(lines, packet)?;
-            return self.send(Outbox::new(self.alloc));
+            self.send(Outbox::new(self.alloc))?;
+            return Ok(Fared::Fine);
         }
         add_drop(lines, End::Node(node), Refused::Short)?;
-        self.send(Outbox::new(self.alloc))
+        self.send(Outbox::new(self.alloc))?;
+        Ok(Fared::Fine)
     }
 
-    /// `deliver PACKET`
-    pub fn deliver(&mut self, packet: u32, lines: &mut Bytes) -> Result<(), Memory>
-        requires shown { AreShown self.old }
+    /// `deliver PACKET`, during which the receiver's disk stops where that is asked.
+    pub fn deliver<D: Device>(
+        &mut self,
+        packet: u32,
+        stop: Option<StopAt>,
+        disks: &mut [D],
+        lines: &mut Bytes,
+    ) -> Result<Fared, Memory>
+        requires shown { AreShownOn self.old (map D.state disks.old) }
+        requires stop { CanStop stop }
         requires few { length self.old.soup ≤ PACKETS_BEFORE }
-        ensures { Plays self.old self.new lines.old lines.new (events.Deliver packet Fine) result }
+        ensures { PlaysBy self.old self.new (map D.state disks.old) (map D.state disks.new) lines.old lines.new (λ (f : Fared). events.Deliver packet f) (asked_of stop) result }
     {
-        let mut out = Outbox::new(self.alloc);
         let Some(node) = self.receiver(packet) else {
             add_none(lines, packet)?;
-            return self.send(out);
+            self.send(Outbox::new(self.alloc))?;
+            return Ok(asked(stop));
         };
         if !self.nodes.is_up(node) {
             add_lost(lines, packet)?;
-            return self.send(out);
+            self.send(Outbox::new(self.alloc))?;
+            return Ok(asked(stop));
         }
         let Some((header, msg)) = self.message(packet)? else {
             unreachable!()
         };
-        let answer = self.nodes.deliver(node, header.from, &msg, &mut out);
-        add_frame(lines, node, answer)?;
-        self.send(out)
+        let mut out = Outbox::new(self.alloc);
+        let (answer, met) = calls::deliver(
+            &mut self.nodes,
+            node,
+            header.from,
+            &msg,
+            stop,
+            &mut disks[place_of(node)],
+            &mut out,
+        );
+        let fared = fared(stop, met, &answer);
+        add_frame(lines, node, met, answer)?;
+        self.send(out)?;
+        Ok(fared)
     }
 }

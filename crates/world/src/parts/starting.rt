@@ -1,20 +1,16 @@
-// A run before its first event, and restarts.
-ghost use Rattle.std.specs.Prelude.{◌≡◌, ◌≤◌, OnOk, IfOk};
+// A run before its first event.
+ghost use Rattle.std.specs.Prelude.{◌≡◌, ◌≤◌, IfOk};
 ghost use Rattle.log_model.specs.Log.{nobody};
 ghost use Rattle.net_script.specs.Clients.{fresh};
 ghost use Rattle.round_model.specs.Lists.{each};
 ghost use Rattle.run_model.specs.World.{start};
-ghost use Rattle.run_model.specs.declared.trace.Found.TheVariants.{Reads};
-ghost use Rattle.run_model.specs.declared.trace.TraceEvent.TheVariants as events;
-ghost use Rattle.world.specs.NodeLists.{IsNewAt, Restarts};
-ghost use Rattle.world.specs.Standing.{AreShown, Shows, PlaysQuietly};
+ghost use Rattle.world.specs.Standing.{Shows};
 
 use super::Parts;
 use crate::nodes::Nodes;
 use crate::watch::Watch;
+use aeg_base::Memory;
 use aeg_base::limits::MAX_FAULTS;
-use aeg_base::{Memory, NodeId};
-use frames::Outbox;
 use net_script::{ClientEnd, Soup};
 use std::alloc::Global;
 
@@ -45,16 +41,5 @@ impl Parts {
             soup: Soup::new(alloc),
             watch: Watch::new(alloc, u),
         })
-    }
-
-    /// The node restarts on its blank disk, and prints nothing.
-    pub fn restart(&mut self, node: NodeId) -> Result<(), Memory>
-        requires shown { AreShown self.old }
-        requires blank { IsNewAt self.old.nodes node }
-        ensures event { PlaysQuietly self.old self.new (events.Restart node (Reads 0)) result }
-        ensures nodes { OnOk result (Restarts self.old.nodes self.new.nodes node) }
-    {
-        self.nodes.restart(node);
-        self.send(Outbox::new(self.alloc))
     }
 }

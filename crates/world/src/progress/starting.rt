@@ -1,47 +1,42 @@
 // The restarts before the first line of a script.
-ghost use Rattle.std.specs.Prelude.{◌≡◌, ◌∷◌, [], ◌+◌, ◌*◌, ◌<◌, OnOk};
+ghost use Rattle.std.specs.Prelude.{◌≡◌, ◌∷◌, [], ◌≤◌, length, map, OnOk};
 ghost use Rattle.run_model.specs.Resolving.{nodes_of};
-ghost use Rattle.world.specs.Run.{world_of, new_run, started};
-ghost use Rattle.world.specs.Going.{run_of, IsInStep, IsBlankAt, AreBlank, Restarted};
+ghost use Rattle.world.specs.Run.{new_run, Starts};
+ghost use Rattle.world.specs.Going.{run_of, IsInStep, StandsOn, Restarted};
 
 use super::Progress;
-use aeg_base::{Memory, NodeId, Tier};
-use run_model::{Found, TraceEvent};
+use aeg_base::limits::PACKETS_BEFORE;
+use aeg_base::{Bytes, Memory, NodeId, Tier};
+use aeg_disk::Device;
 
 impl Progress {
-    fn restart(&mut self, node: NodeId) -> Result<(), Memory>
-        requires step { IsInStep self.old }
-        requires there { node.index < 2 * self.old.parts.u + 1 }
-        requires blank { IsBlankAt (world_of (run_of self.old)) node.tier node.index }
-        ensures { OnOk result (Restarted self.old self.new (node ∷ [])) }
-    {
-        let cursor = self.cursor;
-        self.parts.restart(node)?;
-        let found = Found::Reads { list: 0 };
-        self.note(TraceEvent::Restart { node, found }, cursor)
-    }
-
-    fn restart_tier(&mut self, tier: Tier) -> Result<(), Memory>
-        requires step { IsInStep self.old }
-        requires blank { AreBlank (world_of (run_of self.old)) tier }
-        ensures { OnOk result (Restarted self.old self.new (nodes_of self.old.parts.u tier)) }
+    fn restart_tier<D: Device>(
+        &mut self,
+        tier: Tier,
+        disks: &mut [D],
+        lines: &mut Bytes,
+    ) -> Result<(), Memory>
+        requires step { StandsOn self.old (map D.state disks.old) }
+        requires none { self.old.parts.soup ≡ [] }
+        ensures restarted { OnOk result (Restarted self.old self.new (map D.state disks.old) (map D.state disks.new) lines.old lines.new (nodes_of self.old.parts.u tier)) }
+        ensures none { OnOk result (self.new.parts.soup ≡ []) }
     {
         for index in 0..2 * self.parts.faults() + 1 {
-            self.restart(NodeId { tier, index })?;
+            self.restart(NodeId { tier, index }, disks, lines)?;
         }
         Ok(())
     }
 
-    /// Each node restarts on its blank disk.
-    pub fn start(&mut self) -> Result<(), Memory>
-        requires step { IsInStep self.old }
+    /// Each node restarts on its disk.
+    pub fn start<D: Device>(&mut self, disks: &mut [D], lines: &mut Bytes) -> Result<(), Memory>
+        requires step { StandsOn self.old (map D.state disks.old) }
         requires new { run_of self.old ≡ new_run self.old.parts.u self.old.depth }
         ensures step { OnOk result (IsInStep self.new) }
-        ensures run { OnOk result (run_of self.new ≡ started self.old.parts.u self.old.depth) }
+        ensures starts { OnOk result (Starts (run_of self.old) (run_of self.new) (map D.state disks.old) (map D.state disks.new) lines.old lines.new) }
     {
-        self.restart_tier(Tier::Mid)?;
-        self.restart_tier(Tier::Inv)?;
-        self.restart_tier(Tier::Pay)?;
+        self.restart_tier(Tier::Mid, disks, lines)?;
+        self.restart_tier(Tier::Inv, disks, lines)?;
+        self.restart_tier(Tier::Pay, disks, lines)?;
         Ok(())
     }
 }

@@ -1,11 +1,12 @@
 // The lines of events.
 ghost use Rattle.std.specs.Prelude.{◌≡◌, ◌++◌, codes, OnOk};
 ghost use Rattle.std.specs.Fmt.{decimal};
-ghost use Rattle.run_model.specs.Text.{then_word, line_end, node_name, end_name, cause_text, refusal_text, idle_line, down_line, none_line, lost_line, drop_line};
+ghost use Rattle.run_model.specs.Text.{then_word, line_end, node_name, end_name, cause_text, refusal_text, idle_line, down_line, gone_line, none_line, lost_line, drop_line};
 
 use crate::text::names::{add_end, add_node, add_number, add_tier};
 use aeg_base::{Bytes, End, Memory, NodeId};
 use frames::{Idle, Refused};
+use itoa::Buffer;
 
 fn add_cause(out: &mut Bytes, cause: Idle) -> Result<(), Memory>
     ensures { OnOk result (out.new ≡ out.old ++ cause_text cause) }
@@ -69,6 +70,26 @@ pub fn add_idle_down(out: &mut Bytes, node: NodeId) -> Result<(), Memory>
     Ok(())
 }
 
+/// `idle NODE up`
+pub fn add_idle_up(out: &mut Bytes, node: NodeId) -> Result<(), Memory>
+    ensures { OnOk result (out.new ≡ out.old ++ idle_line (node_name node) (codes "up")) }
+{
+    out.extend(b"idle ")?;
+    add_node(out, node)?;
+    out.extend(b" up\n")?;
+    Ok(())
+}
+
+/// `gone NODE`
+pub fn add_gone(out: &mut Bytes, node: NodeId) -> Result<(), Memory>
+    ensures { OnOk result (out.new ≡ out.old ++ gone_line (node_name node)) }
+{
+    out.extend(b"gone ")?;
+    add_node(out, node)?;
+    out.extend(b"\n")?;
+    Ok(())
+}
+
 /// `down NODE full`
 pub fn add_full(out: &mut Bytes, node: NodeId) -> Result<(), Memory>
     ensures { OnOk result (out.new ≡ out.old ++ down_line (node_name node) (codes "full")) }
@@ -76,6 +97,39 @@ pub fn add_full(out: &mut Bytes, node: NodeId) -> Result<(), Memory>
     out.extend(b"down ")?;
     add_node(out, node)?;
     out.extend(b" full\n")?;
+    Ok(())
+}
+
+/// `down NODE cut`
+pub fn add_cut(out: &mut Bytes, node: NodeId) -> Result<(), Memory>
+    ensures { OnOk result (out.new ≡ out.old ++ down_line (node_name node) (codes "cut")) }
+{
+    out.extend(b"down ")?;
+    add_node(out, node)?;
+    out.extend(b" cut\n")?;
+    Ok(())
+}
+
+/// `down NODE disk`
+pub fn add_disk(out: &mut Bytes, node: NodeId) -> Result<(), Memory>
+    ensures { OnOk result (out.new ≡ out.old ++ down_line (node_name node) (codes "disk")) }
+{
+    out.extend(b"down ")?;
+    add_node(out, node)?;
+    out.extend(b" disk\n")?;
+    Ok(())
+}
+
+/// `down NODE record PLACE`
+pub fn add_record(out: &mut Bytes, node: NodeId, place: u64) -> Result<(), Memory>
+    ensures { OnOk result (out.new ≡ out.old ++ down_line (node_name node) (then_word (codes "record") (decimal place))) }
+{
+    let mut digits = Buffer::new();
+    out.extend(b"down ")?;
+    add_node(out, node)?;
+    out.extend(b" record ")?;
+    out.extend(digits.format(place).as_bytes())?;
+    out.extend(b"\n")?;
     Ok(())
 }
 

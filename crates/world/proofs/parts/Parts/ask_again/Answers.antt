@@ -13,7 +13,7 @@ use Rattle.run_model.specs.BookingRuns.{config}
 use Rattle.world.specs.Parts.{sealed}
 use Rattle.world.specs.Watching.{hears_packets, all_grown}
 use Rattle.world.specs.declared.parts.Parts.{Parts}
-use Rattle.world.proofs.Asking.{CanAsk, pending_none, pending_some, ask_fits, again_leads, client_is, asked_once, asked, nothing_leads}
+use Rattle.world.proofs.Asking.{CanAsk, pending_none, pending_some, ask_fits, again_leads, client_is, asked_once, asked, again_disks, nothing_leads}
 use Rattle.world.proofs.Room.{requests_fit}
 use Rattle.world.proofs.parts.Parts.ask_again.Goals as goal
 
@@ -21,14 +21,14 @@ pub returns-in_default : goal.returns-in_default
 returns-in_default c =
     let at : c.index.result.now ≡ get_or c.args.self.now.clients.items c.args.client c.index.result.now = subst (λ z. c.index.result.now ≡ get_or c.args.self.now.clients.items z c.index.result.now) c.from.ensures (search rules) in
     let nothing : c.index.result.now.end.opened ≡ None = pending_none c.index.result.now (sym c.in_default.ensures) in
-    on_ok_weaker c.send.result (λ sent u depth w s.
+    on_ok_weaker c.send.result (λ sent disks u depth w s d.
     let e = sent.0 in
     let i = client_is w c.args.self.now.clients.items c.args.client c.index.result.now s.clients c.requires.client.1 at in
     let none : (w.clients c.args.client).opened ≡ None = ap (λ (v : ClientState). v.end.opened) (sym i.is) ∙ nothing in
     asked u depth w w c.args.self.now c.send.new.self [] (events.Retry (ends.Client c.args.client)) (idle_line (client_name c.args.client) (cause_text why.Nothing)) c.args.lines.now c.add_idle.new.out s sent.1
     (ap (reopens (config u depth) w c.args.client) none) (cond-false (is_some (w.clients c.args.client).opened) _ _ (ap is_some none)) (nothing_leads u depth w c.args.self.now.nodes s.nodes) (rw e s.clients)
     (e ∙ (λ j. record c.args.self.now { soup = c.args.self.now.soup ++ c.new-out.ensures j; watch = all_grown (hears_packets c.args.self.now.watch (c.new-out.ensures j)) }) ∙ (λ j. record c.args.self.now { clients = ap (λ (p : Parts). p.clients) (sym e) j; soup = c.args.self.now.soup ++ []; watch = all_grown (hears_packets c.args.self.now.watch []) }))
-    c.in_ok-add_idle.ensures) c.send.ensures
+    c.in_ok-add_idle.ensures disks d (λ f. absurd (cc)) tt) c.send.ensures
 
 pub add_requests-requires-clause-fit : goal.add_requests-requires-clause-fit
 add_requests-requires-clause-fit c =
@@ -50,7 +50,7 @@ pub returns : goal.returns
 returns c =
     let at : c.index.result.now ≡ get_or c.args.self.now.clients.items c.args.client c.index.result.now = subst (λ z. c.index.result.now ≡ get_or c.args.self.now.clients.items z c.index.result.now) c.from.ensures (search rules) in
     let h = pending_some c.index.result.now c.in-Some.seq c.in-Some.body.now (sym c.in-Some.ensures) in
-    on_ok_weaker c.send-2.result (λ sent u depth w s.
+    on_ok_weaker c.send-2.result (λ sent disks u depth w s d.
     let e = sent.0 in
     let i = client_is w c.args.self.now.clients.items c.args.client c.index.result.now s.clients c.requires.client.1 at in
     let some : (w.clients c.args.client).opened ≡ Some c.in-Some.body.now = ap (λ (v : ClientState). v.end.opened) (sym i.is) ∙ h.0 in
@@ -64,4 +64,4 @@ returns c =
     (ap (reopens (config u depth) w c.args.client) some) (cond-true (is_some (w.clients c.args.client).opened) _ _ (ap is_some some)) (again_leads u depth w c.args.self.now.nodes c.args.client c.in-Some.body.now s.nodes can) (rw e s.clients)
     (e ∙ (λ j. record c.args.self.now { soup = c.args.self.now.soup ++ out j; watch = all_grown (hears_packets c.args.self.now.watch (out j)) })
     ∙ (λ j. record c.args.self.now { clients = ap (λ (p : Parts). p.clients) (sym e) j; soup = c.args.self.now.soup ++ map sealed (requests u c.args.client (w.clients c.args.client).last c.in-Some.body.now); watch = all_grown (hears_packets c.args.self.now.watch (map sealed (requests u c.args.client (w.clients c.args.client).last c.in-Some.body.now))) }))
-    (sym (append-nil c.args.lines.now))) c.send-2.ensures
+    (sym (append-nil c.args.lines.now)) disks (again_disks u depth w c.args.client c.in-Some.body.now disks d) (λ f. absurd (cc)) tt) c.send-2.ensures

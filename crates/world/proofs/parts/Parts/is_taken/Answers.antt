@@ -1,7 +1,8 @@
 use Rattle.std.proofs.Common.{◌≡◌, ◌∙◌, ap, sym, Some}
 use Rattle.std.specs.Prelude.{slice_get}
 use Rattle.world.specs.Packets.{node_of, receiver_in}
-use Rattle.world.proofs.Deliveries.{addressed, has_node}
+use Rattle.world.proofs.Deliveries.{addressed}
+use Rattle.world.proofs.Present.{has_node}
 use Rattle.world.proofs.parts.Parts.is_taken.Goals as goal
 
 pub is_up-requires : goal.is_up-requires
@@ -9,4 +10,4 @@ is_up-requires c =
     let r = c.requires in
     let to : receiver_in (slice_get c.args.self.now.soup c.args.packet) ≡ Some c.in-Node.node = ap receiver_in (sym c.in-Some.ensures) ∙ ap node_of c.in-Node.is in
     let a = addressed r.0 r.1 r.2 c.args.self.now c.args.packet c.in-Node.node r.3 to in
-    has_node r.0 r.1 r.2 c.args.self.now.nodes c.in-Node.node c.in-Node.node.tier r.3.nodes a.there
+    has_node r.0 r.1 r.2 c.args.self.now.nodes c.in-Node.node.index c.in-Node.node.tier r.3.nodes a.there

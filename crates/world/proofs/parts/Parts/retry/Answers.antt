@@ -1,31 +1,38 @@
-use Rattle.std.proofs.Common.{rules, ◌≡◌, ◌+◌, ◌*◌, ◌<◌, true, false, [], ◌∙◌, ap, sym, subst}
-use Rattle.std.specs.Prelude.{codes}
+use Rattle.std.proofs.Common.{rules, ◌≡◌, ◌+◌, ◌*◌, ◌<◌, true, false, [], ◌∙◌, sym, subst}
 use Rattle.std.proofs.lemmas.Result.{on_ok_weaker}
 use Rattle.aeg_base.specs.declared.names.End.TheVariants as ends
 use Rattle.run_model.specs.declared.trace.TraceEvent.TheVariants as events
-use Rattle.run_model.specs.Text.{node_name, idle_line}
 use Rattle.tier_model.specs.MidRows as mids
 use Rattle.tier_model.specs.BackRows as backs
-use Rattle.world.specs.NodeLists.{up_at, NodesMove}
+use Rattle.world.specs.Calling.{absent_text}
+use Rattle.world.specs.NodeLists.{up_at, condition_at, MoveIn}
 use Rattle.world.specs.Telling.{told_command}
-use Rattle.world.proofs.AtCommands.{parts_after, played, retry_by, retry_rests}
+use Rattle.world.proofs.AtCommands.{retry_by, retry_rests}
+use Rattle.world.proofs.Calling.{disk_of, a_disk}
+use Rattle.world.proofs.Counted.{falls_none}
+use Rattle.world.proofs.Playing.{made, on_ok_three}
 use Rattle.world.proofs.Room.{nodes_fit}
 use Rattle.world.proofs.parts.Parts.retry.Goals as goal
 
 pub returns-then-not-is_up : goal.returns-then-not-is_up
 returns-then-not-is_up c =
     let down : up_at c.args.self.now.nodes c.args.node ≡ false = sym c.is_up.ensures ∙ search rules in
-    on_ok_weaker c.send.result (λ sent u depth w s. let e = sent.0 in played u depth w c.args.self.now c.send.new.self c.args.self.now.nodes [] (events.Retry (ends.Node c.args.node)) (idle_line (node_name c.args.node) (codes "down")) c.args.lines.now c.add_idle_down.new.out s sent.1
-    (retry_rests u depth w c.args.self.now.nodes c.args.node c.args.node.tier s.nodes (subst (λ z. c.args.node.index < 2 * z + 1) s.size c.requires.there) down) (e ∙ ap (parts_after c.args.self.now c.args.self.now.nodes) c.new-out.ensures) c.in_ok-add_idle_down.ensures) c.send.ensures
+    on_ok_three c.pass_over.result c.pass_over.ensures.told c.pass_over.ensures.same c.pass_over.ensures.within
+    (λ told e within disks u depth w s d. made u depth w c.args.self.now c.pass_over.new.self c.args.self.now.nodes [] disks disks (events.Retry (ends.Node c.args.node)) (absent_text c.args.node (condition_at c.args.self.now.nodes c.args.node.tier c.args.node.index)) c.args.lines.now c.pass_over.new.lines s within
+    (retry_rests u depth w c.args.self.now.nodes c.args.node disks c.args.node.tier s.nodes d (subst (λ z. c.args.node.index < 2 * z + 1) s.size c.requires.there) down) e told (λ f. absurd (cc)) (falls_none disks) tt)
 
-pub send-requires-2 : goal.send-requires-2
-send-requires-2 c =
+pub send-requires : goal.send-requires
+send-requires c =
     let up : up_at c.args.self.now.nodes c.args.node ≡ true = sym c.is_up.ensures ∙ search rules in
-    nodes_fit c.args.self.now.nodes c.retry-answer.new.self c.args.node c.args.self.now.soup c.new-out.result c.retry-answer.new.out (λ m σ. mids.retry m.faults m.me σ) (λ b σ. backs.retry b.faults b.tier b.me σ) c.retry-answer.result c.requires.few c.new-out.ensures up c.retry-answer.ensures c.in_ok-add_command.ensures.memory
+    nodes_fit c.args.self.now.nodes c.retry-answer.new.self c.args.node.tier c.args.node.index a_disk a_disk c.args.self.now.soup c.new-out.result c.retry-answer.new.out (λ m σ. mids.retry m.faults m.me σ) (λ b σ. backs.retry b.faults b.tier b.me σ) c.retry-answer.result c.requires.few c.new-out.ensures up (c.retry-answer.ensures a_disk) c.in_ok-add_command.ensures.memory
 
 pub returns : goal.returns
 returns c =
     let up : up_at c.args.self.now.nodes c.args.node ≡ true = sym c.is_up.ensures ∙ search rules in
-    let moves = subst (λ z. NodesMove c.args.self.now.nodes c.retry-answer.new.self c.args.node z c.retry-answer.new.out (λ m σ. mids.retry m.faults m.me σ) (λ b σ. backs.retry b.faults b.tier b.me σ) c.retry-answer.result) c.new-out.ensures c.retry-answer.ensures in
-    on_ok_weaker c.send-2.result (λ sent u depth w s. let e = sent.0 in played u depth w c.args.self.now c.send-2.new.self c.retry-answer.new.self c.retry-answer.new.out (events.Retry (ends.Node c.args.node)) (told_command c.args.node c.retry-answer.result) c.args.lines.now c.add_command.new.out s sent.1
-    (retry_by u depth w c.args.self.now.nodes c.retry-answer.new.self c.args.node c.retry-answer.new.out c.retry-answer.result c.args.node.tier s.nodes (subst (λ z. c.args.node.index < 2 * z + 1) s.size c.requires.there) up moves c.in_ok-add_command.ensures.memory) e c.in_ok-add_command.ensures.told) c.send-2.ensures
+    on_ok_weaker c.send.result (λ sent disks u depth w s d.
+    let there = subst (λ z. c.args.node.index < 2 * z + 1) s.size c.requires.there in
+    let at = disk_of w u c.args.node.index c.args.node.tier disks s.few d there in
+    let moves = subst (λ z. MoveIn c.args.self.now.nodes c.retry-answer.new.self c.args.node.tier c.args.node.index at.0 at.0 z c.retry-answer.new.out (λ m σ. mids.retry m.faults m.me σ) (λ b σ. backs.retry b.faults b.tier b.me σ) c.retry-answer.result) c.new-out.ensures (c.retry-answer.ensures at.0) in
+    made u depth w c.args.self.now c.send.new.self c.retry-answer.new.self c.retry-answer.new.out disks disks (events.Retry (ends.Node c.args.node)) (told_command c.args.node false c.retry-answer.result) c.args.lines.now c.add_command.new.out s sent.1
+    (retry_by u depth w c.args.self.now.nodes c.retry-answer.new.self c.args.node disks at.0 c.retry-answer.new.out c.retry-answer.result c.args.node.tier (record { few = s.few; nodes_are = s.nodes; disks_are = d; there = there; disk_is = at.1; up = up }) c.in_ok-add_command.ensures.memory moves)
+    sent.0 c.in_ok-add_command.ensures.told (λ f. absurd (cc)) (falls_none disks) tt) c.send.ensures

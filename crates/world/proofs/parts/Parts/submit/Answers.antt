@@ -12,7 +12,7 @@ use Rattle.world.specs.declared.parts.Parts.{Parts}
 use Rattle.world.specs.Parts.{sealed}
 use Rattle.world.specs.Watching.{hears_packets, all_grown}
 use Rattle.world.specs.Standing.{AreAll, IsClientEnd}
-use Rattle.world.proofs.Asking.{CanAsk, ask_fits, asked_is, submit_is, open_leads, busy_is, client_is, client_back, client_opened, asked_nothing, asked, nothing_leads}
+use Rattle.world.proofs.Asking.{CanAsk, ask_fits, asked_is, submit_is, open_leads, busy_is, client_is, client_back, client_opened, asked_nothing, asked, open_disks, nothing_leads}
 use Rattle.world.proofs.Room.{requests_fit}
 use Rattle.world.proofs.parts.Parts.submit.Goals as goal
 
@@ -20,7 +20,7 @@ pub returns-in_default : goal.returns-in_default
 returns-in_default c =
     let h = subst (λ z. Submits c.index_mut.result.now c.submit.new.self c.args.body.now z) c.in_default.is c.in_ok-seq.ensures.ok in
     let at = subst (λ z. c.index_mut.result.now ≡ get_or c.args.self.now.clients.items z c.index_mut.result.now) c.from.ensures c.index_mut.ensures.value in
-    on_ok_weaker c.send.result (λ sent u depth w s.
+    on_ok_weaker c.send.result (λ sent disks u depth w s d.
     let e = sent.0 in
     let i = client_is w c.args.self.now.clients.items c.args.client c.index_mut.result.now s.clients c.requires.client.1 at in
     let opened : is_some (w.clients c.args.client).opened ≡ true = ap (λ (v : ClientState). is_some v.end.opened) (sym i.is) ∙ h.0 in
@@ -31,7 +31,7 @@ returns-in_default c =
     asked u depth w w c.args.self.now c.send.new.self [] (events.Submit c.args.client c.args.body.now) (then_word (codes "busy") (decimal c.args.client ++ line_end)) c.args.lines.now c.add_busy.new.out s sent.1
     (busy_is u depth w c.args.client c.args.body.now opened) (cond-true (is_some (w.clients c.args.client).opened) _ _ opened) (nothing_leads u depth w c.args.self.now.nodes s.nodes) back
     (e ∙ (λ j. record c.args.self.now { clients = same j; soup = c.args.self.now.soup ++ c.new-out.ensures j; watch = all_grown (hears_packets c.args.self.now.watch (c.new-out.ensures j)) }))
-    c.in_ok-add_busy.ensures) c.send.ensures
+    c.in_ok-add_busy.ensures disks d (λ f. absurd (cc)) tt) c.send.ensures
 
 pub add_requests-requires-clause-fit : goal.add_requests-requires-clause-fit
 add_requests-requires-clause-fit c =
@@ -53,7 +53,7 @@ pub returns : goal.returns
 returns c =
     let h = subst (λ z. Submits c.index_mut.result.now c.submit.new.self c.args.body.now z) c.in-Some.is c.in_ok-seq.ensures.ok in
     let at = subst (λ z. c.index_mut.result.now ≡ get_or c.args.self.now.clients.items z c.index_mut.result.now) c.from.ensures c.index_mut.ensures.value in
-    on_ok_weaker c.send-2.result (λ sent u depth w s.
+    on_ok_weaker c.send-2.result (λ sent disks u depth w s d.
     let e = sent.0 in
     let i = client_is w c.args.self.now.clients.items c.args.client c.index_mut.result.now s.clients c.requires.client.1 at in
     let none : (w.clients c.args.client).opened ≡ None = ap (λ (v : ClientState). v.end.opened) (sym i.is) ∙ h.0 in
@@ -69,4 +69,4 @@ returns c =
     asked u depth w (opens u w c.args.client c.args.body.now) c.args.self.now c.send-2.new.self (requests u c.args.client (suc (w.clients c.args.client).last) c.args.body.now) (events.Submit c.args.client c.args.body.now) [] c.args.lines.now c.args.lines.now s sent.1
     (submit_is u depth w c.args.client c.args.body.now c.requires.client c.requires.asked none first) (cond-false (is_some (w.clients c.args.client).opened) _ _ (ap is_some none)) (open_leads u depth w c.args.self.now.nodes c.args.client c.args.body.now s.nodes can) now
     (e ∙ (λ j. record c.args.self.now { clients = same j; soup = c.args.self.now.soup ++ out j; watch = all_grown (hears_packets c.args.self.now.watch (out j)) }))
-    (sym (append-nil c.args.lines.now))) c.send-2.ensures
+    (sym (append-nil c.args.lines.now)) disks (open_disks u w c.args.client c.args.body.now disks d) (λ f. absurd (cc)) tt) c.send-2.ensures

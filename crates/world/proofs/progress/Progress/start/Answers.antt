@@ -1,11 +1,10 @@
-use Rattle.aeg_base.specs.declared.names.Tier.TheVariants.{Mid, Inv, Pay}
-use Rattle.world.proofs.Blanks.{tier_after, blank_start}
+use Rattle.std.specs.Prelude.{map}
+use Rattle.world.proofs.Starting.{three_tiers, all_started}
 use Rattle.world.proofs.progress.Progress.start.Goals as goal
 
-pub restart_tier-requires-2-clause-blank : goal.restart_tier-requires-2-clause-blank
-restart_tier-requires-2-clause-blank c = tier_after c.args.self.now c.restart_tier.new.self Mid Inv (λ e. cc) c.in_ok-restart_tier.ensures (blank_start c.args.self.now Inv c.requires.new)
-
-pub restart_tier-requires-3-clause-blank : goal.restart_tier-requires-3-clause-blank
-restart_tier-requires-3-clause-blank c =
-    tier_after c.restart_tier.new.self c.restart_tier-2.new.self Inv Pay (λ e. cc) c.in_ok-restart_tier-2.ensures
-    (tier_after c.args.self.now c.restart_tier.new.self Mid Pay (λ e. cc) c.in_ok-restart_tier.ensures (blank_start c.args.self.now Pay c.requires.new))
+pub returns-clause-starts : goal.returns-clause-starts
+returns-clause-starts g c =
+    let state = g.D.Disk.state in
+    all_started c.args.self.now c.restart_tier-3.new.self (map state c.args.disks.now) (map state c.restart_tier-3.new.disks) c.args.lines.now c.restart_tier-3.new.lines c.requires.new
+    (three_tiers c.args.self.now c.restart_tier.new.self c.restart_tier-2.new.self c.restart_tier-3.new.self (map state c.args.disks.now) (map state c.restart_tier.new.disks) (map state c.restart_tier-2.new.disks) (map state c.restart_tier-3.new.disks)
+    c.args.lines.now c.restart_tier.new.lines c.restart_tier-2.new.lines c.restart_tier-3.new.lines c.in_ok-restart_tier.ensures.restarted c.in_ok-restart_tier-2.ensures.restarted c.in_ok-restart_tier-3.ensures.restarted)

@@ -1,5 +1,5 @@
-use Rattle.world.proofs.BackMoves.{restarted}
+use Rattle.world.proofs.Restored.{back_restarts}
 use Rattle.world.proofs.nodes.back_node.BackNode.restart.Goals as goal
 
-pub returns-clause-part : goal.returns-clause-part
-returns-clause-part c = restarted c.self.inside.node c.restart.new.self c.args.self.now c.self.view_is c.requires c.restart.ensures
+pub returns : goal.returns
+returns g c = back_restarts c.self.inside.node c.restart.new.self c.args.self.now (g.D.Disk.state c.args.disk.now) (g.D.Disk.state c.restart.new.disk) c.restart.result c.self.view_is c.self.invariant.0 c.restart.ensures.reads c.restart.ensures.later c.restart.ensures.same

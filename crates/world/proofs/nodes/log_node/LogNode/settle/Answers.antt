@@ -1,14 +1,38 @@
+use Rattle.std.proofs.Common.{◌∙◌, ap, length}
 use Rattle.world.specs.LogNodes.{whole_turn}
-use Rattle.world.proofs.Turning.{seen, small, settled, facts_at, sends_at}
+use Rattle.world.proofs.Turning.{seen, small, Told, settled, written_down, failed, not_written, put_back, sent_none, facts_at, facts_short, sends_at}
 use Rattle.world.proofs.nodes.log_node.LogNode.settle.Goals as goal
 
-pub length_after-requires-clause-fit : goal.length_after-requires-clause-fit
-length_after-requires-clause-fit c = facts_at c.args.self.now (whole_turn c.args.log.state c.args.turn) c.in_ok-facts.facts.items c.in_ok-facts.ensures c.requires.range
+pub append-requires-clause-fit : goal.append-requires-clause-fit
+append-requires-clause-fit g c = facts_at c.args.self.now (whole_turn c.args.up.log.state c.args.turn) c.of-record.result (c.of-record.ensures ∙ c.in_ok-facts.ensures) c.requires.range
+
+pub append-requires-clause-short : goal.append-requires-clause-short
+append-requires-clause-short g c = facts_short c.args.self.now (whole_turn c.args.up.log.state c.args.turn) c.of-record.result (c.of-record.ensures ∙ c.in_ok-facts.ensures) c.requires.range c.requires.short
 
 pub send_all-requires-clause-fit : goal.send_all-requires-clause-fit
-send_all-requires-clause-fit c = sends_at (seen c.self.inside.faults c.self.inside.me c.self.inside.written c.self.inside.log) c.args.self.now (whole_turn c.args.log.state c.args.turn) c.self.view_is c.requires.range
+send_all-requires-clause-fit g c = sends_at (seen c.self.inside.faults c.self.inside.me c.self.inside.known c.self.inside.doubt c.self.inside.gone c.self.inside.up) c.args.self.now (whole_turn c.args.up.log.state c.args.turn) c.self.view_is c.requires.range
+
+pub invariant_of-self : goal.invariant_of-self
+invariant_of-self g c = put_back c.self.inside.faults c.self.inside.me c.self.inside.known c.self.inside.doubt c.self.inside.gone c.self.inside.up c.args.self.now c.self.view_is c.self.invariant c.requires.down c.requires.sure c.args.up c.append.new.self c.requires.own c.requires.range.state
+
+pub returns-in-Ok-clause-row : goal.returns-in-Ok-clause-row
+returns-in-Ok-clause-row g c =
+    let told : Told c.args.up.journal c.append.new.self c.of-record.result (g.D.Disk.state c.args.disk.now) (g.D.Disk.state c.append.new.disk) c.append.result = record { idle = c.append.ensures.idle; full = c.append.ensures.full; past = c.append.ensures.past; nothing_written = c.append.ensures.nothing_written; place = c.append.ensures.place; leaves = c.append.ensures.leaves; stopped = c.append.ensures.stopped; unmet = c.append.ensures.unmet; cause = c.append.ensures.cause } in
+    settled (seen c.self.inside.faults c.self.inside.me c.self.inside.known c.self.inside.doubt c.self.inside.gone c.self.inside.up) c.args.self.now c.args.up c.args.turn c.append.new.self c.of-record.result (g.D.Disk.state c.args.disk.now) (g.D.Disk.state c.append.new.disk) c.args.out.now c.send_all.new.out c.answer_of.result c.append.result c.self.view_is
+    (small c.self.inside.faults c.self.inside.me c.self.inside.known c.self.inside.doubt c.self.inside.gone c.self.inside.up c.args.self.now c.self.view_is c.self.invariant) c.requires.range c.requires.place (c.of-record.ensures ∙ c.in_ok-facts.ensures) told c.in-Ok.is c.in_ok-send_all.ensures c.answer_of.ensures
+
+pub returns-in-Ok-clause-disk : goal.returns-in-Ok-clause-disk
+returns-in-Ok-clause-disk g c =
+    let told : Told c.args.up.journal c.append.new.self c.of-record.result (g.D.Disk.state c.args.disk.now) (g.D.Disk.state c.append.new.disk) c.append.result = record { idle = c.append.ensures.idle; full = c.append.ensures.full; past = c.append.ensures.past; nothing_written = c.append.ensures.nothing_written; place = c.append.ensures.place; leaves = c.append.ensures.leaves; stopped = c.append.ensures.stopped; unmet = c.append.ensures.unmet; cause = c.append.ensures.cause } in
+    written_down c.args.self.now c.args.up c.args.turn c.append.new.self c.of-record.result (g.D.Disk.state c.args.disk.now) (g.D.Disk.state c.append.new.disk) c.answer_of.result c.append.result c.requires.place (c.of-record.ensures ∙ c.in_ok-facts.ensures) told c.in-Ok.is
 
 pub returns-clause-row : goal.returns-clause-row
-returns-clause-row c =
-    settled (seen c.self.inside.faults c.self.inside.me c.self.inside.written c.self.inside.log) c.args.self.now c.args.log.state c.args.turn c.in_ok-written.written c.in_ok-facts.facts.items c.args.out.now c.send_all.new.out c.answer_of.result c.self.view_is
-    (small c.self.inside.faults c.self.inside.me c.self.inside.written c.self.inside.log c.args.self.now c.self.view_is c.self.invariant) c.requires.range c.in_ok-facts.ensures c.in_ok-written.ensures c.if-written-gt-JOURNAL_BYTES.false c.in_ok-send_all.ensures c.answer_of.ensures
+returns-clause-row g c =
+    let told : Told c.args.up.journal c.append.new.self c.of-record.result (g.D.Disk.state c.args.disk.now) (g.D.Disk.state c.append.new.disk) c.append.result = record { idle = c.append.ensures.idle; full = c.append.ensures.full; past = c.append.ensures.past; nothing_written = c.append.ensures.nothing_written; place = c.append.ensures.place; leaves = c.append.ensures.leaves; stopped = c.append.ensures.stopped; unmet = c.append.ensures.unmet; cause = c.append.ensures.cause } in
+    failed (seen c.self.inside.faults c.self.inside.me c.self.inside.known c.self.inside.doubt c.self.inside.gone c.self.inside.up) c.args.self.now c.args.up c.args.turn c.append.new.self c.of-record.result (g.D.Disk.state c.args.disk.now) (g.D.Disk.state c.append.new.disk) c.args.out.now c.truncate.new.self c.append.result c.in-Err.error c.leaves_doubt-self-inside.result c.fault_of.result c.self.view_is c.requires.down c.requires.sure c.requires.place (c.of-record.ensures ∙ c.in_ok-facts.ensures) told c.in-Err.is
+    c.leaves_doubt-self-inside.ensures c.fault_of.ensures (sent_none c.args.out.now _ c.send_all.new.out c.truncate.new.self _ c.in_ok-send_all.ensures (ap length c.items-before.ensures) c.truncate.ensures)
+
+pub returns-clause-disk : goal.returns-clause-disk
+returns-clause-disk g c =
+    let told : Told c.args.up.journal c.append.new.self c.of-record.result (g.D.Disk.state c.args.disk.now) (g.D.Disk.state c.append.new.disk) c.append.result = record { idle = c.append.ensures.idle; full = c.append.ensures.full; past = c.append.ensures.past; nothing_written = c.append.ensures.nothing_written; place = c.append.ensures.place; leaves = c.append.ensures.leaves; stopped = c.append.ensures.stopped; unmet = c.append.ensures.unmet; cause = c.append.ensures.cause } in
+    not_written c.args.self.now c.args.up c.args.turn c.append.new.self (seen c.self.inside.faults c.self.inside.me c.self.inside.known c.self.inside.doubt c.self.inside.gone c.self.inside.up).part.place c.of-record.result (g.D.Disk.state c.args.disk.now) (g.D.Disk.state c.append.new.disk) c.append.result c.in-Err.error c.fault_of.result c.requires.place (c.of-record.ensures ∙ c.in_ok-facts.ensures) told c.in-Err.is c.fault_of.ensures

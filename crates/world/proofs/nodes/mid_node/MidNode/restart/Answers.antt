@@ -1,5 +1,5 @@
-use Rattle.world.proofs.MidMoves.{restarted}
+use Rattle.world.proofs.Restored.{mid_restarts}
 use Rattle.world.proofs.nodes.mid_node.MidNode.restart.Goals as goal
 
-pub returns-clause-part : goal.returns-clause-part
-returns-clause-part c = restarted c.self.inside.node c.restart.new.self c.self.inside.depth c.self.inside.pending c.new.result c.args.self.now c.self.view_is c.requires c.restart.ensures c.new.ensures
+pub returns : goal.returns
+returns g c = mid_restarts c.self.inside.depth c.self.inside.node c.restart.new.self c.self.inside.pending c.new.result c.args.self.now (g.D.Disk.state c.args.disk.now) (g.D.Disk.state c.restart.new.disk) c.restart.result c.self.view_is c.self.invariant.0 c.requires.down c.new.ensures c.restart.ensures.reads c.restart.ensures.later c.restart.ensures.same

@@ -1,5 +1,5 @@
 use Rattle.std.proofs.Common.{arith}
-use Rattle.world.proofs.Places.{batch_next, batch_made, batch_fits}
+use Rattle.world.proofs.Places.{batch_next, batch_made, batch_fits, batch_stands}
 use Rattle.world.proofs.nodes.pending.Pending.batch.Goals as goal
 
 pub loop-client-preserved : goal.loop-client-preserved
@@ -10,3 +10,9 @@ returns-clause-batch c depth = batch_made depth c.loop-client.client c.self.insi
 
 pub returns-clause-fit : goal.returns-clause-fit
 returns-clause-fit c = batch_fits c.self.inside.entries c.loop-client.client c.loop-client.batch.items c.self.invariant c.loop-client.invariant
+
+pub returns-clause-fits : goal.returns-clause-fits
+returns-clause-fits c depth = batch_stands depth c.self.inside.entries c.args.self.now c.self.invariant c.self.view_is
+
+pub returns-in_err-join-clause-fits : goal.returns-in_err-join-clause-fits
+returns-in_err-join-clause-fits c depth = batch_stands depth c.self.inside.entries c.args.self.now c.self.invariant c.self.view_is
