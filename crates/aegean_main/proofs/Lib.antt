@@ -1,4 +1,6 @@
 pub mod AnswerLaws
+pub mod BlankDisks
+pub mod DiskLaws
 pub mod PlayLaws
 pub mod ReadingLaws
 pub mod ReplayLaws

@@ -1,5 +1,6 @@
 pub mod Answer
 pub mod Counting
+pub mod DiskFaults
 pub mod Headline
 pub mod Playing
 pub mod Reading

@@ -1,6 +1,7 @@
--- What `replay` answers: how an input ends, and what is written of its run.
+-- What `replay` answers: how an input ends, what is written of its run, and what its disks hold then.
 use Rattle.std.specs.Prelude.{◌≡◌, ◌⊎◌, ℕ, ◌<◌, ◌≤◌, ◌++◌, true, List, [], length, Option, Some}
 use Rattle.aeg_base.specs.declared.limits.TheConstants.{INPUT_BYTES, INPUT_LINES, PACKETS_BEFORE}
+use Rattle.aeg_disk.specs.Disk.{DiskState}
 use Rattle.aeg_io.specs.Bytes.{Gains, GainsFront}
 use Rattle.server_model.specs.Backends.{Amounts}
 use Rattle.server_model.specs.Single.{lines_of}
@@ -9,9 +10,11 @@ use Rattle.run_model.specs.World.{Config, start}
 use Rattle.run_model.specs.Runs.{world}
 use Rattle.run_model.specs.Script.{Script, Reads, Fails, script_of}
 use Rattle.run_model.specs.Text.{text, closing}
-use Rattle.run_model.specs.Resolving.{Standing, Due, next, Reaches, Resolves}
+use Rattle.run_model.specs.Resolving.{Standing, Due, next, AllSure, Reaches, Resolves}
 use Rattle.run_model.specs.Standings.{keeps_limit}
 use Rattle.run_model.specs.declared.trace.TraceEvent.{TraceEvent}
+use Rattle.world.specs.Disks.{AreDisks}
+use Rattle.aegean_main.specs.DiskFaults.{CountsFaults, NoneRose}
 use Rattle.aegean_main.specs.Headline.{Keeps}
 use Rattle.aegean_main.specs.declared.status.LimitKind.TheVariants as limits
 use Rattle.aegean_main.specs.declared.status.Status.{Status}
@@ -70,40 +73,61 @@ pub record Breaks (script : Script) (old new : Option (List ℕ)) : Type 0 where
   pub is_text : IsTextOf script events bytes
   pub front : GainsFront old new bytes
 
+-- DISKS
+
+-- The disks after these events of a script's run are those of its world, and each has counted the faults that it met. Where
+-- none counted one, no event had a fault, and each restart found the one list that its disk stood for.
+pub record Leaves (script : Script) (es : List TraceEvent) (before after : List DiskState) : Type 0 where
+  pub disks : AreDisks (world (tiers script) es) after
+  pub counted : CountsFaults (tiers script) es before after
+  pub sure : NoneRose before after → AllSure es
+
+-- without a fault these events are the only ones that the script comes to
+abbrev pub IsOnlyRun : Script → List TraceEvent → Type 0
+IsOnlyRun script es = AllSure es → (others : List TraceEvent) → Resolves (tiers script) script others → AllSure others → others ≡ es
+
+-- without a fault the run of the script begins with these events
+abbrev pub BeginsRun : Script → List TraceEvent → Type 0
+BeginsRun script es = AllSure es → (others : List TraceEvent) → Resolves (tiers script) script others → AllSure others → (rest : List TraceEvent) × (others ≡ es ++ rest)
+
 -- HOW AN INPUT ENDS
 
 -- the run of a script that comes to its end, and its whole text
-pub record Plays (input bytes : List ℕ) : Type 0 where
+pub record Plays (input bytes : List ℕ) (before after : List DiskState) : Type 0 where
   pub script : Script
   pub events : List TraceEvent
   pub reads : ReadsAs input script
   pub ends : Ends script events
   pub is_text : bytes ≡ whole_text script events
   pub keeps : Keeps script.u script.depth events
+  pub leaves : Leaves script events before after
+  pub only : IsOnlyRun script events
 
 -- the run of a script that passes the limit on packets, and the text of its events
-pub record Fills (input bytes : List ℕ) : Type 0 where
+pub record Fills (input bytes : List ℕ) (before after : List DiskState) : Type 0 where
   pub script : Script
   pub events : List TraceEvent
   pub reads : ReadsAs input script
   pub overflows : Overflows script events
   pub is_text : bytes ≡ events_text script events
   pub keeps : Keeps script.u script.depth events
+  pub leaves : Leaves script events before after
+  pub begins : BeginsRun script events
 
--- The status that the input has, and all that is written then. The limits on bytes and lines come first, then the grammar
--- of the whole input, then the run.
-abbrev pub Comes : List ℕ → Status → List ℕ → Type 0
-Comes input statuses.Done bytes = Plays input bytes
-Comes input (statuses.Limit limits.Packets) bytes = Fills input bytes
-Comes input (statuses.Limit limits.Bytes) bytes = (INPUT_BYTES < length input) × (bytes ≡ [])
-Comes input (statuses.Limit limits.Lines) bytes = (length input ≤ INPUT_BYTES) × (INPUT_LINES < length (lines_of input)) × (bytes ≡ [])
-Comes input (statuses.Script line row) bytes = IsWithin input × (script_of input ≡ Fails line row) × (bytes ≡ [])
-Comes input statuses.Usage bytes = ⊥
-Comes input (statuses.Plan row) bytes = ⊥
-Comes input statuses.ReadFault bytes = ⊥
-Comes input statuses.WriteFault bytes = ⊥
-Comes input (statuses.Illegal line row) bytes = ⊥
-Comes input statuses.Memory bytes = ⊥
+-- The status that the input has, all that is written then, and the disks. The limits on bytes and lines come first, then the
+-- grammar of the whole input, then the run.
+abbrev pub Comes : List ℕ → List DiskState → List DiskState → Status → List ℕ → Type 0
+Comes input before after statuses.Done bytes = Plays input bytes before after
+Comes input before after (statuses.Limit limits.Packets) bytes = Fills input bytes before after
+Comes input before after (statuses.Limit limits.Bytes) bytes = (INPUT_BYTES < length input) × (bytes ≡ [])
+Comes input before after (statuses.Limit limits.Lines) bytes = (length input ≤ INPUT_BYTES) × (INPUT_LINES < length (lines_of input)) × (bytes ≡ [])
+Comes input before after (statuses.Script line row) bytes = IsWithin input × (script_of input ≡ Fails line row) × (bytes ≡ [])
+Comes input before after statuses.Usage bytes = ⊥
+Comes input before after (statuses.Plan row) bytes = ⊥
+Comes input before after statuses.ReadFault bytes = ⊥
+Comes input before after statuses.WriteFault bytes = ⊥
+Comes input before after (statuses.Illegal line row) bytes = ⊥
+Comes input before after statuses.Memory bytes = ⊥
 
 -- WHAT A CALL DOES
 
@@ -114,22 +138,27 @@ pub record BreaksOff (input : List ℕ) (old new : Option (List ℕ)) : Type 0 w
   pub breaks : Breaks script old new
   pub keeps : Keeps script.u script.depth breaks.events
 
+-- and the disks are those of its events
+pub record BreaksAt (input : List ℕ) (before after : List DiskState) (old new : Option (List ℕ)) : Type 0 where
+  pub run : BreaksOff input old new
+  pub leaves : Leaves run.script run.breaks.events before after
+
 -- the input has this status, and all its text was written
-abbrev pub Writes : List ℕ → Option (List ℕ) → Option (List ℕ) → Status → Type 0
-Writes input old new status = (bytes : List ℕ) × Comes input status bytes × Gains old new bytes
+abbrev pub Writes : List ℕ → List DiskState → List DiskState → Option (List ℕ) → Option (List ℕ) → Status → Type 0
+Writes input before after old new status = (bytes : List ℕ) × Comes input before after status bytes × Gains old new bytes
 
 -- After a failing read nothing was written, after a failing write a front of the text, and for want of memory a front of it or
--- nothing. Else the status is the input's, and its text was written.
-abbrev pub Answers : List ℕ → Option (List ℕ) → Option (List ℕ) → Status → Type 0
-Answers input old new statuses.ReadFault = new ≡ old
-Answers input old new statuses.WriteFault = BreaksOff input old new
-Answers input old new statuses.Memory = BreaksOff input old new ⊎ (new ≡ old)
-Answers input old new status = Writes input old new status
+-- nothing; what the disks hold then is not said. Else the status is the input's, and its text was written.
+abbrev pub Answers : List ℕ → List DiskState → List DiskState → Option (List ℕ) → Option (List ℕ) → Status → Type 0
+Answers input before after old new statuses.ReadFault = new ≡ old
+Answers input before after old new statuses.WriteFault = BreaksAt input before after old new
+Answers input before after old new statuses.Memory = BreaksOff input old new ⊎ (new ≡ old)
+Answers input before after old new status = Writes input before after old new status
 
 -- the input is a script, all of its run was written, and the run keeps what every run keeps
-abbrev pub PlaysOut : List ℕ → Option (List ℕ) → Option (List ℕ) → Type 0
-PlaysOut input old new = (bytes : List ℕ) × Plays input bytes × Gains old new bytes
+abbrev pub PlaysOut : List ℕ → List DiskState → List DiskState → Option (List ℕ) → Option (List ℕ) → Type 0
+PlaysOut input before after old new = (bytes : List ℕ) × Plays input bytes before after × Gains old new bytes
 
 -- the input's own status, or want of memory
-abbrev pub IsItsOwn : List ℕ → Status → Type 0
-IsItsOwn input status = ((bytes : List ℕ) × Comes input status bytes) ⊎ (status ≡ statuses.Memory)
+abbrev pub IsItsOwn : List ℕ → List DiskState → List DiskState → Status → Type 0
+IsItsOwn input before after status = ((bytes : List ℕ) × Comes input before after status bytes) ⊎ (status ≡ statuses.Memory)

@@ -28,19 +28,19 @@ Follows answer old new WriteFault = GainsFront old new answer.text
 Follows answer old new Memory = GainsFront old new answer.text
 Follows answer old new status = (answer.status ≡ status) × Gains old new answer.text
 
--- with these statuses nothing was written, whatever the source tells
-abbrev pub LeavesOut : Status → Option (List ℕ) → Option (List ℕ) → Type 0
-LeavesOut Usage old new = new ≡ old
-LeavesOut (Script line row) old new = new ≡ old
-LeavesOut (Plan row) old new = new ≡ old
-LeavesOut ReadFault old new = new ≡ old
-LeavesOut (Limit limits.Bytes) old new = new ≡ old
-LeavesOut (Limit limits.Lines) old new = new ≡ old
-LeavesOut (Limit limits.Packets) old new = Unit {0}
-LeavesOut Done old new = Unit {0}
-LeavesOut WriteFault old new = Unit {0}
-LeavesOut (Illegal line row) old new = Unit {0}
-LeavesOut Memory old new = Unit {0}
+-- with these statuses the output, or the disks, are left as they were, whatever the source tells
+abbrev pub LeavesAlone : {A : Type 0} → Status → A → A → Type 0
+LeavesAlone Usage old new = new ≡ old
+LeavesAlone (Script line row) old new = new ≡ old
+LeavesAlone (Plan row) old new = new ≡ old
+LeavesAlone ReadFault old new = new ≡ old
+LeavesAlone (Limit limits.Bytes) old new = new ≡ old
+LeavesAlone (Limit limits.Lines) old new = new ≡ old
+LeavesAlone (Limit limits.Packets) old new = Unit {0}
+LeavesAlone Done old new = Unit {0}
+LeavesAlone WriteFault old new = Unit {0}
+LeavesAlone (Illegal line row) old new = Unit {0}
+LeavesAlone Memory old new = Unit {0}
 
 -- the lines that these tell
 abbrev pub told_lines : List Told → List ℕ

@@ -1,8 +1,9 @@
 //! The program: `aegean single` reads steps of the one server and writes what they tell, and `aegean replay` plays a
-//! script in the three tiers and writes what its events print.
+//! script in the three tiers and writes what its events print. The nodes' disks are in memory.
 #![tactic(auto)]
 
 mod count;
+mod disks;
 mod lines;
 mod playing;
 mod reading;
@@ -37,8 +38,19 @@ fn main(rt: HostRuntime) -> ExitCode {
         report::report(&mut err, Status::Memory);
         return ExitCode::from(Status::Memory.code());
     };
+    let Ok(mut disks) = disks::memory_disks(rt.alloc(), Vec::new(rt.alloc())) else {
+        report::report(&mut err, Status::Memory);
+        return ExitCode::from(Status::Memory.code());
+    };
     let mut source = StdSource::new(rt.reader());
     let mut out = StdSink::new(io::writer(&rt));
-    let status = aegean(rt.alloc(), &words, &mut source, &mut out, &mut err);
+    let status = aegean(
+        rt.alloc(),
+        &words,
+        &mut source,
+        &mut out,
+        &mut err,
+        &mut disks,
+    );
     ExitCode::from(status.code())
 }

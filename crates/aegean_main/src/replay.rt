@@ -1,19 +1,21 @@
 // The command `replay`.
-ghost use Rattle.std.specs.Prelude.{◌≡◌, ℕ, ◌≤◌, List, length, IfSome};
+ghost use Rattle.std.specs.Prelude.{◌≡◌, ℕ, ◌≤◌, List, length, map, IfSome};
 ghost use Rattle.aeg_base.specs.declared.limits.TheConstants.{INPUT_BYTES, MAX_FAULTS};
 ghost use Rattle.aeg_io.specs.Causes.{Rose};
 ghost use Rattle.run_model.specs.declared.trace.TraceEvent.{TraceEvent};
+ghost use Rattle.world.specs.Disks.{AreBlank};
 ghost use Rattle.aegean_main.specs.Headline.{Keeps};
 ghost use Rattle.aegean_main.specs.Replay.{ReadsAs, Answers, PlaysOut};
 ghost use Rattle.aegean_main.specs.Report.{Tells};
 ghost use Rattle.aegean_main.specs.Status.{line_for};
-ghost use Rattle.aegean_main.specs.Top.{LeavesOut};
+ghost use Rattle.aegean_main.specs.Top.{LeavesAlone};
 
 use crate::lines::has_lines_within;
 use crate::playing::{Halt, play_script};
 use crate::report::report;
 use crate::status::{LimitKind, Status};
 use aeg_base::limits::{INPUT_BYTES, INPUT_LINES, MAX_FAULTS};
+use aeg_disk::Device;
 use aeg_io::{ReadErr, Sink, Source, read_all};
 use net_script::{Script, ScriptErr, parse_script};
 use std::alloc::Global;
@@ -37,15 +39,17 @@ fn its_runs_keep(script: &Script)
 }
 
 /// Plays a script and tells how its run ended.
-fn play<K: Sink>(alloc: Global, script: &Script, out: &mut K) -> Status
-    ensures follows { (input : List ℕ) → ReadsAs input script.now → Answers input (K.taken out.old) (K.taken out.new) result }
-    ensures nothing { LeavesOut result (K.taken out.old) (K.taken out.new) }
+fn play<D: Device, K: Sink>(alloc: Global, script: &Script, disks: &mut [D], out: &mut K) -> Status
+    requires blank { AreBlank (map D.state disks.old) }
+    ensures follows { (input : List ℕ) → ReadsAs input script.now → Answers input (map D.state disks.old) (map D.state disks.new) (K.taken out.old) (K.taken out.new) result }
+    ensures nothing { LeavesAlone result (K.taken out.old) (K.taken out.new) }
+    ensures disks { LeavesAlone result disks.old disks.new }
     ensures write { result ≡ Status.WriteFault → Rose (K.faults out.old) (K.faults out.new) }
     ensures read { ¬ (result ≡ Status.ReadFault) }
     ensures command { ¬ (result ≡ Status.Usage) }
 {
     its_runs_keep(script);
-    match play_script(alloc, script, out) {
+    match play_script(alloc, script, disks, out) {
         Ok(()) => Status::Done,
         Err(Halt::Limit) => Status::Limit(LimitKind::Packets),
         Err(Halt::Write) => Status::WriteFault,
@@ -54,10 +58,12 @@ fn play<K: Sink>(alloc: Global, script: &Script, out: &mut K) -> Status
 }
 
 /// Answers an input and writes what its run prints.
-fn answer<K: Sink>(alloc: Global, input: &[u8], out: &mut K) -> Status
-    requires { length input.now ≤ INPUT_BYTES }
-    ensures follows { Answers input.now (K.taken out.old) (K.taken out.new) result }
-    ensures nothing { LeavesOut result (K.taken out.old) (K.taken out.new) }
+fn answer<D: Device, K: Sink>(alloc: Global, input: &[u8], disks: &mut [D], out: &mut K) -> Status
+    requires bytes { length input.now ≤ INPUT_BYTES }
+    requires blank { AreBlank (map D.state disks.old) }
+    ensures follows { Answers input.now (map D.state disks.old) (map D.state disks.new) (K.taken out.old) (K.taken out.new) result }
+    ensures nothing { LeavesAlone result (K.taken out.old) (K.taken out.new) }
+    ensures disks { LeavesAlone result disks.old disks.new }
     ensures write { result ≡ Status.WriteFault → Rose (K.faults out.old) (K.faults out.new) }
     ensures read { ¬ (result ≡ Status.ReadFault) }
     ensures command { ¬ (result ≡ Status.Usage) }
@@ -66,22 +72,29 @@ fn answer<K: Sink>(alloc: Global, input: &[u8], out: &mut K) -> Status
         return Status::Limit(LimitKind::Lines);
     }
     match parse_script(alloc, input) {
-        Ok(script) => play(alloc, &script, out),
+        Ok(script) => play(alloc, &script, disks, out),
         Err(ScriptErr::BadLine { line, row }) => Status::Script { line, row },
         Err(ScriptErr::Memory) => Status::Memory,
     }
 }
 
 /// Reads the input, answers it and writes what its run prints.
-fn replay_status<S: Source, K: Sink>(alloc: Global, source: &mut S, out: &mut K) -> Status
-    ensures follows { IfSome (S.left source.old) (λ input. Answers input (K.taken out.old) (K.taken out.new) result) }
-    ensures nothing { LeavesOut result (K.taken out.old) (K.taken out.new) }
+fn replay_status<S: Source, K: Sink, D: Device>(
+    alloc: Global,
+    source: &mut S,
+    out: &mut K,
+    disks: &mut [D],
+) -> Status
+    requires blank { AreBlank (map D.state disks.old) }
+    ensures follows { IfSome (S.left source.old) (λ input. Answers input (map D.state disks.old) (map D.state disks.new) (K.taken out.old) (K.taken out.new) result) }
+    ensures nothing { LeavesAlone result (K.taken out.old) (K.taken out.new) }
+    ensures disks { LeavesAlone result disks.old disks.new }
     ensures read { result ≡ Status.ReadFault → Rose (S.faults source.old) (S.faults source.new) }
     ensures write { result ≡ Status.WriteFault → Rose (K.faults out.old) (K.faults out.new) }
     ensures command { ¬ (result ≡ Status.Usage) }
 {
     match read_all(alloc, source, INPUT_BYTES) {
-        Ok(input) => answer(alloc, input.items(), out),
+        Ok(input) => answer(alloc, input.items(), disks, out),
         Err(ReadErr::Fault) => Status::ReadFault,
         Err(ReadErr::TooLong) => Status::Limit(LimitKind::Bytes),
         Err(ReadErr::Memory) => Status::Memory,
@@ -89,25 +102,29 @@ fn replay_status<S: Source, K: Sink>(alloc: Global, source: &mut S, out: &mut K)
 }
 
 /// The command `replay`: the events that the input's script comes to are made one after another, and what each prints is
-/// written before the next begins. At the end come the closing lines.
-pub fn replay_call<S: Source, K: Sink, E: Sink>(
+/// written before the next begins. At the end come the closing lines. `disks` are those of five middle nodes, of five of
+/// inventory and of five of payment; a script of fewer nodes leaves the others blank.
+pub fn replay_call<S: Source, K: Sink, E: Sink, D: Device>(
     alloc: Global,
     source: &mut S,
     out: &mut K,
     err: &mut E,
+    disks: &mut [D],
 ) -> Status
-    ensures follows { IfSome (S.left source.old) (λ input. Answers input (K.taken out.old) (K.taken out.new) result) }
+    requires blank { AreBlank (map D.state disks.old) }
+    ensures follows { IfSome (S.left source.old) (λ input. Answers input (map D.state disks.old) (map D.state disks.new) (K.taken out.old) (K.taken out.new) result) }
     // At the end of all input a whole run was written, and it keeps what every run keeps.
-    ensures headline { result ≡ Status.Done → IfSome (S.left source.old) (λ input. PlaysOut input (K.taken out.old) (K.taken out.new)) }
+    ensures headline { result ≡ Status.Done → IfSome (S.left source.old) (λ input. PlaysOut input (map D.state disks.old) (map D.state disks.new) (K.taken out.old) (K.taken out.new)) }
     ensures every { (u depth : ℕ) (es : List TraceEvent) → u ≤ MAX_FAULTS → Keeps u depth es }
-    ensures nothing { LeavesOut result (K.taken out.old) (K.taken out.new) }
+    ensures nothing { LeavesAlone result (K.taken out.old) (K.taken out.new) }
+    ensures disks { LeavesAlone result disks.old disks.new }
     ensures read { result ≡ Status.ReadFault → Rose (S.faults source.old) (S.faults source.new) }
     ensures write { result ≡ Status.WriteFault → Rose (K.faults out.old) (K.faults out.new) }
     ensures command { ¬ (result ≡ Status.Usage) }
     ensures tells { Tells (line_for result) (E.taken err.old) (E.taken err.new) (E.faults err.old) (E.faults err.new) }
 {
     every_run_keeps();
-    let status = replay_status(alloc, source, out);
+    let status = replay_status(alloc, source, out, disks);
     report(err, status);
     status
 }

@@ -1,4 +1,5 @@
 // Worked runs, over a source and sinks in memory.
+use crate::disks::memory_disks;
 use crate::{LimitKind, Status, aegean};
 use aeg_base::limits::INPUT_BYTES;
 use aeg_io::{MemSink, MemSource};
@@ -17,7 +18,8 @@ fn called(
     let words = vec![in alloc; String::from_str(alloc, command)?]?;
     let fails = vec![in alloc; failing]?;
     let mut source = MemSource::new(input, fails, 4096);
-    Ok(aegean(alloc, &words, &mut source, out, err))
+    let mut disks = memory_disks(alloc, Vec::new(alloc))?;
+    Ok(aegean(alloc, &words, &mut source, out, err, &mut disks))
 }
 
 /// Runs `single` on an input whose read of this number fails.
@@ -40,6 +42,17 @@ fn replay(
     err: &mut MemSink,
 ) -> Result<Status, AllocError> {
     called(alloc, "replay", input, failing, out, err)
+}
+
+/// Runs the program without a word.
+fn without_a_word(
+    alloc: Global,
+    out: &mut MemSink,
+    err: &mut MemSink,
+) -> Result<Status, AllocError> {
+    let mut source = MemSource::new(Vec::new(alloc), Vec::new(alloc), 1);
+    let mut disks = memory_disks(alloc, Vec::new(alloc))?;
+    Ok(aegean(alloc, &[], &mut source, out, err, &mut disks))
 }
 
 #[test]
@@ -175,8 +188,7 @@ fn faults_limits_and_usage(rt: HostRuntime) -> Result<(), Fail> {
     assert_eq!(rt; status, Status::Limit(LimitKind::Lines));
     assert_eq!(rt; out.taken(), b"".as_slice());
 
-    let mut source = MemSource::new(Vec::new(alloc), Vec::new(alloc), 1);
-    let status = aegean(alloc, &[], &mut source, &mut out, &mut err);
+    let status = without_a_word(alloc, &mut out, &mut err)?;
     assert_eq!(rt; status, Status::Usage);
     Ok(())
 }
@@ -232,6 +244,79 @@ fn worked_runs_of_scripts(rt: HostRuntime) -> Result<(), Fail> {
         assert_eq!(rt; out.taken(), text.as_bytes(), "{input}");
         assert_eq!(rt; err.taken(), note.as_bytes(), "{input}");
     }
+    Ok(())
+}
+
+/// Scripts in which nodes go down and come back, with what they print.
+#[test]
+fn scripts_of_power(rt: HostRuntime) -> Result<(), Fail> {
+    let alloc = rt.alloc();
+    let table = [
+        // The power goes at the third device call of an acceptance, and what was written stays: m1 reports the value that it
+        // accepted, and m2 offers it.
+        (
+            "tiers 1 depth 1\nlead m0\nflow\nsubmit 1 open 1 5 10 0\ndeliver 4\noffer m0\ncut 3 keep deliver 7\nrestart m1\nlead m2\ndeliver 13\ndeliver 14\noffer m2\n",
+            0,
+            "down m1 cut\nlog mid 0\nlog inv 0\nlog pay 0\npackets 20\n",
+            "",
+        ),
+        // At the second call what was not synced is lost: m1 comes back without the record, and m2 has nothing to offer.
+        (
+            "tiers 1 depth 1\nlead m0\nflow\nsubmit 1 open 1 5 10 0\ndeliver 4\noffer m0\ncut 2 drop deliver 7\nrestart m1\nlead m2\ndeliver 13\ndeliver 14\noffer m2\n",
+            0,
+            "down m1 cut\nidle m2 nothing\nlog mid 0\nlog inv 0\nlog pay 0\npackets 15\n",
+            "",
+        ),
+        // Commands name nodes that are down, up or gone, and a packet that was never sent.
+        (
+            "tiers 0 depth 1\noffer m0\ncrash m0\nlead m0\nrestart m0\nrestart m0\nwipe m0\nrestart m0\ndeliver 7\n",
+            0,
+            "idle m0 not-leader\nidle m0 down\nidle m0 up\ngone m0\nnone 7\nlog mid 0\nlog inv 0\nlog pay 0\npackets 0\n",
+            "",
+        ),
+        // Power is cut during a delivery, a lead or an offer alone.
+        (
+            "tiers 1 depth 1\ncut 1 keep flow\n",
+            2,
+            "",
+            "script: line 2 row 3\n",
+        ),
+        // An event has four device writes and syncs.
+        (
+            "tiers 1 depth 1\ncut 5 keep lead m0\n",
+            2,
+            "",
+            "script: line 2 row 3\n",
+        ),
+    ];
+    for (input, code, text, note) in table {
+        let mut out = MemSink::new(alloc, Vec::new(alloc), 10);
+        let mut err = MemSink::new(alloc, Vec::new(alloc), 10);
+        let bytes = Vec::from_slice(alloc, input.as_bytes())?;
+        let status = replay(alloc, bytes, 99, &mut out, &mut err)?;
+        assert_eq!(rt; status.code(), code, "{input}");
+        assert_eq!(rt; out.taken(), text.as_bytes(), "{input}");
+        assert_eq!(rt; err.taken(), note.as_bytes(), "{input}");
+    }
+    Ok(())
+}
+
+/// The fifth call of m0's disk is the first write of its first record: it fails, and m0 comes back without the record.
+#[test]
+fn a_failing_write_takes_a_node_down(rt: HostRuntime) -> Result<(), Fail> {
+    let alloc = rt.alloc();
+    let words = vec![in alloc; String::from_str(alloc, "replay")?]?;
+    let input = Vec::from_slice(alloc, b"tiers 0 depth 1\nlead m0\nrestart m0\noffer m0\n")?;
+    let mut source = MemSource::new(input, Vec::new(alloc), 4096);
+    let mut out = MemSink::new(alloc, Vec::new(alloc), 10);
+    let mut err = MemSink::new(alloc, Vec::new(alloc), 10);
+    let mut disks = memory_disks(alloc, vec![in alloc; 4]?)?;
+    let status = aegean(alloc, &words, &mut source, &mut out, &mut err, &mut disks);
+    assert_eq!(rt; status, Status::Done);
+    assert_eq!(rt;
+        out.taken(),
+        b"down m0 disk\nidle m0 not-leader\nlog mid 0\nlog inv 0\nlog pay 0\npackets 0\n".as_slice()
+    );
     Ok(())
 }
 

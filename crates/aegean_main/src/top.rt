@@ -2,12 +2,13 @@
 ghost use Rattle.std.specs.Prelude.{◌≡◌, ◌≤◌, ◌↔◌, ◌⊎◌, ◌∷◌, [], map, string_bytes, length, IfSome, IsTrue};
 ghost use Rattle.aeg_base.specs.declared.limits.TheConstants.{INPUT_BYTES};
 ghost use Rattle.aeg_io.specs.Causes.{Rose};
+ghost use Rattle.world.specs.Disks.{AreBlank};
 ghost use Rattle.aegean_main.specs.Answer.{answer_of};
 ghost use Rattle.aegean_main.specs.Report.{Tells};
 ghost use Rattle.aegean_main.specs.Running.{told_with};
 ghost use Rattle.aegean_main.specs.Status.{line_for};
 ghost use Rattle.aegean_main.specs.Replay.{Answers, PlaysOut, IsItsOwn};
-ghost use Rattle.aegean_main.specs.Top.{IsSingle, IsReplay, IsCommand, Follows, LeavesOut, TellsHistory};
+ghost use Rattle.aegean_main.specs.Top.{IsSingle, IsReplay, IsCommand, Follows, LeavesAlone, TellsHistory};
 
 use crate::count::BadLine;
 use crate::lines::has_lines_within;
@@ -16,13 +17,14 @@ use crate::report::report;
 use crate::run::{RunErr, Telling, run_lines};
 use crate::status::{LimitKind, Status};
 use aeg_base::limits::{INPUT_BYTES, INPUT_LINES};
+use aeg_disk::Device;
 use aeg_io::{Failed, ReadErr, Sink, Source, put_all, read_all};
 use std::alloc::Global;
 
 /// Writes what an input's steps told.
 fn send<K: Sink>(out: &mut K, telling: &Telling) -> Status
     ensures follows { Follows (told_with telling.now.text.items telling.now.refused) (K.taken out.old) (K.taken out.new) result }
-    ensures nothing { LeavesOut result (K.taken out.old) (K.taken out.new) }
+    ensures nothing { LeavesAlone result (K.taken out.old) (K.taken out.new) }
     ensures write { result ≡ Status.WriteFault → Rose (K.faults out.old) (K.faults out.new) }
     ensures read { ¬ (result ≡ Status.ReadFault) }
     ensures command { ¬ (result ≡ Status.Usage) }
@@ -41,7 +43,7 @@ fn send<K: Sink>(out: &mut K, telling: &Telling) -> Status
 fn answer<K: Sink>(alloc: Global, input: &[u8], out: &mut K) -> Status
     requires { length input.now ≤ INPUT_BYTES }
     ensures follows { Follows (answer_of input.now) (K.taken out.old) (K.taken out.new) result }
-    ensures nothing { LeavesOut result (K.taken out.old) (K.taken out.new) }
+    ensures nothing { LeavesAlone result (K.taken out.old) (K.taken out.new) }
     ensures write { result ≡ Status.WriteFault → Rose (K.faults out.old) (K.faults out.new) }
     ensures read { ¬ (result ≡ Status.ReadFault) }
     ensures command { ¬ (result ≡ Status.Usage) }
@@ -60,7 +62,7 @@ fn answer<K: Sink>(alloc: Global, input: &[u8], out: &mut K) -> Status
 /// Reads the input, answers it and writes what it tells.
 fn single_status<S: Source, K: Sink>(alloc: Global, source: &mut S, out: &mut K) -> Status
     ensures follows { IfSome (S.left source.old) (λ input. Follows (answer_of input) (K.taken out.old) (K.taken out.new) result) }
-    ensures nothing { LeavesOut result (K.taken out.old) (K.taken out.new) }
+    ensures nothing { LeavesAlone result (K.taken out.old) (K.taken out.new) }
     ensures read { result ≡ Status.ReadFault → Rose (S.faults source.old) (S.faults source.new) }
     ensures write { result ≡ Status.WriteFault → Rose (K.faults out.old) (K.faults out.new) }
     ensures command { ¬ (result ≡ Status.Usage) }
@@ -82,7 +84,7 @@ pub fn single_call<S: Source, K: Sink, E: Sink>(
     err: &mut E,
 ) -> Status
     ensures follows { IfSome (S.left source.old) (λ input. Follows (answer_of input) (K.taken out.old) (K.taken out.new) result) }
-    ensures nothing { LeavesOut result (K.taken out.old) (K.taken out.new) }
+    ensures nothing { LeavesAlone result (K.taken out.old) (K.taken out.new) }
     ensures read { result ≡ Status.ReadFault → Rose (S.faults source.old) (S.faults source.new) }
     ensures write { result ≡ Status.WriteFault → Rose (K.faults out.old) (K.faults out.new) }
     ensures command { ¬ (result ≡ Status.Usage) }
@@ -104,16 +106,19 @@ fn is_word(words: &[String], name: &str) -> bool
     }
 }
 
-/// All that the program does, for the words of its command line.
-pub fn aegean<S: Source, K: Sink, E: Sink>(
+/// All that the program does, for the words of its command line. `disks` are those of the nodes of `replay`.
+pub fn aegean<S: Source, K: Sink, E: Sink, D: Device>(
     alloc: Global,
     words: &[String],
     source: &mut S,
     out: &mut K,
     err: &mut E,
+    disks: &mut [D],
 ) -> Status
+    requires blank { AreBlank (map D.state disks.old) }
     ensures usage { (result ≡ Status.Usage) ↔ ¬ IsCommand (map string_bytes words.now) }
-    ensures nothing { LeavesOut result (K.taken out.old) (K.taken out.new) }
+    ensures nothing { LeavesAlone result (K.taken out.old) (K.taken out.new) }
+    ensures disks { LeavesAlone result disks.old disks.new }
     ensures read { result ≡ Status.ReadFault → Rose (S.faults source.old) (S.faults source.new) }
     ensures write { result ≡ Status.WriteFault → Rose (K.faults out.old) (K.faults out.new) }
     ensures tells { Tells (line_for result) (E.taken err.old) (E.taken err.new) (E.faults err.old) (E.faults err.new) }
@@ -124,17 +129,18 @@ pub fn aegean<S: Source, K: Sink, E: Sink>(
     // Without a fault and with memory the status is the one that the input has.
     ensures single_complete { IsSingle (map string_bytes words.now) → ¬ Rose (S.faults source.old) (S.faults source.new) → ¬ Rose (K.faults out.old) (K.faults out.new)
         → IfSome (S.left source.old) (λ input. (result ≡ (answer_of input).status) ⊎ (result ≡ Status.Memory)) }
-    ensures replay { IsReplay (map string_bytes words.now) → IfSome (S.left source.old) (λ input. Answers input (K.taken out.old) (K.taken out.new) result) }
+    ensures single_disks { IsSingle (map string_bytes words.now) → disks.new ≡ disks.old }
+    ensures replay { IsReplay (map string_bytes words.now) → IfSome (S.left source.old) (λ input. Answers input (map D.state disks.old) (map D.state disks.new) (K.taken out.old) (K.taken out.new) result) }
     // At the end of all input a whole run was written, and it keeps what every run keeps.
-    ensures replay_headline { IsReplay (map string_bytes words.now) → result ≡ Status.Done → IfSome (S.left source.old) (λ input. PlaysOut input (K.taken out.old) (K.taken out.new)) }
+    ensures replay_headline { IsReplay (map string_bytes words.now) → result ≡ Status.Done → IfSome (S.left source.old) (λ input. PlaysOut input (map D.state disks.old) (map D.state disks.new) (K.taken out.old) (K.taken out.new)) }
     ensures replay_complete { IsReplay (map string_bytes words.now) → ¬ Rose (S.faults source.old) (S.faults source.new) → ¬ Rose (K.faults out.old) (K.faults out.new)
-        → IfSome (S.left source.old) (λ input. IsItsOwn input result) }
+        → IfSome (S.left source.old) (λ input. IsItsOwn input (map D.state disks.old) (map D.state disks.new) result) }
 {
     if is_word(words, "single") {
         return single_call(alloc, source, out, err);
     }
     if is_word(words, "replay") {
-        return replay_call(alloc, source, out, err);
+        return replay_call(alloc, source, out, err, disks);
     }
     report(err, Status::Usage);
     Status::Usage
