@@ -22,7 +22,7 @@ tied Less e = absurd (cc)
 tied Equal e = refl
 tied Greater e = absurd (cc)
 
-same_key_eq : (q k : Key) → eq_by_cmp key_cmp q k ≡ true → q ≡ k
+pub same_key_eq : (q k : Key) → eq_by_cmp key_cmp q k ≡ true → q ≡ k
 same_key_eq q k e = key_cmp-IsAntisymmetric q k (tied (key_cmp q k) e)
 
 pub key_parts : (q k : Key) → same_key q k ≡ true → q ≡ k

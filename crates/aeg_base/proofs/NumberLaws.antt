@@ -10,15 +10,15 @@ use Rattle.std.specs.FinMap.Entries.{find, put, where_key, is_sorted, by_order, 
 use Rattle.std.specs.Ordering.{is_eq}
 use Rattle.aeg_base.specs.Numbers.{Numbers, no_numbers, no_zeros, is_canonical, same_entries, checked, number_at, entries_with, with_number}
 
-both : (a b : Bool) → T a → T b → T (a && b)
+pub both : (a b : Bool) → T a → T b → T (a && b)
 both true b p q = q
 both false b p q = p
 
-first : (a b : Bool) → T (a && b) → T a
+pub first : (a b : Bool) → T (a && b) → T a
 first true b p = tt
 first false b p = p
 
-second : (a b : Bool) → T (a && b) → T b
+pub second : (a b : Bool) → T (a && b) → T b
 second true b p = p
 second false b p = absurd p
 
@@ -111,7 +111,7 @@ number_at-entries m q = refl
 
 -- MAPS THAT ANSWER ALIKE
 
-not_found_zero : {K : Type 0} (R : K → K → Ordering) (q : K) (es : List (K × ℕ)) → T (no_zeros es) → find R q es ≢ Some 0
+pub not_found_zero : {K : Type 0} (R : K → K → Ordering) (q : K) (es : List (K × ℕ)) → T (no_zeros es) → find R q es ≢ Some 0
 not_found_zero R q [] h e = cc
 not_found_zero R q (x ∷ es) h e = at (eq_by_cmp R q x.0) (not_found_zero R q es (second (not (x.1 == 0)) (no_zeros es) h)) e
   where

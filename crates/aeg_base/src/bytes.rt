@@ -73,7 +73,8 @@ impl Bytes {
     pub fn copy(&self) -> Result<Self, Memory>
         ensures { IfOk result (λ copy. copy ≡ self.now) }
     {
-        let items = self.items.clone()?;
+        let mut items = Vec::with_capacity(self.allocator(), self.items.len())?;
+        items.extend_from_slice(&self.items)?;
         Ok(Bytes { items })
     }
 
