@@ -1,42 +1,18 @@
 -- The keys that an undo list names whose values differ are all that differ from the list's start.
-use Rattle.std.proofs.Common.{◌≡◌, ◌≢◌, ℕ, zero, suc, ◌==◌, Bool, true, false, cond, not, ◌&&◌, T, List, [], ◌∷◌, Option, Some, None, is_some, unwrap_or, if◌then◌else◌, refl, sym, ap, subst, ◌∙◌, arith}
+use Rattle.std.proofs.Common.{◌≡◌, ◌≢◌, ℕ, zero, suc, ◌==◌, Bool, true, false, cond, not, T, List, [], ◌∷◌, Option, Some, None, is_some, unwrap_or, if◌then◌else◌, refl, sym, ap, subst, ◌∙◌, arith}
 use Rattle.std.proofs.lemmas.Bool.Decides.{nat_tests}
-use Rattle.std.specs.Ordering.{nat_cmp, eq_by_cmp, is_lt}
-use Rattle.std.specs.Cmp.{unsigned_ties}
-use Rattle.std.specs.Cmp.Derive.{Tied, tie, then_tied, on_tied}
+use Rattle.std.specs.Ordering.{eq_by_cmp, is_lt}
 use Rattle.std.specs.FinMap.Entries.{find, put, is_sorted, below_all, find-put, is_sorted-put, same_entries}
 use Rattle.aeg_base.specs.declared.names.Key.{Key}
 use Rattle.aeg_base.specs.Numbers.{no_zeros}
 use Rattle.aeg_base.specs.Store.{Store, key_cmp, same_key, value_at, empty, pairs_of}
-use Rattle.aeg_base.proofs.NumberLaws.{number_at-entries}
+use Rattle.aeg_base.proofs.NumberLaws.{both, first, second, not_found_zero, number_at-entries}
 use Rattle.aeg_base.proofs.StoreLaws.{key_cmp_total, key_cmp-IsAntisymmetric, value_at-written, value_at-empty}
+use Rattle.aeg_base.proofs.ChangeLaws.{same_key_eq}
 use Rattle.kv_store.specs.Stores.{unwound, touched}
 use Rattle.aeg_base.specs.Changes.{changed_among, changes}
 use Rattle.kv_store.specs.Changes.{picked}
-use Rattle.kv_store.proofs.Flat.{both}
-
-ties_same_key : Tied same_key key_cmp
-ties_same_key = then_tied (on_tied (λ (k : Key). k.class) (tie nat_cmp unsigned_ties)) (on_tied (λ (k : Key). k.id) (tie nat_cmp unsigned_ties))
-
-first : (a b : Bool) → T (a && b) → T a
-first true b p = tt
-first false b p = p
-
-second : (a b : Bool) → T (a && b) → T b
-second true b p = p
-second false b p = absurd p
-
-one_key : (q k : Key) → same_key q k ≡ true → q ≡ k
-one_key q k e = λ i. record { class = classes i; id = ids i }
-  where
-    classes : q.class ≡ k.class
-    classes = grind (arith, nat_tests)
-
-    ids : q.id ≡ k.id
-    ids = grind (arith, nat_tests)
-
-same_of_tie : (q k : Key) → eq_by_cmp key_cmp q k ≡ true → q ≡ k
-same_of_tie q k e = one_key q k (ties_same_key.ties q k ∙ e)
+use Rattle.kv_store.proofs.Sizes.{sorted}
 
 -- WHAT IS FOUND IN WHAT CHANGED
 
@@ -57,8 +33,8 @@ find-among s t q (e ∷ es) pairs =
     find-among s t q es (if equal then pairs else put key_cmp e.0 (value_at t e.0) pairs)
     ∙ settle ties equal (value_at s q == value_at t q) (find key_cmp q es) (find key_cmp q (if equal then pairs else put key_cmp e.0 (value_at t e.0) pairs)) (find key_cmp q pairs) (Some (value_at t q)) (Some (value_at t e.0)) e.1
     (there equal)
-    (λ b. ap (λ k. value_at s k == value_at t k) (same_of_tie q e.0 b))
-    (λ b. ap (λ k. Some (value_at t k)) (same_of_tie q e.0 b))
+    (λ b. ap (λ k. value_at s k == value_at t k) (same_key_eq q e.0 b))
+    (λ b. ap (λ k. Some (value_at t k)) (same_key_eq q e.0 b))
   where
     equal : Bool
     equal = value_at s e.0 == value_at t e.0
@@ -74,23 +50,9 @@ find-among s t q (e ∷ es) pairs =
         one false = refl
     there false = find-put key_cmp key_cmp_total q e.0 (value_at t e.0) pairs
 
-not_found_zero : (q : Key) (es : List (Key × ℕ)) → T (no_zeros es) → find key_cmp q es ≢ Some 0
-not_found_zero q [] h e = cc
-not_found_zero q (x ∷ es) h e = at (eq_by_cmp key_cmp q x.0) (not_found_zero q es (second (not (x.1 == 0)) (no_zeros es) h)) e
-  where
-    positive : x.1 ≡ 0 → ⊥
-    positive z = subst (λ n. T (not (n == 0))) z (first (not (x.1 == 0)) (no_zeros es) h)
-
-    at : (b : Bool) → (find key_cmp q es ≢ Some 0) → cond b (Some x.1) (find key_cmp q es) ≡ Some 0 → ⊥
-    at true ih e = positive (ap (λ o. unwrap_or o 0) e)
-    at false ih e = ih e
-
-sorted : (s : Store) → T (is_sorted key_cmp s.entries)
-sorted s = first _ (no_zeros s.entries) s.canonical
-
 -- a key is found where its value is not 0
 found_at : (s : Store) (q : Key) → is_some (find key_cmp q s.entries) ≡ not (value_at s q == 0)
-found_at s q = at (find key_cmp q s.entries) (not_found_zero q s.entries (second (is_sorted key_cmp s.entries) (no_zeros s.entries) s.canonical)) ∙ ap (λ n. not (n == 0)) (sym (number_at-entries s q))
+found_at s q = at (find key_cmp q s.entries) (not_found_zero key_cmp q s.entries (second (is_sorted key_cmp s.entries) (no_zeros s.entries) s.canonical)) ∙ ap (λ n. not (n == 0)) (sym (number_at-entries s q))
   where
     at : (o : Option ℕ) → o ≢ Some 0 → is_some o ≡ not (unwrap_or o 0 == 0)
     at None h = refl
@@ -151,8 +113,8 @@ find-picked s t q (e ∷ es) =
     there (value_at t e.0 == value_at s e.0)
     ∙ ap (λ (r : Option ℕ). cond (value_at t e.0 == value_at s e.0) r (cond (eq_by_cmp key_cmp q e.0) (Some (value_at t e.0)) r)) (find-picked s t q es)
     ∙ pick_one (eq_by_cmp key_cmp q e.0) (value_at t e.0 == value_at s e.0) (value_at t q == value_at s q) (find key_cmp q es) (Some (value_at t q)) (Some (value_at t e.0)) e.1
-    (λ b. ap (λ k. value_at t k == value_at s k) (same_of_tie q e.0 b))
-    (λ b. ap (λ k. Some (value_at t k)) (same_of_tie q e.0 b))
+    (λ b. ap (λ k. value_at t k == value_at s k) (same_key_eq q e.0 b))
+    (λ b. ap (λ k. Some (value_at t k)) (same_key_eq q e.0 b))
   where
     there : (c : Bool) → find key_cmp q (cond c (picked s t es) ((e.0, value_at t e.0) ∷ picked s t es)) ≡ cond c (find key_cmp q (picked s t es)) (cond (eq_by_cmp key_cmp q e.0) (Some (value_at t e.0)) (find key_cmp q (picked s t es)))
     there true = refl

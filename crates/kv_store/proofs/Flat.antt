@@ -1,5 +1,5 @@
 -- The columns' pairs as one list: sorted, without zeros, and what is found there.
-use Rattle.std.proofs.Common.{◌≡◌, ◌≢◌, ℕ, zero, suc, ◌+◌, ◌<◌, ◌==◌, Bool, true, false, cond, not, ◌&&◌, T, List, [], ◌∷◌, ◌++◌, length, get_or, Option, Some, None, unwrap_or, refl, sym, ap, subst, ◌∙◌, inl, inr, ◌⊎◌, arith, Less, Equal, Ordering, length-append}
+use Rattle.std.proofs.Common.{◌≡◌, ◌≢◌, ℕ, zero, suc, ◌+◌, ◌<◌, ◌==◌, Bool, true, false, cond, not, T, List, [], ◌∷◌, ◌++◌, length, get_or, Option, Some, None, unwrap_or, refl, sym, ap, subst, ◌∙◌, inl, inr, ◌⊎◌, arith, Less, Equal, Ordering, length-append}
 use Rattle.std.proofs.lemmas.Bool.Decides.{nat_tests, eqb_tells}
 use Rattle.std.specs.Ordering.{nat_cmp, ordering_then, eq_by_cmp, is_lt}
 use Rattle.std.specs.Cmp.{unsigned_ties}
@@ -8,7 +8,7 @@ use Rattle.std.specs.FinMap.Entries.{find, is_sorted, below_all}
 use Rattle.aeg_base.specs.declared.names.Key.{Key}
 use Rattle.aeg_base.specs.Numbers.{checked, is_canonical, no_zeros}
 use Rattle.aeg_base.specs.Store.{Store, key_cmp, same_key, value_at, empty}
-use Rattle.aeg_base.proofs.NumberLaws.{number_at-entries}
+use Rattle.aeg_base.proofs.NumberLaws.{both, number_at-entries}
 use Rattle.kv_store.specs.Columns.{Pairs, found, id_at, IsRising, IsColumn, keyed, all_pairs, count_of}
 use Rattle.kv_store.proofs.Pairs.{found_absent}
 
@@ -77,10 +77,6 @@ find-all (suc class) id from (l ∷ ls) =
     ∙ find-all class id (from + 1) ls
 
 -- IN ORDER, WITHOUT ZEROS
-
-pub both : (a b : Bool) → T a → T b → T (a && b)
-both true b p q = q
-both false b p q = p
 
 below_class : (a b : ℕ) (id other : ℕ) → a < b → T (is_lt (key_cmp (key a id) (key b other)))
 below_class a b id other lt = subst (λ (o : Ordering). T (is_lt (ordering_then o (nat_cmp id other)))) (sym less) tt

@@ -1,20 +1,16 @@
 -- How many pairs a store has after a write.
-use Rattle.std.proofs.Common.{◌≡◌, ◌≢◌, ℕ, ◌+◌, ◌<◌, ◌≤◌, ◌==◌, Bool, true, false, cond, not, T, ◌&&◌, length, Option, None, is_some, ap, ◌∙◌, inl, inr, ◌⊎◌, arith}
+use Rattle.std.proofs.Common.{◌≡◌, ◌≢◌, ℕ, ◌+◌, ◌<◌, ◌≤◌, ◌==◌, Bool, true, false, cond, not, T, length, Option, None, is_some, ap, ◌∙◌, inl, inr, ◌⊎◌, arith}
 use Rattle.std.proofs.lemmas.Bool.Decides.{eqb_tells}
 use Rattle.std.specs.Ordering.{eq_by_cmp}
 use Rattle.std.specs.FinMap.Entries.{find, put, where_key, is_sorted, length-put, length_without}
 use Rattle.aeg_base.specs.declared.names.Key.{Key}
 use Rattle.aeg_base.specs.Numbers.{no_zeros}
 use Rattle.aeg_base.specs.Store.{Store, key_cmp, written}
-use Rattle.aeg_base.proofs.NumberLaws.{entries-with_number}
+use Rattle.aeg_base.proofs.NumberLaws.{first, entries-with_number}
 use Rattle.aeg_base.proofs.StoreLaws.{key_cmp_total}
 use Rattle.kv_store.specs.Stores.{size}
 
-first : (a b : Bool) → T (a && b) → T a
-first true b p = tt
-first false b p = p
-
-sorted : (s : Store) → T (is_sorted key_cmp s.entries)
+pub sorted : (s : Store) → T (is_sorted key_cmp s.entries)
 sorted s = first _ (no_zeros s.entries) s.canonical
 
 more : (b : Bool) (n : ℕ) → cond b n (n + 1) ≤ n + 1

@@ -1,9 +1,10 @@
 -- What taking puts back gives.
 use Rattle.std.proofs.Common.{◌≡◌, ℕ, zero, suc, ◌<◌, ◌≤◌, Bool, true, false, cond, List, [], ◌∷◌, ◌++◌, length, get_or, take, drop, max, refl, sym, ap, subst, ◌∙◌, arith, take-append-drop}
-use Rattle.std.proofs.lemmas.Bool.Decides.{nat_tests}
+use Rattle.std.proofs.lemmas.List.{drop-append-le, take-take}
 use Rattle.aeg_base.specs.declared.names.Key.{Key}
 use Rattle.aeg_base.specs.Store.{Store, same_key, value_at, written}
 use Rattle.aeg_base.proofs.StoreLaws.{value_at-written, same_store}
+use Rattle.aeg_base.proofs.ChangeLaws.{key_parts}
 use Rattle.kv_store.specs.Stores.{size, unwound, StaysWithin, AreKeys}
 
 pub unwound-snoc : (es : List (Key × ℕ)) (e : Key × ℕ) (s : Store) → unwound (es ++ e ∷ []) s ≡ unwound es (written s e.0 e.1)
@@ -15,17 +16,8 @@ pub written_back : (s : Store) (k : Key) (v : ℕ) → written (written s k v) k
 written_back s k v = same_store (written (written s k v) k (value_at s k)) s (λ q.
     value_at-written (written s k v) k (value_at s k) q ∙ ap (cond (same_key q k) (value_at s k)) (value_at-written s k v q) ∙ at q (same_key q k) refl)
   where
-    one : (q : Key) → same_key q k ≡ true → q ≡ k
-    one q e = λ i. record { class = (classes e) i; id = (ids e) i }
-      where
-        classes : same_key q k ≡ true → q.class ≡ k.class
-        classes e = grind (arith, nat_tests)
-
-        ids : same_key q k ≡ true → q.id ≡ k.id
-        ids e = grind (arith, nat_tests)
-
     at : (q : Key) (b : Bool) → same_key q k ≡ b → cond b (value_at s k) (cond b v (value_at s q)) ≡ value_at s q
-    at q true e = ap (value_at s) (sym (one q e))
+    at q true e = ap (value_at s) (sym (key_parts q k e))
     at q false e = refl
 
 pub start_kept : (es : List (Key × ℕ)) (s : Store) (k : Key) (v : ℕ) → unwound (es ++ (k, value_at s k) ∷ []) (written s k v) ≡ unwound es s
@@ -57,38 +49,19 @@ pub key_last : (es : List (Key × ℕ)) (e : Key × ℕ) → AreKeys (es ++ e �
 key_last [] e h = h.0
 key_last (x ∷ es) e h = key_last es e h.1
 
-unwound-append : (xs ys : List (Key × ℕ)) (s : Store) → unwound (xs ++ ys) s ≡ unwound xs (unwound ys s)
+pub unwound-append : (xs ys : List (Key × ℕ)) (s : Store) → unwound (xs ++ ys) s ≡ unwound xs (unwound ys s)
 unwound-append [] ys s = refl
 unwound-append (x ∷ xs) ys s = ap (λ t. written t x.0 x.1) (unwound-append xs ys s)
-
-drop-front : {A : Type 0} (m : ℕ) (xs ys : List A) → m ≤ length xs → drop m (xs ++ ys) ≡ drop m xs ++ ys
-drop-front zero xs ys le = refl
-drop-front (suc m) [] ys le = absurd (omega arith)
-drop-front (suc m) (x ∷ xs) ys le = drop-front m xs ys (omega arith)
 
 -- what is left of a list is taken back after what was
 pub undone_more : (all es : List (Key × ℕ)) (m : ℕ) (s : Store) → es ≡ take (length es) all → m ≤ length es → unwound (drop m es) (unwound (drop (length es) all) s) ≡ unwound (drop m all) s
 undone_more all es m s e le =
     sym (unwound-append (drop m es) (drop (length es) all) s)
-    ∙ ap (λ xs. unwound xs s) (sym (drop-front m es (drop (length es) all) le) ∙ ap (drop m) (ap (λ xs. xs ++ drop (length es) all) e ∙ take-append-drop (length es) all))
-
-pub drop_last : {A : Type 0} (xs : List A) (x : A) → drop (length xs) (xs ++ x ∷ []) ≡ x ∷ []
-drop_last [] x = refl
-drop_last (y ∷ xs) x = drop_last xs x
-
-pub take_front : {A : Type 0} (xs ys : List A) → xs ≡ take (length xs) (xs ++ ys)
-take_front [] ys = refl
-take_front (x ∷ xs) ys = ap (λ zs. x ∷ zs) (take_front xs ys)
-
-take_take : {A : Type 0} (n m : ℕ) (xs : List A) → n ≤ m → take n (take m xs) ≡ take n xs
-take_take zero m xs le = refl
-take_take (suc n) zero xs le = absurd (omega arith)
-take_take (suc n) (suc m) [] le = refl
-take_take (suc n) (suc m) (x ∷ xs) le = ap (λ ys. x ∷ ys) (take_take n m xs (omega arith))
+    ∙ ap (λ xs. unwound xs s) (sym (drop-append-le m es (drop (length es) all) le) ∙ ap (drop m) (ap (λ xs. xs ++ drop (length es) all) e ∙ take-append-drop (length es) all))
 
 -- a front of a front
 pub front_more : {A : Type 0} (all es fs : List A) → es ≡ take (length es) all → fs ≡ take (length fs) es → length fs ≤ length es → fs ≡ take (length fs) all
-front_more all es fs e f le = f ∙ ap (take (length fs)) e ∙ take_take (length fs) (length es) all le
+front_more all es fs e f le = f ∙ ap (take (length fs)) e ∙ take-take (length fs) (length es) all le
 
 -- what a put and its entry leave
 module _ (es es' : List (Key × ℕ)) (s s' : Store) (k : Key) (v held : ℕ) (put : s' ≡ written s k v) (is : held ≡ value_at s k) (log : es' ≡ es ++ (k, held) ∷ []) where

@@ -9,7 +9,7 @@ use Rattle.aeg_base.specs.declared.names.Key.{Key}
 use Rattle.std.specs.FinMap.Entries.{find}
 use Rattle.aeg_base.specs.Store.{key_cmp, same_key, written, empty}
 use Rattle.aeg_base.proofs.StoreLaws.{value_at-written, value_at-empty, same_store}
-use Rattle.kv_store.specs.Columns.{keyed, all_pairs, AreEmpty, Pairs, found, IsColumn, AreColumns, map_of, lists_of, count_of}
+use Rattle.kv_store.specs.Columns.{keyed, all_pairs, AreEmpty, Pairs, found, IsRising, IsColumn, AreColumns, map_of, lists_of, count_of}
 use Rattle.kv_store.proofs.Flat.{key, find-all, entries-store_of, store_of, value_at-store_of, size-store_of}
 use Rattle.kv_store.proofs.Sizes.{size-new}
 use Rattle.kv_store.specs.Stores.{size}
@@ -77,64 +77,79 @@ count_most [] class = omega arith
 count_most (l ∷ ls) zero = omega arith
 count_most (l ∷ ls) (suc class) = let h = count_most ls class in omega arith
 
--- columns that are a store's, and a key of it
-module _ (vectors : List (Vec (ℕ × ℕ) Global)) (count room : ℕ) (h : AreColumns vectors count room) (k : Key) (small : k.class < 8) (v : Vec (ℕ × ℕ) Global) where
-  here : k.class < length vectors
+-- what is written is no 0
+positive_after : (l l' : Pairs) (id : ℕ) (o : Option ℕ) → o ≢ Some 0 → ((q : ℕ) → found l q ≢ Some 0) → ((q : ℕ) → found l' q ≡ (if q == id then o else found l q)) → (q : ℕ) → found l' q ≢ Some 0
+positive_after l l' id o some h finds q e = at (q == id) (sym (finds q) ∙ e)
+  where
+    at : (b : Bool) → cond b o (found l q) ≡ Some 0 → ⊥
+    at true e = some e
+    at false e = h q e
+
+-- columns that are a store's, and a key of it with the place of its column
+module _ (vectors : List (Vec (ℕ × ℕ) Global)) (count room : ℕ) (h : AreColumns vectors count room) (k : Key) (small : k.class < 8) (class : ℕ) (place : class ≡ k.class) (v : Vec (ℕ × ℕ) Global) where
+  here : class < length vectors
   here = let e = h.eight in omega arith
 
-  pub column_at : IsColumn (get_or vectors k.class v).items
-  column_at = subst IsColumn (get-lists vectors k.class v here) (h.columns k.class)
+  pub column_at : IsColumn (get_or vectors class v).items
+  column_at = subst IsColumn (get-lists vectors class v here) (h.columns class)
 
-  pub column_fits : length (get_or vectors k.class v).items ≤ count
-  column_fits =
-      let e = h.counted in let m = count_most (lists_of vectors) k.class in
-      let l : length (get_or (lists_of vectors) k.class []) ≡ length (get_or vectors k.class v).items = ap (λ x. length x) (get-lists vectors k.class v here) in omega arith
+  same_length : length (get_or (lists_of vectors) class []) ≡ length (get_or vectors class v).items
+  same_length = ap (λ x. length x) (get-lists vectors class v here)
+
+  pub column_fits : length (get_or vectors class v).items ≤ count
+  column_fits = let e = h.counted in let m = count_most (lists_of vectors) class in let l = same_length in omega arith
+
+  pub column_room : room ≤ vec_capacity (get_or vectors class v)
+  column_room = h.roomy class (omega arith) v
 
   pub store_size : length (map_of vectors).entries ≡ count
   store_size = size-store_of (lists_of vectors) h.columns ∙ sym h.counted
 
   -- a new key's pair is one more
-  pub room_for : (value : ℕ) → 0 < value → found (get_or vectors k.class v).items k.id ≡ None → size (written (map_of vectors) k value) ≤ room → count + 1 ≤ room
+  pub room_for : (value : ℕ) → 0 < value → found (get_or vectors class v).items k.id ≡ None → size (written (map_of vectors) k value) ≤ room → count + 1 ≤ room
   room_for value pos none fits =
       let finds : find key_cmp k (map_of vectors).entries ≡ None =
       ap (find key_cmp k) (entries-store_of (lists_of vectors) h.columns)
-      ∙ ap (λ n. find key_cmp (key n k.id) (all_pairs 0 (lists_of vectors))) (let e : k.class ≡ 0 + k.class = omega arith in e)
-      ∙ find-all k.class k.id 0 (lists_of vectors) ∙ ap (λ l. found l k.id) (get-lists vectors k.class v here) ∙ none in
+      ∙ ap (λ n. find key_cmp (key n k.id) (all_pairs 0 (lists_of vectors))) (let e : k.class ≡ 0 + class = omega arith in e)
+      ∙ find-all class k.id 0 (lists_of vectors) ∙ ap (λ l. found l k.id) (get-lists vectors class v here) ∙ none in
       let one = size-new (map_of vectors) k value pos finds in
       let many = store_size in omega arith
 
-  module _ (v' : Vec (ℕ × ℕ) Global) (o : Option ℕ) (column : IsColumn v'.items) (finds : (q : ℕ) → found v'.items q ≡ (if q == k.id then o else found (get_or vectors k.class v).items q)) where
-    writes : Writes (get_or (lists_of vectors) k.class []) v'.items k.id o
-    writes = record { column = column; finds = λ q. finds q ∙ ap (λ l. if q == k.id then o else found l q) (sym (get-lists vectors k.class v here)) }
+  module _ (v' : Vec (ℕ × ℕ) Global) (o : Option ℕ) (some : o ≢ Some 0) (rising : IsRising v'.items) (finds : (q : ℕ) → found v'.items q ≡ (if q == k.id then o else found (get_or vectors class v).items q)) where
+    column : IsColumn v'.items
+    column = record { rising = rising; positive = positive_after _ _ k.id o some column_at.positive finds }
 
-    here' : k.class < length (lists_of vectors)
+    writes : Writes (get_or (lists_of vectors) k.class []) v'.items k.id o
+    writes = record { column = column; finds = λ q. finds q ∙ ap (λ l. if q == k.id then o else found l q) (sym (get-lists vectors class v here) ∙ ap (λ n. get_or (lists_of vectors) n []) place) }
+
+    here' : class < length (lists_of vectors)
     here' = let e = length-lists vectors in let f = here in omega arith
 
-    pub map_after : map_of (set vectors k.class v') ≡ written (map_of vectors) k (unwrap_or o 0)
-    map_after = ap store_of (lists-set vectors k.class v') ∙ written_after (lists_of vectors) k v'.items o h.columns here' writes
+    pub map_after : map_of (set vectors class v') ≡ written (map_of vectors) k (unwrap_or o 0)
+    map_after = ap (λ n. map_of (set vectors n v')) place ∙ ap store_of (lists-set vectors k.class v') ∙ written_after (lists_of vectors) k v'.items o h.columns (let lt = here' in omega arith) writes
 
-    pub still_columns : (count' : ℕ) → vec_capacity (get_or vectors k.class v) ≤ vec_capacity v' → count' + length (get_or vectors k.class v).items ≡ count + length v'.items → count' ≤ room → AreColumns (set vectors k.class v') count' room
+    pub still_columns : (count' : ℕ) → vec_capacity (get_or vectors class v) ≤ vec_capacity v' → count' + length (get_or vectors class v).items ≡ count + length v'.items → count' ≤ room → AreColumns (set vectors class v') count' room
     still_columns count' capacity counts within = record {
-      eight = length-set vectors k.class v' ∙ h.eight;
-      columns = λ class. subst (λ (ls : List Pairs). IsColumn (get_or ls class [])) (sym (lists-set vectors k.class v')) (columns_after (lists_of vectors) k.class v'.items h.columns here' column class);
-      roomy = λ class lt d. roomy class lt d (class == k.class) (eqb_tells class k.class);
+      eight = length-set vectors class v' ∙ h.eight;
+      columns = λ other. subst (λ (ls : List Pairs). IsColumn (get_or ls other [])) (sym (lists-set vectors class v')) (columns_after (lists_of vectors) class v'.items h.columns here' column other);
+      roomy = λ other lt d. roomy other lt d (other == class) (eqb_tells other class);
       counted =
-          let a = count_after (lists_of vectors) k.class v'.items here' in
-          let b : length (get_or (lists_of vectors) k.class []) ≡ length (get_or vectors k.class v).items = ap (λ x. length x) (get-lists vectors k.class v here) in
-          let c : count_of (lists_of (set vectors k.class v')) ≡ count_of (set (lists_of vectors) k.class v'.items) = ap count_of (lists-set vectors k.class v') in
+          let a = count_after (lists_of vectors) class v'.items here' in
+          let b = same_length in
+          let c : count_of (lists_of (set vectors class v')) ≡ count_of (set (lists_of vectors) class v'.items) = ap count_of (lists-set vectors class v') in
           let e = h.counted in omega arith;
       within = within;
     }
       where
-        roomy : (class : ℕ) → class < 8 → (d : Vec (ℕ × ℕ) Global) (b : Bool) → ((b ≡ true) × (class ≡ k.class)) ⊎ ((b ≡ false) × (class ≢ k.class)) → room ≤ vec_capacity (get_or (set vectors k.class v') class d)
-        roomy class lt d true (inl z) =
-            let a = h.roomy k.class small v in
-            let b : vec_capacity (get_or (set vectors k.class v') class d) ≡ vec_capacity v' = ap vec_capacity (ap (λ n. get_or (set vectors k.class v') n d) z.1 ∙ get_or-set_same vectors k.class v' d here) in omega arith
-        roomy class lt d true (inr z) = cc
-        roomy class lt d false (inl z) = cc
-        roomy class lt d false (inr z) =
-            let a = h.roomy class lt d in
-            let b : vec_capacity (get_or (set vectors k.class v') class d) ≡ vec_capacity (get_or vectors class d) = ap vec_capacity (get_or-set_other vectors k.class class v' d z.1) in omega arith
+        roomy : (other : ℕ) → other < 8 → (d : Vec (ℕ × ℕ) Global) (b : Bool) → ((b ≡ true) × (other ≡ class)) ⊎ ((b ≡ false) × (other ≢ class)) → room ≤ vec_capacity (get_or (set vectors class v') other d)
+        roomy other lt d true (inl z) =
+            let a = column_room in
+            let b : vec_capacity (get_or (set vectors class v') other d) ≡ vec_capacity v' = ap vec_capacity (ap (λ n. get_or (set vectors class v') n d) z.1 ∙ get_or-set_same vectors class v' d here) in omega arith
+        roomy other lt d true (inr z) = cc
+        roomy other lt d false (inl z) = cc
+        roomy other lt d false (inr z) =
+            let a = h.roomy other lt d in
+            let b : vec_capacity (get_or (set vectors class v') other d) ≡ vec_capacity (get_or vectors other d) = ap vec_capacity (get_or-set_other vectors class other v' d z.1) in omega arith
 
 no_values : (vectors : List (Vec (ℕ × ℕ) Global)) → ((class : ℕ) → get_or (lists_of vectors) class [] ≡ []) → (class : ℕ) → IsColumn (get_or (lists_of vectors) class [])
 no_values vectors h class = subst IsColumn (sym (h class)) (record { rising = λ i j lt in_range. absurd (omega arith); positive = λ id e. cc })
@@ -142,21 +157,6 @@ no_values vectors h class = subst IsColumn (sym (h class)) (record { rising = λ
 pub no_pairs : (vectors : List (Vec (ℕ × ℕ) Global)) → ((class : ℕ) → get_or (lists_of vectors) class [] ≡ []) → map_of vectors ≡ empty
 no_pairs vectors h = same_store (map_of vectors) empty (λ q.
     value_at-store_of (lists_of vectors) (no_values vectors h) q ∙ ap (λ l. unwrap_or (found l q.id) 0) (h q.class) ∙ sym (value_at-empty q))
-
--- a written value is no 0
-pub positive_after : (l l' : Pairs) (id value : ℕ) → 0 < value → ((q : ℕ) → found l q ≢ Some 0) → ((q : ℕ) → found l' q ≡ (if q == id then Some value else found l q)) → (q : ℕ) → found l' q ≢ Some 0
-positive_after l l' id value pos h finds q e = at (q == id) (sym (finds q) ∙ e)
-  where
-    at : (b : Bool) → cond b (Some value) (found l q) ≡ Some 0 → ⊥
-    at true e = let z : value ≡ 0 = ap (λ o. unwrap_or o 0) e in omega arith
-    at false e = h q e
-
-pub positive_without : (l l' : Pairs) (id : ℕ) → ((q : ℕ) → found l q ≢ Some 0) → ((q : ℕ) → found l' q ≡ (if q == id then None else found l q)) → (q : ℕ) → found l' q ≢ Some 0
-positive_without l l' id h finds q e = at (q == id) (sym (finds q) ∙ e)
-  where
-    at : (b : Bool) → cond b None (found l q) ≡ Some 0 → ⊥
-    at true e = cc
-    at false e = h q e
 
 pub all_empty : (vectors : List (Vec (ℕ × ℕ) Global)) → AreEmpty vectors → (class : ℕ) → get_or (lists_of vectors) class [] ≡ []
 all_empty [] h class = refl

@@ -1,8 +1,9 @@
-use Rattle.std.proofs.Common.{◌≡◌, ℕ, List, length, take, drop, [], ◌∷◌, sym, ap, subst, ◌∙◌, le_trans}
+use Rattle.std.proofs.Common.{◌≡◌, ℕ, List, length, take, drop, [], ◌∷◌, sym, ap, subst, ◌∙◌, refl, le_trans}
+use Rattle.std.proofs.lemmas.List.{take_at, drop_at}
 use Rattle.aeg_base.specs.declared.names.Key.{Key}
 use Rattle.aeg_base.specs.Store.{Store, written}
 use Rattle.kv_store.specs.Stores.{unwound, StaysWithin}
-use Rattle.kv_store.proofs.Unwinding.{stays_before, stays_last, drop_last, take_front}
+use Rattle.kv_store.proofs.Unwinding.{stays_before, stays_last}
 use Rattle.kv_store.proofs.store.Store.take_back.Goals as goal
 
 pub write-requires-clause-room : goal.write-requires-clause-room
@@ -12,12 +13,12 @@ write-requires-clause-room c =
 pub returns-clause-map : goal.returns-clause-map
 returns-clause-map c =
     let es = c.newest-value.new.self.entries in
-    c.write.ensures.map ∙ sym (ap (λ (es : List (Key × ℕ)). unwound es c.args.self.now.map) (ap (drop (length es)) c.newest-value.ensures.entries ∙ drop_last es c.newest-value.result))
+    c.write.ensures.map ∙ sym (ap (λ (es : List (Key × ℕ)). unwound es c.args.self.now.map) (ap (drop (length es)) c.newest-value.ensures.entries ∙ drop_at es (c.newest-value.result ∷ []) (length es) refl))
 
 pub returns-clause-entries : goal.returns-clause-entries
 returns-clause-entries c =
     let es = c.newest-value.new.self.entries in
-    subst (λ (all : List (Key × ℕ)). es ≡ take (length es) all) (sym c.newest-value.ensures.entries) (take_front es (c.newest-value.result ∷ []))
+    subst (λ (all : List (Key × ℕ)). es ≡ take (length es) all) (sym c.newest-value.ensures.entries) (sym (take_at es (c.newest-value.result ∷ []) (length es) refl))
 
 pub returns-clause-left : goal.returns-clause-left
 returns-clause-left c =

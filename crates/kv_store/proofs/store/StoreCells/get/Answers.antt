@@ -8,8 +8,7 @@ use Rattle.kv_store.proofs.store.StoreCells.get.Goals as goal
 
 pub find-requires : goal.find-requires
 find-requires c =
-    let d = c.index-self-from.result in
-    subst IsRising (sym c.deref.ensures.value) (subst (λ n. IsRising (slice_index_or c.self.inside.columns n d).items) (sym c.from.ensures) (column_at _ _ _ c.self.invariant c.args.key c.if-key-lt8.true d).rising)
+    subst IsRising (sym c.deref.ensures.value) (column_at _ _ _ c.self.invariant c.args.key c.if-key-lt8.true _ c.from.ensures c.index-self-from.result).rising
 
 pub returns-then-key-lt8 : goal.returns-then-key-lt8
 returns-then-key-lt8 c =
