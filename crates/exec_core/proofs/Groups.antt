@@ -1,6 +1,6 @@
 -- A loop over the groups.
-use Rattle.std.proofs.Common.{◌≡◌, ℕ, suc, zero, ◌+◌, ◌<◌, ◌≤◌, ◌==◌, Bool, true, false, ◌||◌, List, [], ◌∷◌, ◌++◌, length, get_or, drop, Option, refl, sym, ap, subst, ◌∙◌, cond, arith}
-use Rattle.std.proofs.lemmas.Bool.Decides.{nat_tests}
+use Rattle.std.proofs.Common.{◌≡◌, ℕ, suc, zero, ◌+◌, ◌<◌, ◌≤◌, Bool, true, false, List, [], ◌∷◌, ◌++◌, length, get_or, drop, Option, refl, sym, ap, subst, ◌∙◌, cond, arith}
+use Rattle.std.proofs.lemmas.Bool.{or_left, or_right}
 use Rattle.std.specs.List.{All}
 use Rattle.std.specs.declared.vec.Vec.{Vec}
 use Rattle.std.specs.declared.alloc.Global.{Global}
@@ -8,7 +8,7 @@ use Rattle.svc_api.specs.Plan.{Plan}
 use Rattle.aeg_base.specs.Store.{Store}
 use Rattle.exec_model.specs.Machine.{State, Progress, mem, is_running, any_running, concat, act, turns, finish, complete}
 use Rattle.exec_model.specs.Groups.{times, AreFull}
-use Rattle.exec_model.proofs.Basics.{times-append, times-mem}
+use Rattle.exec_model.proofs.Basics.{mem-first, times-append, times-mem}
 use Rattle.exec_model.proofs.Inv.{any_running-true}
 use Rattle.exec_model.proofs.Finish.{mem-append}
 use Rattle.exec_core.specs.declared.machine.Machine.{Machine}
@@ -41,6 +41,7 @@ times_concat_drop j (g ∷ gs) (suc k) = let a = times-append j g (concat gs) in
 
 -- what the group at k is
 pub record At (n : ℕ) (q : ℕ → Progress) (all : List (List ℕ)) (k : ℕ) (g : List ℕ) : Type 0 where
+  pub here : drop k all ≡ g ∷ drop (k + 1) all
   pub members : All (λ j. j < n) g
   pub numbers : All (λ j. j < 255) g
   pub once : (j : ℕ) → times j g ≤ 1
@@ -49,14 +50,11 @@ pub record At (n : ℕ) (q : ℕ → Progress) (all : List (List ℕ)) (k : ℕ)
   pub apart : (j : ℕ) → mem j (concat (drop (k + 1) all)) ≡ true → mem j g ≡ false
   pub later : (j : ℕ) → mem j (concat (drop (k + 1) all)) ≡ true → is_running (q j) ≡ true
 
-or_right : (a b : Bool) → b ≡ true → (a || b) ≡ true
-or_right true b h = refl
-or_right false b h = h
-
-pub at_group : (n : ℕ) (q : ℕ → Progress) (all : List (List ℕ)) (k : ℕ) (g : List ℕ) → drop k all ≡ g ∷ drop (k + 1) all → AreMembers n all → AreFull all → ((j : ℕ) → times j (concat all) ≤ 1) → ((j : ℕ) → mem j (concat (drop k all)) ≡ true → is_running (q j) ≡ true) → At n q all k g
-at_group n q all k g d m f one run =
+at_list : (n : ℕ) (q : ℕ → Progress) (all : List (List ℕ)) (k : ℕ) (g : List ℕ) → drop k all ≡ g ∷ drop (k + 1) all → AreMembers n all → AreFull all → ((j : ℕ) → times j (concat all) ≤ 1) → ((j : ℕ) → mem j (concat (drop k all)) ≡ true → is_running (q j) ≡ true) → At n q all k g
+at_list n q all k g d m f one run =
     let m' = subst (AreMembers n) d (members_drop n all k m) in
     record {
+      here = d;
       members = m'.0;
       numbers = m'.1;
       once = λ j. let a = once_both j in omega arith;
@@ -71,22 +69,22 @@ at_group n q all k g d m f one run =
         let c : times j (concat (drop k all)) ≡ times j (g ++ concat (drop (k + 1) all)) = ap (λ x. times j (concat x)) d in
         let e = times-append j g (concat (drop (k + 1) all)) in omega arith
 
-    left : (a b : Bool) → a ≡ true → (a || b) ≡ true
-    left true b h = refl
-    left false b h = cc
-
     run' : (j : ℕ) → mem j g ≡ true → is_running (q j) ≡ true
-    run' j h = run j (ap (λ x. mem j (concat x)) d ∙ mem-append j g (concat (drop (k + 1) all)) ∙ left (mem j g) _ h)
+    run' j h = run j (ap (λ x. mem j (concat x)) d ∙ mem-append j g (concat (drop (k + 1) all)) ∙ or_left (mem j g) _ h)
 
     some : (g : List ℕ) → AreFull (g ∷ drop (k + 1) all) → ((j : ℕ) → mem j g ≡ true → is_running (q j) ≡ true) → any_running q g ≡ true
     some [] f r = absurd f
     some (x ∷ xs) f r =
-        let e : (x == x) ≡ true = grind (arith, nat_tests) in
-        let m : mem x (x ∷ xs) ≡ true = ap (λ b. b || mem x xs) e in any_running-true q (x ∷ xs) x m (r x m)
+        let m = mem-first x xs in any_running-true q (x ∷ xs) x m (r x m)
 
     by : (j : ℕ) (c : Bool) → mem j g ≡ c → mem j (concat (drop (k + 1) all)) ≡ true → c ≡ false
     by j false e h = refl
     by j true e h = let a = times-mem j g e in let b = times-mem j _ h in let c = once_both j in absurd (omega arith)
+
+pub at_group : (n : ℕ) (q : ℕ → Progress) (groups : List (Vec ℕ Global)) (k : ℕ) (v : Vec ℕ Global) (g : List ℕ) → k < length groups → v ≡ get_or groups k v → g ≡ v.items
+    → AreMembers n (lists_of groups) → AreFull (lists_of groups) → ((j : ℕ) → times j (concat (lists_of groups)) ≤ 1) → ((j : ℕ) → mem j (concat (drop k (lists_of groups))) ≡ true → is_running (q j) ≡ true)
+    → At n q (lists_of groups) k g
+at_group n q groups k v g lt is same = at_list n q (lists_of groups) k g (groups_at groups k v lt is ∙ ap (λ xs. xs ∷ drop (k + 1) (lists_of groups)) (sym same))
 
 -- the run goes on with the next group
 pub run-more : {P : Type 0} (plan : P → Option ℕ → Plan) (plans : ℕ → Plan) (all : List (List ℕ)) (k : ℕ) (g : List ℕ) (m m1 m2 : Machine P) (s s1 b1 s2 b2 : Store) (o o2 : List ℕ) (rest rest2 : List ℕ) (t : State)

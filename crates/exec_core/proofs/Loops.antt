@@ -1,6 +1,7 @@
 -- One more member of a group.
-use Rattle.std.proofs.Common.{◌≡◌, ◌≢◌, ℕ, suc, zero, ◌+◌, ◌<◌, ◌≤◌, ◌==◌, Bool, true, false, ◌||◌, List, [], ◌∷◌, length, get_or, set, drop, Option, Some, None, sym, ap, ◌∙◌, inl, inr, ◌⊎◌, cond, arith, drop-cons}
+use Rattle.std.proofs.Common.{◌≡◌, ◌≢◌, ℕ, suc, zero, ◌+◌, ◌<◌, ◌≤◌, ◌==◌, Bool, true, false, ◌||◌, List, [], ◌∷◌, length, get_or, set, drop, Option, Some, None, sym, ap, subst, ◌∙◌, inl, inr, ◌⊎◌, cond, arith}
 use Rattle.std.proofs.lemmas.Bool.Decides.{nat_tests, eqb_tells}
+use Rattle.std.proofs.lemmas.List.{drop_more}
 use Rattle.svc_api.specs.declared.action.Ending.{Ending}
 use Rattle.svc_api.specs.Plan.{Plan, store_after, ending_of}
 use Rattle.aeg_base.specs.Store.{Store}
@@ -10,15 +11,16 @@ use Rattle.std.specs.List.{All}
 use Rattle.std.proofs.lemmas.List.Elements.{All-tail}
 use Rattle.exec_model.specs.Groups.{times}
 use Rattle.exec_model.proofs.Basics.{serial_end-none}
+use Rattle.exec_model.specs.declared.job.Seg.{Seg}
+use Rattle.exec_model.specs.Jobs.{Beginnings}
+use Rattle.exec_core.specs.declared.machine.Machine.{Machine}
 use Rattle.exec_core.specs.declared.machine.Slot.{Slot}
 use Rattle.exec_core.specs.States.{progress_of}
+use Rattle.exec_core.specs.Rounds.{CanRun, LeavesOthers, RunsOn}
 use Rattle.exec_core.proofs.OneStep.{progress_of-set}
 
-pub drop_at : (xs : List ℕ) (k : ℕ) → k < length xs → drop k xs ≡ get_or xs k 0 ∷ drop (k + 1) xs
-drop_at xs k h = let e : suc k ≡ k + 1 = omega arith in drop-cons xs k 0 h ∙ ap (λ n. get_or xs k 0 ∷ drop n xs) e
-
 pub any_running-drop : (q : ℕ → Progress) (xs : List ℕ) (k : ℕ) → k < length xs → any_running q (drop k xs) ≡ (is_running (q (get_or xs k 0)) || any_running q (drop (k + 1) xs))
-any_running-drop q xs k h = ap (any_running q) (drop_at xs k h)
+any_running-drop q xs k h = ap (any_running q) (drop_more xs k 0 h)
 
 times-drop : (i k : ℕ) (xs : List ℕ) → times i (drop k xs) ≤ times i xs
 times-drop i zero xs = omega arith
@@ -26,7 +28,7 @@ times-drop i (suc k) [] = omega arith
 times-drop i (suc k) (x ∷ xs) = let h = times-drop i k xs in omega arith
 
 pub serial-drop : (plans : ℕ → Plan) (s s' : Store) (xs : List ℕ) (k : ℕ) → k < length xs → s' ≡ store_after (plans (get_or xs k 0)) s → serial plans s' (drop (k + 1) xs) ≡ serial plans s (drop k xs)
-serial-drop plans s s' xs k h e = ap (λ s. serial plans s (drop (k + 1) xs)) e ∙ sym (ap (serial plans s) (drop_at xs k h))
+serial-drop plans s s' xs k h e = ap (λ s. serial plans s (drop (k + 1) xs)) e ∙ sym (ap (serial plans s) (drop_more xs k 0 h))
 
 pub rerun-more : {P : Type 0} (plan : P → Option ℕ → Plan) (plans : ℕ → Plan) (slots : List (Slot P)) (xs : List ℕ) (k : ℕ) (s s' : Store) (e : Ending) (j : ℕ) → k < length xs → ((i : ℕ) → times i xs ≤ 1) → get_or xs k 0 < length slots
     → s' ≡ store_after (plans (get_or xs k 0)) s → e ≡ ending_of (plans (get_or xs k 0)) s
@@ -34,7 +36,7 @@ pub rerun-more : {P : Type 0} (plan : P → Option ℕ → Plan) (plans : ℕ �
 rerun-more plan plans slots xs k s s' e j h once l es ee =
     ap (λ q. or_ended (serial_end plans s' r j) (q j)) (progress_of-set plan slots x (Slot.Ended e) l)
     ∙ by (x == j) (eqb_tells x j)
-    ∙ sym (ap (λ ys. or_ended (serial_end plans s ys j) (progress_of plan slots j)) (drop_at xs k h))
+    ∙ sym (ap (λ ys. or_ended (serial_end plans s ys j) (progress_of plan slots j)) (drop_more xs k 0 h))
   where
     x : ℕ
     x = get_or xs k 0
@@ -45,7 +47,7 @@ rerun-more plan plans slots xs k s s' e j h once l es ee =
     no_more : times x r ≡ 0
     no_more =
         let a = times-drop x k xs in let b = once x in
-        let c : times x (drop k xs) ≡ cond (x == x) 1 0 + times x r = ap (times x) (drop_at xs k h) in
+        let c : times x (drop k xs) ≡ cond (x == x) 1 0 + times x r = ap (times x) (drop_more xs k 0 h) in
         let d : ◌≡◌ {A = ℕ} (cond (x == x) 1 0) 1 = grind (arith, nat_tests) in omega arith
 
     by : (c : Bool) → ((c ≡ true) × (x ≡ j)) ⊎ ((c ≡ false) × (x ≢ j)) → or_ended (serial_end plans s' r j) (cond c (Ended e) (progress_of plan slots j)) ≡ or_ended (cond c (Some (ending_of (plans x) s)) (serial_end plans (store_after (plans x) s) r j)) (progress_of plan slots j)
@@ -54,6 +56,39 @@ rerun-more plan plans slots xs k s s' e j h once l es ee =
         ap (λ o. or_ended o (Ended e)) n ∙ ap Ended ee
     by true (inr z) = cc
     by false z = ap (λ s. or_ended (serial_end plans s r j) (progress_of plan slots j)) es
+
+-- a group can take turns as long as the machine keeps its slots
+pub can_still : {P : Type 0} {begins : Beginnings} {segs : List Seg} {group : List ℕ} {m : Machine P} (m' : Machine P) → CanRun begins segs group m
+    → length m'.slots.items ≡ length m.slots.items → m'.redo < 255 → CanRun begins segs group m'
+can_still {group = group} m' h slots redo = record {
+  begin_well = h.begin_well;
+  here = h.here;
+  members = subst (λ n. All (λ j. j < n) group) (sym slots) h.members;
+  once = h.once;
+  redo = redo;
+}
+
+-- what a loop over a group's turns keeps
+pub record Keeps {P : Type 0} (plan : P → Option ℕ → Plan) (group : List ℕ) (m m' : Machine P) (over : Bool) : Type 0 where
+  pub slots : length m'.slots.items ≡ length m.slots.items
+  pub locks : length m'.owner.items ≡ 256
+  pub outside : LeavesOthers plan group m m'
+  pub redo_most : m'.redo ≤ m.redo + 1
+  pub runs : over ≡ false → any_running (progress_of plan m'.slots.items) group ≡ true
+  pub redo : over ≡ false → m'.redo ≡ m.redo
+
+-- after one more turn
+pub keeps_on : {P : Type 0} {plan : P → Option ℕ → Plan} {group : List ℕ} {m m' : Machine P} {over : Bool} (m'' : Machine P) (over' : Bool) → Keeps plan group m m' over → over ≡ false
+    → length m''.slots.items ≡ length m'.slots.items → length m''.owner.items ≡ 256 → LeavesOthers plan group m' m'' → m''.redo ≤ m'.redo + 1 → RunsOn plan group m' m'' over' → (over' ≡ false → m''.redo ≡ m'.redo)
+    → Keeps plan group m m'' over'
+keeps_on m'' over' kept still slots locks outside redo_most runs redo = record {
+  slots = slots ∙ kept.slots;
+  locks = locks;
+  outside = λ j n. outside j n ∙ kept.outside j n;
+  redo_most = (let r = kept.redo still in omega arith);
+  runs = λ o. runs o (kept.runs still);
+  redo = λ o. redo o ∙ kept.redo still;
+}
 
 pub all_mem : (n : ℕ) (xs : List ℕ) (i : ℕ) → All (λ j. j < n) xs → mem i xs ≡ true → i < n
 all_mem n [] i a m = cc

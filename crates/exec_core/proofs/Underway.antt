@@ -15,16 +15,18 @@ use Rattle.exec_model.proofs.Finish.{turn-replays}
 use Rattle.exec_model.proofs.Ready.{start-ready}
 use Rattle.exec_model.proofs.Beyond.{cut, complete_cut}
 use Rattle.key_mixer.specs.Lists.{lists_of}
+use Rattle.key_mixer.proofs.Fits.{length-lists}
 use Rattle.exec_core.specs.declared.work.Work.{Work}
 use Rattle.exec_core.specs.declared.ran.Ran.{Ran}
-use Rattle.exec_core.specs.Jobs.{IsRan}
+use Rattle.exec_core.specs.Jobs.{BeginsWell, IsRan}
+use Rattle.exec_core.specs.Rounds.{CanRun}
 use Rattle.exec_core.specs.States.{owner_of, progress_of, whole_of, AreMembers}
 use Rattle.exec_core.specs.Underway.{begun_on, state_at, left_by, IsReached}
 use Rattle.exec_core.proofs.Loops.{all_mem}
-use Rattle.exec_core.proofs.Groups.{groups_at, At, at_group, lists_all, run-over}
+use Rattle.exec_core.proofs.Groups.{at_group, lists_all, run-over}
 use Rattle.exec_core.proofs.Replays.{replayed}
 use Rattle.exec_core.proofs.Orders.{order_once, order_groups}
-use Rattle.exec_core.proofs.Whole.{IsFresh, Comes, begun_is, are_members, below_n, length_lists, comes_cut, left_is, mixed_run}
+use Rattle.exec_core.proofs.Whole.{IsFresh, Comes, begun_is, are_members, below_n, comes_cut, left_is, mixed_run}
 
 -- where a group is at work, it has segments of the job, each once; and few groups are before it
 pub record GroupAt (n : ℕ) (all : List (List ℕ)) (k : ℕ) (g : List ℕ) : Type 0 where
@@ -35,50 +37,50 @@ pub record GroupAt (n : ℕ) (all : List (List ℕ)) (k : ℕ) (g : List ℕ) : 
   pub before : k < 32
 
 pub group_at : (begins : Beginnings) (segs : List Seg) (groups : List (Vec ℕ Global)) (k : ℕ) (v : Vec ℕ Global)
-    → length segs ≤ 32 → lists_of groups ≡ groups_of begins segs → k < length groups → v ≡ get_or groups k v
-    → GroupAt (length segs) (lists_of groups) k v.items
-group_at begins segs groups k v few same lt is =
+    (g : List ℕ) → length segs ≤ 32 → lists_of groups ≡ groups_of begins segs → k < length groups → v ≡ get_or groups k v → g ≡ v.items
+    → GroupAt (length segs) (lists_of groups) k g
+group_at begins segs groups k v g few same lt is there =
     let n = length segs in
     let all = lists_of groups in
     let full : AreFull all = subst AreFull (sym same) (AreFull-mix (locks_at begins segs) n) in
     let order : IsOrder n (concat all) = λ i. ap (λ gs. times i (concat gs)) same ∙ times-mix (locks_at begins segs) n i in
     let members : AreMembers n all = are_members n all (omega arith) (λ j h. below_n j n (let e = order j in omega arith)) in
-    let d : drop k all ≡ v.items ∷ drop (k + 1) all = groups_at groups k v lt is in
-    let a : At n (λ j. Running (Ends said_nothing)) all k v.items = at_group n (λ j. Running (Ends said_nothing)) all k v.items d members full (order_once n (concat all) order) (λ j h. refl) in
+    let a = at_group n (λ j. Running (Ends said_nothing)) groups k v g lt is there members full (order_once n (concat all) order) (λ j h. refl) in
     record {
       members = a.members;
       numbers = a.numbers;
       once = a.once;
-      here = d;
-      before = (let a = length_lists groups in let b = order_groups n all full order in omega arith);
+      here = a.here;
+      before = (let a = length-lists groups in let b = order_groups n all full order in omega arith);
     }
 
 -- what a turn of segment i asks, where its group is at work
-pub record CanTurn (n slots redo : ℕ) (all : List (List ℕ)) (k : ℕ) (xs : List ℕ) (i : ℕ) : Type 0 where
-  pub here : All (λ j. j < n) xs
-  pub members : All (λ j. j < slots) xs
-  pub once : (j : ℕ) → times j xs ≤ 1
-  pub slot : i < slots
+pub record CanTurn {P : Type 0} (begins : Beginnings) (segs : List Seg) (w : Work P) (xs : List ℕ) (i : ℕ) : Type 0 where
+  pub group : CanRun begins segs xs w.m
+  pub member : mem i xs ≡ true
+  pub slot : i < length w.m.slots.items
   pub small : i < 255
-  pub few : redo < 255
-  pub at : drop k all ≡ xs ∷ drop (k + 1) all
+  pub at : drop w.at (lists_of w.groups.items) ≡ xs ∷ drop (w.at + 1) (lists_of w.groups.items)
 
 pub can_turn : {P : Type 0} (plan : P → Option ℕ → Plan) (begins : Beginnings) (segs : List Seg) (s : Store) (w : Work P) (v : Vec ℕ Global) (xs : List ℕ) (i : ℕ)
-    → length segs ≤ 32 → IsReached plan begins segs s w → w.at < length w.groups.items → v ≡ get_or w.groups.items w.at v → xs ≡ v.items → mem i xs ≡ true
-    → CanTurn (length segs) (length w.m.slots.items) w.m.redo (lists_of w.groups.items) w.at xs i
-can_turn plan begins segs s w v xs i few r lt is same m =
+    → All (BeginsWell begins) segs → length segs ≤ 32 → IsReached plan begins segs s w → w.at < length w.groups.items → v ≡ get_or w.groups.items w.at v → xs ≡ v.items → mem i xs ≡ true
+    → CanTurn begins segs w xs i
+can_turn plan begins segs s w v xs i well few r lt is same m =
     let n = length segs in
-    let a : GroupAt n (lists_of w.groups.items) w.at v.items = group_at begins segs w.groups.items w.at v few r.groups lt is in
-    let here : All (λ j. j < n) xs = subst (λ (ys : List ℕ). All (λ j. j < n) ys) (sym same) a.members in
-    let members : All (λ j. j < length w.m.slots.items) xs = subst (λ k. All (λ j. j < k) xs) (sym r.slots) here in
+    let a = group_at begins segs w.groups.items w.at v xs few r.groups lt is same in
+    let members : All (λ j. j < length w.m.slots.items) xs = subst (λ k. All (λ j. j < k) xs) (sym r.slots) a.members in
     record {
-      here = here;
-      members = members;
-      once = subst (λ (ys : List ℕ). (j : ℕ) → times j ys ≤ 1) (sym same) a.once;
+      group = record {
+        begin_well = well;
+        here = a.members;
+        members = members;
+        once = a.once;
+        redo = (let b = a.before in let c = r.redo in omega arith);
+      };
+      member = m;
       slot = all_mem (length w.m.slots.items) xs i members m;
-      small = all_mem 255 xs i (subst (λ (ys : List ℕ). All (λ j. j < 255) ys) (sym same) a.numbers) m;
-      few = (let b = a.before in let c = r.redo in omega arith);
-      at = a.here ∙ ap (λ ys. ys ∷ drop (w.at + 1) (lists_of w.groups.items)) (sym same);
+      small = all_mem 255 xs i a.numbers m;
+      at = a.here;
     }
 
 -- the state, with the groups from the one at work on

@@ -1,6 +1,7 @@
 -- What the machine's vectors come to is the run of the job.
-use Rattle.std.proofs.Common.{◌≡◌, ℕ, zero, suc, ◌+◌, ◌<◌, ◌≤◌, Bool, true, false, cond, ◌||◌, ◌==◌, List, [], ◌∷◌, length, map, unwrap_or, Option, refl, sym, ap, ◌∙◌, ◌*◌, arith}
+use Rattle.std.proofs.Common.{◌≡◌, ℕ, zero, suc, ◌+◌, ◌<◌, ◌≤◌, Bool, true, false, cond, ◌==◌, List, [], ◌∷◌, length, map, unwrap_or, Option, refl, sym, ap, ◌∙◌, ◌*◌, arith}
 use Rattle.std.specs.Prelude.{nat_lt}
+use Rattle.std.proofs.lemmas.Bool.{or_right}
 use Rattle.std.proofs.lemmas.Bool.Decides.{nat_tests}
 use Rattle.std.specs.declared.vec.Vec.{Vec}
 use Rattle.std.specs.declared.alloc.Global.{Global}
@@ -12,10 +13,11 @@ use Rattle.std.specs.List.{All}
 use Rattle.exec_model.specs.Machine.{State, Progress, Running, Ended, mem, is_running, concat, start, turns, complete, run, end_of}
 use Rattle.exec_model.specs.Groups.{times, AreFull, IsOrder, mix}
 use Rattle.exec_model.specs.Jobs.{Beginnings, plan_at, locks_at, said_nothing, below, Run, run_job}
-use Rattle.exec_model.proofs.Basics.{times-append, times-mem}
+use Rattle.exec_model.proofs.Basics.{mem-first, times-append, times-mem}
 use Rattle.exec_model.proofs.Ready.{start-ready}
 use Rattle.exec_model.proofs.Beyond.{cut, complete_cut, ends_cut}
 use Rattle.key_mixer.specs.Lists.{set_at, lists_of}
+use Rattle.key_mixer.proofs.Fits.{length-lists}
 use Rattle.exec_core.specs.declared.machine.Slot.{Slot}
 use Rattle.exec_core.specs.declared.machine.Machine.{Machine}
 use Rattle.exec_core.specs.States.{owner_of, progress_of, begun, AreMembers, AreBegun}
@@ -128,13 +130,9 @@ left_is plan m order s r n long z = λ k. record {
 
 -- THE GROUPS
 
-or_right : (a b : Bool) → b ≡ true → (a || b) ≡ true
-or_right true b h = refl
-or_right false b h = h
-
 all_small : (n : ℕ) (xs : List ℕ) → ((j : ℕ) → mem j xs ≡ true → j < n) → All (λ j. j < n) xs
 all_small n [] h k d lt = absurd (omega arith)
-all_small n (x ∷ xs) h zero d lt = h x (let self : (x == x) ≡ true = grind (arith, nat_tests) in ap (λ b. b || mem x xs) self)
+all_small n (x ∷ xs) h zero d lt = h x (mem-first x xs)
 all_small n (x ∷ xs) h (suc k) d lt = all_small n xs (λ j m. h j (or_right (x == j) (mem j xs) m)) k d (omega arith)
 
 pub are_members : (n : ℕ) (gs : List (List ℕ)) → n ≤ 255 → ((j : ℕ) → 0 < times j (concat gs) → j < n) → AreMembers n gs
@@ -151,10 +149,6 @@ are_members n (g ∷ gs) few h = (
 pub below_n : (j n : ℕ) → 0 < cond (nat_lt j n) 1 0 → j < n
 below_n j n h = grind (arith, nat_tests)
 
-pub length_lists : (groups : List (Vec ℕ Global)) → length (lists_of groups) ≡ length groups
-length_lists [] = refl
-length_lists (g ∷ gs) = let h = length_lists gs in omega arith
-
 -- what running these groups asks of a machine
 pub record AreReady {P : Type 0} (plan : P → Option ℕ → Plan) (m : Machine P) (groups : List (Vec ℕ Global)) : Type 0 where
   pub members : AreMembers (length m.slots.items) (lists_of groups)
@@ -170,15 +164,17 @@ are_ready plan begins segs m groups few f full order =
     record {
       members = are_members (length m.slots.items) gs (let e = f.slots in omega arith) (λ j h. let lt = below_n j n (let e = order j in omega arith) in let e = f.slots in omega arith);
       once = order_once n (concat gs) order;
-      redo = (let a = length_lists groups in let b = order_groups n gs full order in let d = f.redo in omega arith);
+      redo = (let a = length-lists groups in let b = order_groups n gs full order in let d = f.redo in omega arith);
       runs = λ j h. ap is_running (f.programs j (below_n j n (let a = order j in let b = times-mem j (concat gs) h in omega arith)));
     }
 
-pub mixed_groups : (begins : Beginnings) (segs : List Seg) (sets : List (List Bool)) (groups : List (Vec ℕ Global))
-    → length sets ≡ length segs → ((j : ℕ) → j < length segs → set_at sets j ≡ locks_at begins segs j)
-    → lists_of groups ≡ mix (set_at sets) (length sets) → lists_of groups ≡ mix (locks_at begins segs) (length segs)
-mixed_groups begins segs sets groups long same h =
-    h ∙ ap (λ (f : ℕ → List Bool). mix f (length sets)) (same_sets begins segs sets long same) ∙ ap (mix (locks_at begins segs)) long
+-- the groups of the sets that the segments declare
+pub mixed_groups : (begins : Beginnings) (segs : List Seg) (declared sets : List (List Bool)) (mixed groups : List (Vec ℕ Global))
+    → length declared ≡ length segs → ((j : ℕ) → j < length segs → set_at declared j ≡ locks_at begins segs j) → sets ≡ declared
+    → lists_of mixed ≡ mix (set_at sets) (length sets) → groups ≡ mixed → lists_of groups ≡ mix (locks_at begins segs) (length segs)
+mixed_groups begins segs declared sets mixed groups long same es h eg =
+    ap lists_of eg ∙ h ∙ ap (λ (xs : List (List Bool)). mix (set_at xs) (length xs)) es
+    ∙ ap (λ (f : ℕ → List Bool). mix f (length declared)) (same_sets begins segs declared long same) ∙ ap (mix (locks_at begins segs)) long
 
 pub mixed_run : (begins : Beginnings) (segs : List Seg) (s : Store) (schedule : List ℕ) → run_in_groups begins segs (mix (locks_at begins segs) (length segs)) s schedule ≡ run_job begins segs s schedule
 unfolding run_job

@@ -1,5 +1,5 @@
 // Groups of segments that take turns: by the schedule, then lowest first, and again where a lock is found held.
-ghost use Rattle.std.specs.Prelude.{◌≡◌, ℕ, ◌+◌, ◌*◌, ◌<◌, ◌≤◌, ◌==◌, IfOk, OnOk, true, false, length, drop, [], ◌∷◌, ◌++◌, if◌then◌else◌};
+ghost use Rattle.std.specs.Prelude.{◌≡◌, ℕ, ◌+◌, ◌*◌, ◌<◌, ◌≤◌, IfOk, OnOk, true, false, length, drop, [], ◌∷◌, ◌++◌};
 ghost use Rattle.std.specs.List.{All};
 ghost use Rattle.exec_model.specs.Serial.{serial, serial_end};
 ghost use Rattle.exec_model.specs.Machine.{State, mem, or_ended, is_running as runs, any_running as any_runs, turn as turn_of, turns as turns_of, finish as finish_of, complete as complete_of, concat, next};
@@ -7,6 +7,7 @@ ghost use Rattle.exec_model.specs.Groups.{times, AreFull};
 ghost use Rattle.exec_model.specs.Jobs.{plan_at};
 ghost use Rattle.key_mixer.specs.Lists.{lists_of};
 ghost use Rattle.exec_core.specs.Jobs.{BeginsWell};
+ghost use Rattle.exec_core.specs.Rounds.{CanRun, LeavesOthers, RunsOn};
 ghost use Rattle.exec_core.specs.States.{owner_of, progress_of, whole_of, going, begun, AreMembers, left_of};
 
 use crate::locks::clear;
@@ -48,11 +49,7 @@ fn again<S: Service, C: Logged>(
     cells: &mut C,
     i: u8,
 ) -> Result<(), Memory>
-    requires begins { All (BeginsWell (S.beginning svc.now)) segs.now }
-    requires here { All (λ j. j < length segs.now) group.now }
-    requires members { All (λ j. j < length m.old.slots.items) group.now }
-    requires once { (j : ℕ) → times j group.now ≤ 1 }
-    requires redo { m.old.redo < 255 }
+    requires group { CanRun (S.beginning svc.now) segs.now group.now m.old }
     ensures store { OnOk result (C.store cells.new ≡ serial (plan_at (S.beginning svc.now) segs.now) (C.base cells.old) group.now) }
     ensures owner { OnOk result ((l : ℕ) → owner_of m.new.owner.items l ≡ 0) }
     ensures ends { OnOk result ((j : ℕ) → progress_of S.Prog.plan m.new.slots.items j ≡
@@ -84,28 +81,21 @@ pub fn turn<S: Service, C: Logged>(
     cells: &mut C,
     i: u8,
 ) -> Result<bool, Memory>
-    requires begins { All (BeginsWell (S.beginning svc.now)) segs.now }
-    requires here { All (λ j. j < length segs.now) group.now }
+    requires group { CanRun (S.beginning svc.now) segs.now group.now m.old }
     requires member { mem i group.now ≡ true }
-    requires slots { i < length m.old.slots.items }
-    requires members { All (λ j. j < length m.old.slots.items) group.now }
-    requires once { (j : ℕ) → times j group.now ≤ 1 }
     requires locks { length m.old.owner.items ≡ 256 }
     requires small { i < 255 }
-    requires redo { m.old.redo < 255 }
     ensures turn { IfOk result (λ over. (t : State) → t.group ≡ group.now →
-        (if over then next (whole_of S.Prog.plan m.new (C.store cells.new) (C.base cells.new) t)
-        else whole_of S.Prog.plan m.new (C.store cells.new) (C.base cells.new) t)
+        going S.Prog.plan m.new (C.store cells.new) (C.base cells.new) over t
         ≡ turn_of (plan_at (S.beginning svc.now) segs.now) (whole_of S.Prog.plan m.old (C.store cells.old) (C.base cells.old) t) i) }
-    ensures over { IfOk result (λ over. over ≡ false → any_runs (progress_of S.Prog.plan m.old.slots.items) group.now ≡ true →
-        any_runs (progress_of S.Prog.plan m.new.slots.items) group.now ≡ true) }
+    ensures over { IfOk result (RunsOn S.Prog.plan group.now m.old m.new) }
     ensures ended { IfOk result (λ over. over ≡ true → any_runs (progress_of S.Prog.plan m.new.slots.items) group.now ≡ false) }
     ensures slots { OnOk result (length m.new.slots.items ≡ length m.old.slots.items) }
     ensures locks { OnOk result (length m.new.owner.items ≡ 256) }
     ensures redo { IfOk result (λ over. over ≡ false → m.new.redo ≡ m.old.redo) }
     ensures falls { IfOk result (λ over. over ≡ false → runs (progress_of S.Prog.plan m.old.slots.items i) ≡ true →
         left_of S.Prog.budget m.new.slots.items i < left_of S.Prog.budget m.old.slots.items i) }
-    ensures outside { OnOk result ((j : ℕ) → mem j group.now ≡ false → progress_of S.Prog.plan m.new.slots.items j ≡ progress_of S.Prog.plan m.old.slots.items j) }
+    ensures outside { OnOk result (LeavesOthers S.Prog.plan group.now m.old m.new) }
     ensures redo_most { OnOk result (m.new.redo ≤ m.old.redo + 1) }
     ensures start { C.start cells.new ≡ C.start cells.old }
 {
@@ -129,22 +119,17 @@ fn entry<S: Service, C: Logged>(
     cells: &mut C,
     i: u8,
 ) -> Result<bool, Memory>
-    requires begins { All (BeginsWell (S.beginning svc.now)) segs.now }
-    requires here { All (λ j. j < length segs.now) group.now }
-    requires members { All (λ j. j < length m.old.slots.items) group.now }
+    requires group { CanRun (S.beginning svc.now) segs.now group.now m.old }
     requires numbers { All (λ j. j < 255) group.now }
-    requires once { (j : ℕ) → times j group.now ≤ 1 }
     requires locks { length m.old.owner.items ≡ 256 }
-    requires redo { m.old.redo < 255 }
     ensures turn { IfOk result (λ over. (t : State) → t.group ≡ group.now →
         going S.Prog.plan m.new (C.store cells.new) (C.base cells.new) over t
         ≡ turn_of (plan_at (S.beginning svc.now) segs.now) (whole_of S.Prog.plan m.old (C.store cells.old) (C.base cells.old) t) i) }
-    ensures over { IfOk result (λ over. over ≡ false → any_runs (progress_of S.Prog.plan m.old.slots.items) group.now ≡ true →
-        any_runs (progress_of S.Prog.plan m.new.slots.items) group.now ≡ true) }
+    ensures over { IfOk result (RunsOn S.Prog.plan group.now m.old m.new) }
     ensures slots { OnOk result (length m.new.slots.items ≡ length m.old.slots.items) }
     ensures locks { OnOk result (length m.new.owner.items ≡ 256) }
     ensures redo { IfOk result (λ over. over ≡ false → m.new.redo ≡ m.old.redo) }
-    ensures outside { OnOk result ((j : ℕ) → mem j group.now ≡ false → progress_of S.Prog.plan m.new.slots.items j ≡ progress_of S.Prog.plan m.old.slots.items j) }
+    ensures outside { OnOk result (LeavesOthers S.Prog.plan group.now m.old m.new) }
     ensures redo_most { OnOk result (m.new.redo ≤ m.old.redo + 1) }
     ensures start { C.start cells.new ≡ C.start cells.old }
 {
@@ -164,13 +149,9 @@ fn use_schedule<S: Service, C: Logged>(
     m: &mut Machine<S::Prog>,
     cells: &mut C,
 ) -> Result<(usize, bool), Memory>
-    requires begins { All (BeginsWell (S.beginning svc.now)) segs.now }
-    requires here { All (λ j. j < length segs.now) group.now }
-    requires members { All (λ j. j < length m.old.slots.items) group.now }
+    requires group { CanRun (S.beginning svc.now) segs.now group.now m.old }
     requires numbers { All (λ j. j < 255) group.now }
-    requires once { (j : ℕ) → times j group.now ≤ 1 }
     requires locks { length m.old.owner.items ≡ 256 }
-    requires redo { m.old.redo < 255 }
     requires runs { any_runs (progress_of S.Prog.plan m.old.slots.items) group.now ≡ true }
     ensures turns { IfOk result (λ r. (t : State) → t.group ≡ group.now →
         turns_of (plan_at (S.beginning svc.now) segs.now) (going S.Prog.plan m.new (C.store cells.new) (C.base cells.new) r.1 t) (drop r.0 schedule.now)
@@ -180,7 +161,7 @@ fn use_schedule<S: Service, C: Logged>(
     ensures slots { OnOk result (length m.new.slots.items ≡ length m.old.slots.items) }
     ensures locks { OnOk result (length m.new.owner.items ≡ 256) }
     ensures redo { IfOk result (λ r. r.1 ≡ false → m.new.redo ≡ m.old.redo) }
-    ensures outside { OnOk result ((j : ℕ) → mem j group.now ≡ false → progress_of S.Prog.plan m.new.slots.items j ≡ progress_of S.Prog.plan m.old.slots.items j) }
+    ensures outside { OnOk result (LeavesOthers S.Prog.plan group.now m.old m.new) }
     ensures redo_most { OnOk result (m.new.redo ≤ m.old.redo + 1) }
     ensures running { IfOk result (λ r. r.1 ≡ false → any_runs (progress_of S.Prog.plan m.new.slots.items) group.now ≡ true) }
     ensures start { C.start cells.new ≡ C.start cells.old }
@@ -202,20 +183,16 @@ fn finish_group<S: Service, C: Logged>(
     m: &mut Machine<S::Prog>,
     cells: &mut C,
 ) -> Result<(), Memory>
-    requires begins { All (BeginsWell (S.beginning svc.now)) segs.now }
-    requires here { All (λ j. j < length segs.now) group.now }
-    requires members { All (λ j. j < length m.old.slots.items) group.now }
+    requires group { CanRun (S.beginning svc.now) segs.now group.now m.old }
     requires numbers { All (λ j. j < 255) group.now }
-    requires once { (j : ℕ) → times j group.now ≤ 1 }
     requires locks { length m.old.owner.items ≡ 256 }
-    requires redo { m.old.redo < 255 }
     requires runs { any_runs (progress_of S.Prog.plan m.old.slots.items) group.now ≡ true }
     ensures finished { OnOk result ((t : State) → t.group ≡ group.now →
         finish_of (plan_at (S.beginning svc.now) segs.now) (concat t.later) (next (whole_of S.Prog.plan m.new (C.store cells.new) (C.base cells.new) t))
         ≡ finish_of (plan_at (S.beginning svc.now) segs.now) (group.now ++ concat t.later) (whole_of S.Prog.plan m.old (C.store cells.old) (C.base cells.old) t)) }
     ensures slots { OnOk result (length m.new.slots.items ≡ length m.old.slots.items) }
     ensures locks { OnOk result (length m.new.owner.items ≡ 256) }
-    ensures outside { OnOk result ((j : ℕ) → mem j group.now ≡ false → progress_of S.Prog.plan m.new.slots.items j ≡ progress_of S.Prog.plan m.old.slots.items j) }
+    ensures outside { OnOk result (LeavesOthers S.Prog.plan group.now m.old m.new) }
     ensures redo_most { OnOk result (m.new.redo ≤ m.old.redo + 1) }
     ensures start { C.start cells.new ≡ C.start cells.old }
 {
@@ -237,13 +214,9 @@ fn run_group<S: Service, C: Logged>(
     m: &mut Machine<S::Prog>,
     cells: &mut C,
 ) -> Result<usize, Memory>
-    requires begins { All (BeginsWell (S.beginning svc.now)) segs.now }
-    requires here { All (λ j. j < length segs.now) group.now }
-    requires members { All (λ j. j < length m.old.slots.items) group.now }
+    requires group { CanRun (S.beginning svc.now) segs.now group.now m.old }
     requires numbers { All (λ j. j < 255) group.now }
-    requires once { (j : ℕ) → times j group.now ≤ 1 }
     requires locks { length m.old.owner.items ≡ 256 }
-    requires redo { m.old.redo < 255 }
     requires runs { any_runs (progress_of S.Prog.plan m.old.slots.items) group.now ≡ true }
     ensures run { IfOk result (λ used. (t : State) → t.group ≡ group.now →
         complete_of (plan_at (S.beginning svc.now) segs.now) (turns_of (plan_at (S.beginning svc.now) segs.now) (next (whole_of S.Prog.plan m.new (C.store cells.new) (C.base cells.new) t)) (drop used schedule.now))
@@ -251,7 +224,7 @@ fn run_group<S: Service, C: Logged>(
     ensures used { IfOk result (λ used. used ≤ length schedule.now) }
     ensures slots { OnOk result (length m.new.slots.items ≡ length m.old.slots.items) }
     ensures locks { OnOk result (length m.new.owner.items ≡ 256) }
-    ensures outside { OnOk result ((j : ℕ) → mem j group.now ≡ false → progress_of S.Prog.plan m.new.slots.items j ≡ progress_of S.Prog.plan m.old.slots.items j) }
+    ensures outside { OnOk result (LeavesOthers S.Prog.plan group.now m.old m.new) }
     ensures redo_most { OnOk result (m.new.redo ≤ m.old.redo + 2) }
     ensures start { C.start cells.new ≡ C.start cells.old }
 {

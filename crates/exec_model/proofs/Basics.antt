@@ -1,5 +1,6 @@
 -- Lists of segments, and what a serial run does at an append.
 use Rattle.std.proofs.Common.{◌≡◌, ℕ, ◌+◌, ◌<◌, ◌==◌, Bool, true, false, ◌||◌, List, [], ◌∷◌, ◌++◌, Option, Some, None, refl, cond, arith}
+use Rattle.std.proofs.lemmas.Bool.{or_left, eq-eqb}
 use Rattle.std.proofs.lemmas.Bool.Decides.{nat_tests}
 use Rattle.aeg_base.specs.declared.names.Key.{Key}
 use Rattle.aeg_base.specs.Store.{Store, same_key}
@@ -30,6 +31,10 @@ serial_end-append plan s (x ∷ xs) ys j =
 pub times-append : (i : ℕ) (xs ys : List ℕ) → times i (xs ++ ys) ≡ times i xs + times i ys
 times-append i [] ys = grind arith
 times-append i (x ∷ xs) ys = let h = times-append i xs ys in omega arith
+
+-- the first of a list is in it
+pub mem-first : (x : ℕ) (xs : List ℕ) → mem x (x ∷ xs) ≡ true
+mem-first x xs = or_left (x == x) (mem x xs) (eq-eqb x x refl)
 
 pub times-mem : (i : ℕ) (xs : List ℕ) → mem i xs ≡ true → 0 < times i xs
 times-mem i [] h = cc

@@ -10,7 +10,7 @@ use Rattle.exec_model.specs.Serial.{serial_end}
 use Rattle.exec_model.specs.Machine.{State, Progress, Running, Ended, mem, update, any_running, is_running, end_of, or_ended, concat, next, settle, again, touch, leave, act, turn, turns, go_on, finish_one, finish, complete}
 use Rattle.exec_model.specs.Groups.{times, IsOrder}
 use Rattle.exec_model.specs.Jobs.{said_nothing, below, run_of}
-use Rattle.exec_model.proofs.Basics.{times-mem, times-append, serial_end-none, times-not_mem}
+use Rattle.exec_model.proofs.Basics.{mem-first, times-mem, times-append, serial_end-none, times-not_mem}
 use Rattle.exec_model.proofs.Ready.{Ready, turn-ready, turns-ready}
 use Rattle.exec_model.proofs.Finish.{finish_one-keeps}
 
@@ -36,7 +36,7 @@ update_cut n q i x h = λ k j. at j (i == j) (eqb_tells i j) k
     at j true (inr z) = cc
 
 small_head : (n x : ℕ) (xs : List ℕ) → AreSmall n (x ∷ xs) → nat_lt x n ≡ true
-small_head n x xs h = let self : (x == x) ≡ true = grind (arith, nat_tests) in h x (ap (λ b. b || mem x xs) self)
+small_head n x xs h = h x (mem-first x xs)
 
 small_tail : (n x : ℕ) (xs : List ℕ) → AreSmall n (x ∷ xs) → AreSmall n xs
 small_tail n x xs h j m = h j (right (x == j) m)

@@ -1,12 +1,12 @@
 -- How often a group is run again.
 use Rattle.std.proofs.Common.{◌≡◌, ℕ, ◌+◌, ◌≤◌, ◌==◌, Bool, true, false, ◌||◌, List, [], ◌∷◌, ◌++◌, length, refl, sym, ap, ◌∙◌, cond, arith}
-use Rattle.std.proofs.lemmas.Bool.Decides.{nat_tests}
+use Rattle.std.proofs.lemmas.Bool.{or_right}
 use Rattle.aeg_base.specs.Store.{Store, value_at, written}
 use Rattle.aeg_base.specs.Locks.{lock_number}
 use Rattle.svc_api.specs.Plan.{Plan, Reads, Writes, Ends}
 use Rattle.exec_model.specs.Serial.{serial_end}
 use Rattle.exec_model.specs.Machine.{next, State, mem, update, any_running, is_running, or_ended, concat, Progress, Running, Ended, settle, again, leave, act, turn, turns, start, run}
-use Rattle.exec_model.proofs.Basics.{serial_end-some, times-mem}
+use Rattle.exec_model.proofs.Basics.{mem-first, serial_end-some, times-mem}
 use Rattle.exec_model.proofs.Inv.{head_of, tail_of}
 use Rattle.exec_model.proofs.Finish.{finish-keeps, turns-keeps}
 
@@ -50,15 +50,8 @@ again-redo n plan t i m h = at (any_running (again plan t i).progress t.group) r
 
     none : (xs : List ℕ) → ((j : ℕ) → mem j xs ≡ true → mem j t.group ≡ true) → any_running (again plan t i).progress xs ≡ false
     none [] k = refl
-    none (x ∷ xs) k = by (is_running ((again plan t i).progress x)) (each x (k x (self x xs))) (none xs (λ j l. k j (or_right (x == j) (mem j xs) l)))
+    none (x ∷ xs) k = by (is_running ((again plan t i).progress x)) (each x (k x (mem-first x xs))) (none xs (λ j l. k j (or_right (x == j) (mem j xs) l)))
       where
-        self : (x : ℕ) (xs : List ℕ) → mem x (x ∷ xs) ≡ true
-        self x xs = let e : (x == x) ≡ true = grind (arith, nat_tests) in ap (λ b. b || mem x xs) e
-
-        or_right : (a b : Bool) → b ≡ true → (a || b) ≡ true
-        or_right true b h = refl
-        or_right false b h = h
-
         by : (c : Bool) → c ≡ false → any_running (again plan t i).progress xs ≡ false → (c || any_running (again plan t i).progress xs) ≡ false
         by true e r = cc
         by false e r = r

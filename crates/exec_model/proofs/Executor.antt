@@ -1,6 +1,6 @@
 -- What a loop that finishes a group keeps: what is left to finish comes to the same state.
-use Rattle.std.proofs.Common.{◌≡◌, ℕ, zero, suc, ◌+◌, ◌==◌, Bool, true, false, ◌||◌, List, [], ◌∷◌, ◌++◌, refl, sym, ap, ◌∙◌, cond, arith}
-use Rattle.std.proofs.lemmas.Bool.Decides.{nat_tests}
+use Rattle.std.proofs.Common.{◌≡◌, ℕ, zero, suc, ◌+◌, ◌==◌, Bool, true, false, ◌||◌, List, [], ◌∷◌, ◌++◌, refl, sym, ap, ◌∙◌, cond}
+use Rattle.std.proofs.lemmas.Bool.{or_right}
 use Rattle.aeg_base.specs.declared.names.Key.{Key}
 use Rattle.aeg_base.specs.Store.{Store, value_at, written}
 use Rattle.svc_api.specs.Plan.{Plan, Reads, Writes, Ends}
@@ -8,6 +8,7 @@ use Rattle.aeg_base.specs.Locks.{lock_number}
 use Rattle.exec_model.specs.Serial.{serial_end}
 use Rattle.exec_model.specs.Machine.{next, State, mem, is_running, concat, Progress, Running, Ended, touch, leave, again, act, update, turn, turns, go_on, finish_one, finish, complete}
 use Rattle.exec_model.specs.Spell.{repeat}
+use Rattle.exec_model.proofs.Basics.{mem-first}
 use Rattle.exec_model.proofs.Finish.{turn_is, turn-reads, turn-writes, turn-ends, update-less, again-less, settle-progress}
 
 pub ended-stays : (plan : ℕ → Plan) (i : ℕ) (x : Progress) (t : State) → is_running x ≡ false → finish_one plan i x t ≡ t
@@ -62,13 +63,8 @@ finish-entries plan i is (suc n) t = finish-entry plan i is t ∙ finish-entries
 pub finish-ended : (plan : ℕ → Plan) (xs ys : List ℕ) (t : State) → ((j : ℕ) → mem j xs ≡ true → is_running (t.progress j) ≡ false) → finish plan (xs ++ ys) t ≡ finish plan ys t
 finish-ended plan [] ys t h = refl
 finish-ended plan (x ∷ xs) ys t h =
-    let self : (x == x) ≡ true = grind (arith, nat_tests) in
-    ap (finish plan (xs ++ ys)) (ended-stays plan x (t.progress x) t (h x (ap (λ b. b || mem x xs) self)))
+    ap (finish plan (xs ++ ys)) (ended-stays plan x (t.progress x) t (h x (mem-first x xs)))
     ∙ finish-ended plan xs ys t (λ j m. h j (or_right (x == j) (mem j xs) m))
-  where
-    or_right : (a b : Bool) → b ≡ true → (a || b) ≡ true
-    or_right true b h = refl
-    or_right false b h = h
 
 -- after a group the run goes on with the next one
 pub complete-next : (plan : ℕ → Plan) (t : State) → finish plan (concat t.later) (next t) ≡ complete plan (next t)

@@ -1,6 +1,7 @@
 -- The run ends, and the steps that it made are a schedule of the same run.
-use Rattle.std.proofs.Common.{◌≡◌, ◌≢◌, ℕ, ◌+◌, ◌≤◌, ◌==◌, Bool, true, false, ◌||◌, List, [], ◌∷◌, ◌++◌, Option, Some, None, refl, sym, ap, ◌∙◌, inl, inr, ◌⊎◌, cond, arith, append_assoc}
-use Rattle.std.proofs.lemmas.Bool.Decides.{nat_tests, eqb_tells}
+use Rattle.std.proofs.Common.{◌≡◌, ◌≢◌, ℕ, ◌+◌, ◌≤◌, ◌==◌, Bool, true, false, ◌||◌, List, [], ◌∷◌, ◌++◌, Option, Some, None, refl, sym, ap, ◌∙◌, inl, inr, ◌⊎◌, cond, append_assoc}
+use Rattle.std.proofs.lemmas.Bool.{or_right}
+use Rattle.std.proofs.lemmas.Bool.Decides.{eqb_tells}
 use Rattle.aeg_base.specs.declared.names.Key.{Key}
 use Rattle.aeg_base.specs.Store.{Store, value_at, written}
 use Rattle.aeg_base.specs.Locks.{lock_number}
@@ -10,7 +11,7 @@ use Rattle.exec_model.specs.Serial.{serial_end}
 use Rattle.exec_model.specs.Machine.{next, State, mem, update, any_running, is_running, or_ended, concat, Progress, Running, Ended, settle, again, touch, leave, act, turn, turns, go_on, finish_one, finish}
 use Rattle.exec_model.specs.Groups.{times}
 use Rattle.exec_model.specs.Spell.{AreSame}
-use Rattle.exec_model.proofs.Basics.{times-mem, serial_end-some}
+use Rattle.exec_model.proofs.Basics.{mem-first, times-mem, serial_end-some}
 use Rattle.exec_model.proofs.Inv.{head_of, tail_of, any_running-false}
 use Rattle.exec_model.proofs.Ready.{Ready, Settled, turn-ready}
 
@@ -137,10 +138,6 @@ or_cases : (a b : Bool) → (a || b) ≡ true → (a ≡ true) ⊎ (b ≡ true)
 or_cases true b h = inl refl
 or_cases false b h = inr h
 
-or_right : (a b : Bool) → b ≡ true → (a || b) ≡ true
-or_right true b h = refl
-or_right false b h = h
-
 Covers-next : (xs : List ℕ) (q : ℕ → Progress) (g : List ℕ) (l : List (List ℕ)) → Covers xs q g l → any_running q g ≡ false → Covers xs q (head_of l) (tail_of l)
 Covers-next xs q g l h none = record {
   now = h.now ++ head_of h.rest;
@@ -248,20 +245,14 @@ pub any_running-some : (q : ℕ → Progress) (xs : List ℕ) → any_running q 
 any_running-some q [] h = cc
 any_running-some q (x ∷ xs) h = at (is_running (q x)) refl (any_running-some q xs) h
   where
-    self : (x == x) ≡ true
-    self = grind (arith, nat_tests)
-
     at : (c : Bool) → is_running (q x) ≡ c → (any_running q xs ≡ true → (j : ℕ) × (mem j xs ≡ true) × (is_running (q j) ≡ true)) → (c || any_running q xs) ≡ true → (j : ℕ) × (mem j (x ∷ xs) ≡ true) × (is_running (q j) ≡ true)
-    at true e rec h = (x, ap (λ b. b || mem x xs) self, e)
+    at true e rec h = (x, mem-first x xs, e)
     at false e rec h = let z = rec h in (z.0, or_right (x == z.0) (mem z.0 xs) z.1, z.2)
 
 -- the first segment that is left is in the group, if it runs
 pub Covers-head : (i : ℕ) (xs : List ℕ) (q : ℕ → Progress) (g : List ℕ) (l : List (List ℕ)) → Covers (i ∷ xs) q g l → Settled q g l → is_running (q i) ≡ true → mem i g ≡ true
 Covers-head i xs q g l h s r = at h.now h.all h.run_in h.from
   where
-    self : (i == i) ≡ true
-    self = grind (arith, nat_tests)
-
     at : (now : List ℕ) → i ∷ xs ≡ now ++ concat h.rest → ((j : ℕ) → mem j g ≡ true → is_running (q j) ≡ true → mem j now ≡ true) → ((j : ℕ) → mem j now ≡ true → (mem j g ≡ true) ⊎ (is_running (q j) ≡ false)) → mem i g ≡ true
     at [] e run_in from = elim s [
       | inl a ↦ (let z = any_running-some q g a in let m = run_in z.0 z.1 z.2 in cc)
@@ -269,7 +260,7 @@ Covers-head i xs q g l h s r = at h.now h.all h.run_in h.from
     ]
     at (y ∷ ys) e run_in from =
         let iy : i ≡ y = cc in
-        let m : mem i (y ∷ ys) ≡ true = ap (λ n. (n == i) || mem i ys) (sym iy) ∙ ap (λ b. b || mem i ys) self in
+        let m : mem i (y ∷ ys) ≡ true = ap (λ n. (n == i) || mem i ys) (sym iy) ∙ mem-first i ys in
         elim (from i m) [ inl a ↦ a | inr a ↦ (let e : true ≡ false = sym r ∙ a in cc) ]
 
 pub Covers-drop : (i : ℕ) (xs : List ℕ) (q : ℕ → Progress) (g : List ℕ) (l : List (List ℕ)) → Covers (i ∷ xs) q g l → Settled q g l → is_running (q i) ≡ false → Covers xs q g l

@@ -1,19 +1,12 @@
-use Rattle.std.proofs.Common.{◌≡◌, ◌∙◌, sym, ap, cond, length, true, false}
+use Rattle.std.proofs.Common.{◌≡◌, ◌∙◌, sym, ap, cond, false}
 use Rattle.exec_model.specs.Machine.{State, mem, act}
 use Rattle.exec_model.specs.Jobs.{plan_at}
 use Rattle.exec_core.specs.States.{whole_of}
 use Rattle.exec_core.proofs.Loops.{all_mem}
 use Rattle.exec_core.proofs.rounds.entry.Goals as goal
 
-pub turn-requires-clause-slots : goal.turn-requires-clause-slots
-turn-requires-clause-slots g c =
-    let m : mem c.args.i c.args.group.now ≡ true = sym c.contains.ensures ∙ c.if-contains.true in
-    all_mem (length c.args.m.now.slots.items) c.args.group.now c.args.i c.requires.members m
-
 pub turn-requires-clause-small : goal.turn-requires-clause-small
-turn-requires-clause-small g c =
-    let m : mem c.args.i c.args.group.now ≡ true = sym c.contains.ensures ∙ c.if-contains.true in
-    all_mem 255 c.args.group.now c.args.i c.requires.numbers m
+turn-requires-clause-small g c = all_mem 255 c.args.group.now c.args.i c.requires.numbers (sym c.contains.ensures ∙ c.if-contains.true)
 
 pub returns-else-contains-clause-turn : goal.returns-else-contains-clause-turn
 returns-else-contains-clause-turn g c t e =

@@ -1,7 +1,8 @@
-use Rattle.std.proofs.Common.{◌≡◌, ℕ, ◌+◌, ◌-◌, ◌≤◌, length, drop, true, false}
+use Rattle.std.proofs.Common.{◌≡◌, ◌-◌, ◌≤◌, length, drop}
 use Rattle.exec_model.specs.Jobs.{plan_at}
-use Rattle.exec_model.specs.Machine.{State, turns, mem, any_running}
-use Rattle.exec_core.specs.States.{whole_of, going, progress_of}
+use Rattle.exec_model.specs.Machine.{State, turns}
+use Rattle.exec_core.specs.States.{whole_of, going}
+use Rattle.exec_core.proofs.Loops.{Keeps}
 use Rattle.exec_core.proofs.rounds.use_schedule.Given as goal
 
 abbrev pub invariant-entries : goal.invariant-entries
@@ -10,12 +11,7 @@ invariant-entries g l = record {
       turns (plan_at (g.S.Service.beginning l.svc) l.segs) (going g.S.Prog.Program.plan l.m (g.C.Cells.store l.cells) (g.C.Logged.base l.cells) l.over t) (drop l.used l.schedule)
       ≡ turns (plan_at (g.S.Service.beginning l.svc) l.segs) (whole_of g.S.Prog.Program.plan l.fn.m (g.C.Cells.store l.fn.cells) (g.C.Logged.base l.fn.cells) t) l.schedule;
   used : l.used ≤ length l.schedule;
-  slots : length l.m.slots.items ≡ length l.fn.m.slots.items;
-  locks : length l.m.owner.items ≡ 256;
-  outside : (j : ℕ) → mem j l.group ≡ false → progress_of g.S.Prog.Program.plan l.m.slots.items j ≡ progress_of g.S.Prog.Program.plan l.fn.m.slots.items j;
-  redo_most : l.m.redo ≤ l.fn.m.redo + 1;
-  runs : l.over ≡ false → any_running (progress_of g.S.Prog.Program.plan l.m.slots.items) l.group ≡ true;
-  redo : l.over ≡ false → l.m.redo ≡ l.fn.m.redo;
+  kept : Keeps g.S.Prog.Program.plan l.group l.fn.m l.m l.over;
   start : g.C.Cells.start l.cells ≡ g.C.Cells.start l.fn.cells;
 }
 

@@ -11,45 +11,29 @@ use Rattle.exec_core.specs.Underway.{left_by}
 use Rattle.exec_core.proofs.Whole.{fresh, are_ready, Comes, comes, left_is}
 use Rattle.exec_core.proofs.run.in_groups.Goals as goal
 
-pub run_groups-requires-clause-groups : goal.run_groups-requires-clause-groups
-run_groups-requires-clause-groups g c =
-    let plan = g.S.Prog.Program.plan in
-    let begins = g.S.Service.beginning c.args.svc.now in
+pub run_groups-requires : goal.run_groups-requires
+run_groups-requires g c =
     let e = c.in_ok-m.ensures in
-    let f = fresh plan begins c.args.segs.now c.args.slots.items c.in_ok-m.m c.requires.slots e.slots e.free e.steps e.redo in
-    (are_ready plan begins c.args.segs.now c.in_ok-m.m c.args.groups.now c.requires.few f c.requires.full c.requires.order).members
-
-pub run_groups-requires-clause-once : goal.run_groups-requires-clause-once
-run_groups-requires-clause-once g c =
-    let plan = g.S.Prog.Program.plan in
-    let begins = g.S.Service.beginning c.args.svc.now in
-    let e = c.in_ok-m.ensures in
-    let f = fresh plan begins c.args.segs.now c.args.slots.items c.in_ok-m.m c.requires.slots e.slots e.free e.steps e.redo in
-    (are_ready plan begins c.args.segs.now c.in_ok-m.m c.args.groups.now c.requires.few f c.requires.full c.requires.order).once
-
-pub run_groups-requires-clause-redo : goal.run_groups-requires-clause-redo
-run_groups-requires-clause-redo g c =
-    let plan = g.S.Prog.Program.plan in
-    let begins = g.S.Service.beginning c.args.svc.now in
-    let e = c.in_ok-m.ensures in
-    let f = fresh plan begins c.args.segs.now c.args.slots.items c.in_ok-m.m c.requires.slots e.slots e.free e.steps e.redo in
-    (are_ready plan begins c.args.segs.now c.in_ok-m.m c.args.groups.now c.requires.few f c.requires.full c.requires.order).redo
-
-pub run_groups-requires-clause-runs : goal.run_groups-requires-clause-runs
-run_groups-requires-clause-runs g c =
-    let plan = g.S.Prog.Program.plan in
-    let begins = g.S.Service.beginning c.args.svc.now in
-    let e = c.in_ok-m.ensures in
-    let f = fresh plan begins c.args.segs.now c.args.slots.items c.in_ok-m.m c.requires.slots e.slots e.free e.steps e.redo in
-    (are_ready plan begins c.args.segs.now c.in_ok-m.m c.args.groups.now c.requires.few f c.requires.full c.requires.order).runs
+    let f = fresh _ _ _ _ c.in_ok-m.m c.requires.slots e.slots e.free e.steps e.redo in
+    let r = are_ready _ _ _ c.in_ok-m.m c.args.groups.now c.requires.few f c.requires.full c.requires.order in
+    record {
+      begins = c.requires.begins;
+      here = f.slots;
+      groups = r.members;
+      full = c.requires.full;
+      once = r.once;
+      locks = e.locks;
+      redo = r.redo;
+      runs = r.runs;
+    }
 
 pub returns-clause-done : goal.returns-clause-done
 returns-clause-done g c =
     let plan = g.S.Prog.Program.plan in
     let begins = g.S.Service.beginning c.args.svc.now in
+    let plans = plan_at begins c.args.segs.now in
     let e = c.in_ok-m.ensures in
     let f = fresh plan begins c.args.segs.now c.args.slots.items c.in_ok-m.m c.requires.slots e.slots e.free e.steps e.redo in
-    let plans = plan_at begins c.args.segs.now in
     let order = c.new-order.ensures.items in
     let z : Comes (run_in_groups begins c.args.segs.now (lists_of c.args.groups.now) c.reserve.new.self.now c.args.schedule.now) (length c.args.segs.now) c.run_groups.new.cells.now c.run_groups.new.order.items
     c.run_groups.new.m.steps.items c.run_groups.new.m.redo (progress_of plan c.run_groups.new.m.slots.items) =

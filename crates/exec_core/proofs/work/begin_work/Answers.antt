@@ -1,6 +1,6 @@
-use Rattle.std.proofs.Common.{◌≡◌, ℕ, ◌<◌, ◌∙◌, ap, length, refl, arith}
-use Rattle.key_mixer.specs.Lists.{lists_of, set_at}
-use Rattle.exec_model.specs.Jobs.{groups_of, locks_at}
+use Rattle.std.proofs.Common.{◌≡◌, ◌∙◌, ap, refl, arith}
+use Rattle.key_mixer.specs.Lists.{lists_of}
+use Rattle.exec_model.specs.Jobs.{groups_of}
 use Rattle.exec_core.specs.Batches.{BatchView}
 use Rattle.exec_core.proofs.Whole.{IsFresh, fresh, mixed_groups}
 use Rattle.exec_core.proofs.Underway.{first_state}
@@ -14,9 +14,7 @@ returns-clause-reached g c =
     let s = c.args.store.now.map in
     let e = c.in_ok-m.ensures in
     let f : IsFresh plan begins segs c.in_ok-m.m = fresh plan begins segs c.in_ok-slots.slots.items c.in_ok-m.m c.in_ok-slots.ensures.slots e.slots e.free e.steps e.redo in
-    let long : length c.deref.result.now ≡ length segs = ap length c.deref.ensures.value ∙ c.in_ok-slots.ensures.sets in
-    let same : (j : ℕ) → j < length segs → set_at c.deref.result.now j ≡ locks_at begins segs j = λ j lt. ap (λ xs. set_at xs j) c.deref.ensures.value ∙ c.in_ok-slots.ensures.locks j lt in
-    let mixed : lists_of c.in_ok-groups.groups.items ≡ groups_of begins segs = mixed_groups begins segs c.deref.result.now c.in_ok-groups.groups.items long same c.in_ok-groups.ensures in
+    let mixed : lists_of c.in_ok-groups.groups.items ≡ groups_of begins segs = mixed_groups begins segs _ _ _ _ c.in_ok-slots.ensures.sets c.in_ok-slots.ensures.locks c.deref.ensures.value c.in_ok-groups.ensures refl in
     let now : c.reserve.new.self.now ≡ s = ap (λ (b : BatchView). b.now) c.reserve.ensures.same ∙ c.new-cells.ensures.now ∙ ap (λ x. x.map) c.replace.ensures.value in
     record {
       groups = mixed;
