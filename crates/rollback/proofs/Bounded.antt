@@ -14,7 +14,7 @@ use Rattle.exec_model.specs.Serial.{serial, serial_end}
 use Rattle.exec_model.specs.Jobs.{Beginnings, plan_in, plan_at, said_nothing, run_job, serial_store}
 use Rattle.exec_model.proofs.Outcome.{run_job-store}
 use Rattle.exec_core.specs.Jobs.{BeginsWell}
-use Rattle.exec_core.proofs.Marks.{unwound-append}
+use Rattle.kv_store.proofs.Unwinding.{unwound-append}
 use Rattle.rollback.specs.Runs.{AreNumbers, AreProper}
 
 -- the keys that a plan writes, each with the value before

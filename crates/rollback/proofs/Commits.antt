@@ -1,5 +1,6 @@
 -- A Commit's token, read again.
-use Rattle.std.proofs.Common.{◌≡◌, ℕ, zero, suc, ◌≤◌, List, [], ◌∷◌, length, length-append, map, Some, refl, sym, ap, ◌∙◌, arith}
+use Rattle.std.proofs.Common.{◌≡◌, ℕ, ◌≤◌, List, length, map, Some, refl, sym, ap, ◌∙◌}
+use Rattle.std.proofs.lemmas.List.{length-map}
 use Rattle.aeg_base.specs.Store.{Store, written_all}
 use Rattle.aeg_base.specs.Changes.{changes}
 use Rattle.aeg_base.proofs.ChangeLaws.{written-changes}
@@ -17,6 +18,7 @@ use Rattle.log_values.proofs.OutcomeGrammar.{outcome_grammar}
 use Rattle.log_values.proofs.Wholes.{from_grammar, spelled_is_whole}
 use Rattle.rollback.specs.Settled.{told, Reads, HasToken, Settled, IsTokenOf, serial_outcome}
 use Rattle.rollback.specs.Specs.{IsLeftBy}
+use Rattle.rollback.proofs.Fits.{length_below}
 
 -- the token of an outcome tells it
 pub told_spelled : (o : Outcome) → FitsOutcome o → told (outcome o) ≡ Some o
@@ -43,17 +45,9 @@ left_by run ran s store made room = record {
   room = room;
 }
 
-each_end : (n : ℕ) → length (below n) ≡ n
-each_end zero = refl
-each_end (suc n) = let a = each_end n in let b = length-append (below n) (n ∷ []) in omega arith
-
-mapped : {A B : Type 0} (f : A → B) (xs : List A) → length (map f xs) ≡ length xs
-mapped f [] = refl
-mapped f (x ∷ xs) = ap suc (mapped f xs)
-
 ends_of_run : (begins : Beginnings) (segs : List Seg) (s : Store) (schedule : List ℕ) → length (run_job begins segs s schedule).ends ≡ length segs
 unfolding run_job
-ends_of_run begins segs s schedule = mapped _ (below (length segs)) ∙ each_end (length segs)
+ends_of_run begins segs s schedule = length-map (below (length segs)) _ ∙ length_below (length segs)
 
 -- the token of a run reads as an outcome with one end per segment
 pub reads_of : (begins : Beginnings) (segs : List Seg) (s t : Store) (schedule : List ℕ) (ran : Ran) (token : List ℕ) → IsRan s t (run_job begins segs s schedule) ran → token ≡ outcome ran.outcome → FitsOutcome ran.outcome → Reads token (length segs)

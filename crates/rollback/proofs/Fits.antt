@@ -1,5 +1,7 @@
 -- The outcome of a run has a token.
 use Rattle.std.proofs.Common.{◌≡◌, ℕ, zero, suc, ◌≤◌, ◌==◌, Bool, true, false, cond, ◌&&◌, ◌||◌, T, List, [], ◌∷◌, length, map, Some, None, unwrap_or, refl, sym, ap, ◌∙◌, subst, length-append, arith}
+use Rattle.std.proofs.lemmas.Bool.{and_from}
+use Rattle.std.proofs.lemmas.List.{length-map}
 use Rattle.std.specs.Prelude.{nat_lt}
 use Rattle.std.specs.List.{All, AllByRecursion}
 use Rattle.std.specs.Ordering.{nat_cmp, ordering_then, is_lt}
@@ -9,7 +11,7 @@ use Rattle.std.specs.FinMap.Entries.{put, by_order, below_all, is_sorted}
 use Rattle.aeg_base.specs.declared.names.Key.{Key}
 use Rattle.aeg_base.specs.Store.{Store, key_cmp, value_at, empty, pairs_of}
 use Rattle.aeg_base.specs.Changes.{changes}
-use Rattle.aeg_base.proofs.NumberLaws.{entries-with_number}
+use Rattle.aeg_base.proofs.NumberLaws.{first, second, entries-with_number}
 use Rattle.aeg_base.proofs.StoreLaws.{key_cmp_total}
 use Rattle.svc_api.specs.Plan.{IsKey, IsEnding}
 use Rattle.svc_api.specs.declared.action.Ending.{Ending}
@@ -67,14 +69,6 @@ pairs_picked s t (e ∷ es) n h = at (value_at t e.0 == value_at s e.0) (pairs_p
     at true r = r
     at false r = ((h.0, n e.0), r)
 
-first : (a b : Bool) → T (a && b) → T a
-first true b p = tt
-first false b p = p
-
-second : (a b : Bool) → T (a && b) → T b
-second true b p = p
-second false b p = absurd p
-
 order_is : (a b c d : ℕ) → is_lt (ordering_then (nat_cmp a b) (nat_cmp c d)) ≡ (nat_lt a b || ((a == b) && nat_lt c d))
 order_is a b c d = at (nat_lt a b) (a == b) (nat_lt c d) (c == d)
   where
@@ -89,13 +83,10 @@ true_of : (b : Bool) → T b → b ≡ true
 true_of true h = refl
 true_of false h = absurd h
 
-both_true : (a b : Bool) → a ≡ true → b ≡ true → (a && b) ≡ true
-both_true a b p q = ap (λ x. x && b) p ∙ q
-
 rises_after : (last : Key) (es : List (Key × ℕ)) → T (below_all key_cmp last es) → T (is_sorted key_cmp es) → rises (Some last) es ≡ true
 rises_after last [] b s = refl
 rises_after last (e ∷ es) b s =
-    both_true (is_key_below last e.0) (rises (Some e.0) es)
+    and_from (is_key_below last e.0) (rises (Some e.0) es)
     (sym (order_is last.class e.0.class last.id e.0.id) ∙ true_of (is_lt (key_cmp last e.0)) (first (is_lt (key_cmp last e.0)) (below_all key_cmp last es) b))
     (rises_after e.0 es (first (below_all key_cmp e.0 es) (is_sorted key_cmp es) s) (second (below_all key_cmp e.0 es) (is_sorted key_cmp es) s))
 
@@ -105,13 +96,9 @@ rises_sorted (e ∷ es) s = rises_after e.0 es (first (below_all key_cmp e.0 es)
 
 -- THE ENDS
 
-length_below : (n : ℕ) → length (below n) ≡ n
+pub length_below : (n : ℕ) → length (below n) ≡ n
 length_below zero = refl
 length_below (suc n) = let a = length_below n in let b = length-append (below n) (n ∷ []) in omega arith
-
-length_map : {A B : Type 0} (f : A → B) (xs : List A) → length (map f xs) ≡ length xs
-length_map f [] = refl
-length_map f (x ∷ xs) = ap suc (length_map f xs)
 
 all_map : {A B : Type 0} (P : B → Type 0) (f : A → B) (xs : List A) → ((x : A) → P (f x)) → AllByRecursion P (map f xs)
 all_map P f [] h = tt
@@ -136,7 +123,7 @@ serial_fits begins segs s order proper each few numbers is_order =
       count = (let a = length_picked (unwound es empty) t (pairs_of (touched es empty)) in let b = size_touched es in let c = d.few in let e = ap (λ (xs : List (Key × ℕ)). length xs) same in omega arith);
       pairs = subst (AllByRecursion FitsPair) same (pairs_picked (unwound es empty) t (pairs_of (touched es empty)) d.numbers (keys_touched IsKey es d.keys));
       sorted = rises_sorted (changes s t) (sorted_changes s t);
-      end_count = (let a = length_map f (below n) in let b = length_below n in omega arith);
+      end_count = (let a = length-map (below n) f in let b = length_below n in omega arith);
       ends = all_map IsEnding f (below n) d.ends;
     }
 

@@ -1,6 +1,7 @@
 -- Pairs written one after another, and the order of a job.
-use Rattle.std.proofs.Common.{◌≡◌, ℕ, zero, suc, ◌+◌, ◌<◌, ◌≤◌, ◌==◌, cond, List, [], ◌∷◌, length, drop, get_or, refl, sym, ap, ◌∙◌, arith}
+use Rattle.std.proofs.Common.{◌≡◌, ℕ, zero, suc, ◌+◌, ◌<◌, ◌≤◌, ◌==◌, cond, List, [], ◌∷◌, length, drop, get_or, sym, ap, ◌∙◌, arith}
 use Rattle.std.specs.Prelude.{nat_lt}
+use Rattle.std.proofs.lemmas.List.{drop_more}
 use Rattle.std.specs.List.{AllByRecursion}
 use Rattle.std.proofs.lemmas.Bool.Decides.{nat_tests}
 use Rattle.aeg_base.specs.declared.names.Key.{Key}
@@ -12,17 +13,11 @@ use Rattle.exec_model.specs.Jobs.{below}
 use Rattle.exec_model.proofs.Basics.{times-append}
 use Rattle.log_values.specs.Outcomes.{FitsPair}
 
-pair_here : (ps : List (Key × ℕ)) (k : ℕ) (d : Key × ℕ) → k < length ps → drop k ps ≡ get_or ps k d ∷ drop (k + 1) ps
-pair_here [] k d lt = absurd (omega arith)
-pair_here (x ∷ xs) zero d lt = refl
-pair_here (x ∷ xs) (suc k) d lt =
-    pair_here xs k d (omega arith) ∙ ap (λ n. get_or xs k d ∷ drop n (x ∷ xs)) (let n : suc (k + 1) ≡ suc k + 1 = omega arith in n)
-
 -- one more pair is written
 pub written_more : (ps : List (Key × ℕ)) (k : ℕ) (d : Key × ℕ) (s s' all : Store) → k < length ps → s' ≡ written s (get_or ps k d).0 (get_or ps k d).1
     → written_all s (drop k ps) ≡ all → written_all s' (drop (k + 1) ps) ≡ all
 written_more ps k d s s' all lt w h =
-    ap (λ t. written_all t (drop (k + 1) ps)) w ∙ ap (written_all s) (sym (pair_here ps k d lt)) ∙ h
+    ap (λ t. written_all t (drop (k + 1) ps)) w ∙ ap (written_all s) (sym (drop_more ps k d lt)) ∙ h
 
 pub size_more : (s s' : Store) (k : Key) (v left left' room : ℕ) → s' ≡ written s k v → left' + 1 ≡ left → size s + left ≤ room → size s' + left' ≤ room
 size_more s s' k v left left' room w l h = let a = size-written s k v in let b = ap (λ t. size t) w in omega arith
