@@ -1,5 +1,6 @@
 pub mod Disk
 pub mod Memory
+pub mod Tape
 pub mod Undo
 pub mod MemoryLaws
 pub mod MemDisk

@@ -1,7 +1,15 @@
 -- A disk in memory: its bytes, and what undoes each write and sync, the newest first.
-use Rattle.std.specs.Prelude.{◌≡◌, ℕ, ◌+◌, min, max, List, [], ◌∷◌, ◌++◌, length, take, drop, Bool, true, false, cond, ◌&&◌, ◌||◌, nat_le}
+use Rattle.std.specs.Prelude.{ℕ, ◌+◌, min, max, List, [], ◌∷◌, ◌++◌, length, take, drop, Bool, true, false, cond, ◌&&◌, ◌||◌, nat_le}
 use Rattle.aeg_disk.specs.Disk.{DiskState, Moment}
-use Rattle.aeg_disk.specs.declared.change.Change.{Change}
+
+-- What undoes a write or a sync: where it wrote, how many bytes, the disk's length before it, the bytes that it replaced,
+-- and whether a crash after it leaves what a read gives, as after a sync.
+pub record Change : Type 0 where
+  pub place : ℕ
+  pub count : ℕ
+  pub before : ℕ
+  pub replaced : List ℕ
+  pub settles : Bool
 
 -- the first byte that a change may have replaced
 abbrev pub start_of : Change → ℕ
@@ -9,7 +17,7 @@ start_of c = min c.place c.before
 
 -- the bytes before a change
 abbrev pub undone : Change → List ℕ → List ℕ
-undone c bytes = take c.before (take (start_of c) bytes ++ c.replaced.items ++ drop (start_of c + length c.replaced.items) bytes)
+undone c bytes = take c.before (take (start_of c) bytes ++ c.replaced ++ drop (start_of c + length c.replaced) bytes)
 
 -- what stood at the last sync
 abbrev pub kept_of : List Change → List ℕ → List ℕ
@@ -19,7 +27,7 @@ kept_of (c ∷ log) bytes = cond c.settles bytes (kept_of log (undone c bytes))
 -- the ranges that were written since, the newest first
 abbrev pub ranges_of : List Change → List (ℕ × ℕ)
 ranges_of [] = []
-ranges_of (c ∷ log) = cond c.settles [] ((c.place, c.length) ∷ ranges_of log)
+ranges_of (c ∷ log) = cond c.settles [] ((c.place, c.count) ∷ ranges_of log)
 
 -- each moment, the newest first
 abbrev pub past_of : List Change → List ℕ → List Moment
@@ -28,7 +36,7 @@ past_of (c ∷ log) bytes = record { kept = kept_of (c ∷ log) bytes; ranges = 
 
 -- the change replaced bytes within its range and within the disk, and the disk grew no further than its range
 abbrev pub is_fit : Change → List ℕ → Bool
-is_fit c bytes = nat_le (start_of c + length c.replaced.items) c.before && nat_le (length c.replaced.items) c.length && nat_le c.before (length bytes) && nat_le (length bytes) (max c.before (c.place + c.length))
+is_fit c bytes = nat_le (start_of c + length c.replaced) c.before && nat_le (length c.replaced) c.count && nat_le c.before (length bytes) && nat_le (length bytes) (max c.before (c.place + c.count))
 
 -- each change of the log fits the bytes that it left
 abbrev pub is_logged : List Change → List ℕ → Bool
@@ -54,25 +62,14 @@ memory_state bytes log faults stopped armed keep = record {
 abbrev pub blank_disk : DiskState
 blank_disk = memory_state [] [] 0 false 0 false
 
--- what undoes a write of these bytes over those
-pub record Undoes (at : ℕ) (piece old : List ℕ) (settles : Bool) (c : Change) : Type 0 where
-  pub place : c.place ≡ at
-  pub long : c.length ≡ length piece
-  pub before : c.before ≡ length old
-  pub replaced : c.replaced.items ≡ take (length piece) (drop at old)
-  pub settling : c.settles ≡ settles
+-- what undoes a write of so many bytes over those
+abbrev pub write_of : ℕ → ℕ → List ℕ → Bool → Change
+write_of at n old settles = record { place = at; count = n; before = length old; replaced = take n (drop at old); settles = settles }
 
--- a change that replaced nothing
-pub record Marks (at n size : ℕ) (settles : Bool) (c : Change) : Type 0 where
-  pub place : c.place ≡ at
-  pub long : c.length ≡ n
-  pub before : c.before ≡ size
-  pub replaced : c.replaced.items ≡ []
-  pub settling : c.settles ≡ settles
+-- a change of a disk of this length that replaced nothing
+abbrev pub mark_of : ℕ → ℕ → ℕ → Bool → Change
+mark_of at n size settles = record { place = at; count = n; before = size; replaced = []; settles = settles }
 
 -- a change of all the bytes
-pub record Replaces (old : List ℕ) (c : Change) : Type 0 where
-  pub place : c.place ≡ 0
-  pub before : c.before ≡ length old
-  pub replaced : c.replaced.items ≡ old
-  pub settling : c.settles ≡ true
+abbrev pub loss_of : List ℕ → Change
+loss_of old = record { place = 0; count = 0; before = length old; replaced = old; settles = true }

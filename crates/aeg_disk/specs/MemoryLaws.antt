@@ -2,9 +2,8 @@
 use Rattle.std.proofs.Common.{◌≡◌, ℕ, ◌+◌, ◌≤◌, max, List, [], ◌∷◌, length, Bool, true, false, cond, ◌&&◌, ◌||◌, nat_le, refl, arith}
 use Rattle.std.proofs.lemmas.Bool.Decides.{nat_tests}
 use Rattle.aeg_disk.specs.Disk.{IsImage, Lawful}
-use Rattle.aeg_disk.specs.Memory.{start_of, undone, kept_of, ranges_of, is_fit, is_logged, memory_state}
+use Rattle.aeg_disk.specs.Memory.{Change, start_of, undone, kept_of, ranges_of, is_fit, is_logged, memory_state}
 use Rattle.aeg_disk.specs.Undo.{torn_undo}
-use Rattle.aeg_disk.specs.declared.change.Change.{Change}
 
 fit : (a b n l m : ℕ) → (nat_le a b && nat_le n l && nat_le b m && nat_le m (max b (a + l))) ≡ true → (a ≤ b) × (n ≤ l)
 fit a b n l m h = grind (arith, nat_tests)
@@ -30,12 +29,12 @@ logged_image (c ∷ log) bytes h = at (λ g. logged_image log (undone c bytes) g
   where
     at : (is_logged log (undone c bytes) ≡ true → IsImage (kept_of log (undone c bytes)) (ranges_of log) (undone c bytes))
         → (s : Bool) → ((s || is_fit c bytes) && is_logged log (undone c bytes)) ≡ true
-        → IsImage (cond s bytes (kept_of log (undone c bytes))) (cond s [] ((c.place, c.length) ∷ ranges_of log)) bytes
+        → IsImage (cond s bytes (kept_of log (undone c bytes))) (cond s [] ((c.place, c.count) ∷ ranges_of log)) bytes
     at ih true g = refl
     at ih false g =
         let parts = both (is_fit c bytes) (is_logged log (undone c bytes)) g in
-        let fits = four (nat_le (start_of c + length c.replaced.items) c.before) (nat_le (length c.replaced.items) c.length) (nat_le c.before (length bytes)) (nat_le (length bytes) (max c.before (c.place + c.length))) parts.0 in
-        (undone c bytes, ih parts.1, torn_undo c.place c.length c.before c.replaced.items bytes (le_of _ _ fits.0) (le_of _ _ fits.1) (le_of _ _ fits.2) (le_of _ _ fits.3))
+        let fits = four (nat_le (start_of c + length c.replaced) c.before) (nat_le (length c.replaced) c.count) (nat_le c.before (length bytes)) (nat_le (length bytes) (max c.before (c.place + c.count))) parts.0 in
+        (undone c bytes, ih parts.1, torn_undo c.place c.count c.before c.replaced bytes (le_of _ _ fits.0) (le_of _ _ fits.1) (le_of _ _ fits.2) (le_of _ _ fits.3))
 
 pub lawful_memory : (bytes : List ℕ) (log : List Change) (faults : ℕ) (stopped : Bool) (armed : ℕ) (keep : Bool) → is_logged log bytes ≡ true → Lawful (memory_state bytes log faults stopped armed keep)
 lawful_memory bytes log faults stopped armed keep h = record { size = refl; reads = logged_image log bytes h }

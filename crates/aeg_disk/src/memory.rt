@@ -1,19 +1,19 @@
 // A disk in memory, with faults at the calls that it is told.
-ghost use Rattle.std.specs.Prelude.{◌≡◌, reverse, true};
+ghost use Rattle.std.specs.Prelude.{◌≡◌, true};
 ghost use Rattle.aeg_disk.specs.Memory.{is_logged};
 
-use crate::change::Change;
+use crate::changing::{lose, put};
 use crate::disk::{Device, Disk, DiskErr};
-use crate::tape;
+use crate::tape::Tape;
 use aeg_base::Memory;
 use std::alloc::Global;
 
-/// A disk in memory. It keeps what undoes each write and sync, and copies nothing at a sync.
+/// A disk in memory, of less than 4 GiB. It keeps what undoes each write and sync, and copies nothing at a sync.
 #[derive(Drop)]
 pub struct MemDisk {
     alloc: Global,
     bytes: Vec<u8>,
-    log: Vec<Change>,
+    tape: Tape,
     // The numbers of the calls that are to fail, counted from 0.
     fails: Vec<u32>,
     calls: u64,
@@ -21,7 +21,7 @@ pub struct MemDisk {
     stopped: bool,
     armed: u8,
     keep: bool,
-    ghost logged: { is_logged (reverse log.items) bytes.items ≡ true },
+    ghost logged: { is_logged tape bytes.items ≡ true },
 }
 
 impl MemDisk {
@@ -37,7 +37,7 @@ impl MemDisk {
         MemDisk {
             alloc,
             bytes: Vec::new(alloc),
-            log: Vec::new(alloc),
+            tape: Tape::new(alloc),
             fails,
             calls: 0,
             faults: 0,
@@ -67,7 +67,7 @@ impl MemDisk {
         ensures stop { OnOk result (Stop (state_of self.old) (state_of self.new) (written at piece.now (state_of self.old).bytes)) }
         ensures err { OnErr result (state_of self.new ≡ state_of self.old) }
     {
-        tape::put(self.alloc, &mut self.bytes, &mut self.log, at, piece, true)?;
+        put(&mut self.bytes, &mut self.tape, at, piece, true)?;
         self.calls = self.calls.saturating_add(1);
         self.armed = 0;
         self.stopped = true;
@@ -82,7 +82,7 @@ impl MemDisk {
         ensures stop { OnOk result (Stop (state_of self.old) (state_of self.new) (state_of self.old).bytes) }
         ensures err { OnErr result (state_of self.new ≡ state_of self.old) }
     {
-        tape::mark(self.alloc, &mut self.log, 0, 0, self.bytes.len(), true)?;
+        self.tape.add(0, 0, self.bytes.len(), &[], true)?;
         self.calls = self.calls.saturating_add(1);
         self.armed = 0;
         self.stopped = true;
@@ -97,7 +97,7 @@ impl MemDisk {
         ensures stop { OnOk result ((left : _) → Stop (state_of self.old) (state_of self.new) left) }
         ensures err { OnErr result (state_of self.new ≡ state_of self.old) }
     {
-        tape::lose(self.alloc, &mut self.bytes, &mut self.log)?;
+        lose(self.alloc, &mut self.bytes, &mut self.tape)?;
         self.calls = self.calls.saturating_add(1);
         self.armed = 0;
         self.stopped = true;
@@ -112,7 +112,7 @@ impl MemDisk {
         ensures done { OnOk result (Done (state_of self.old) (state_of self.new) (max (state_of self.old).size (at + length piece.now)) (Put at piece.now (state_of self.old) (state_of self.new))) }
         ensures err { OnErr result (state_of self.new ≡ state_of self.old) }
     {
-        tape::put(self.alloc, &mut self.bytes, &mut self.log, at, piece, false)?;
+        put(&mut self.bytes, &mut self.tape, at, piece, false)?;
         self.calls = self.calls.saturating_add(1);
         self.armed = self.armed.saturating_sub(1);
         Ok(())
@@ -125,7 +125,7 @@ impl MemDisk {
         ensures done { OnOk result (Done (state_of self.old) (state_of self.new) (state_of self.old).size (Settled (state_of self.old) (state_of self.new))) }
         ensures err { OnErr result (state_of self.new ≡ state_of self.old) }
     {
-        tape::mark(self.alloc, &mut self.log, 0, 0, self.bytes.len(), true)?;
+        self.tape.add(0, 0, self.bytes.len(), &[], true)?;
         self.calls = self.calls.saturating_add(1);
         self.armed = self.armed.saturating_sub(1);
         Ok(())
@@ -138,14 +138,7 @@ impl MemDisk {
         ensures fault { OnOk result (Fault (state_of self.old) (state_of self.new) (max (state_of self.old).size (at + count)) (Spoilt at count (state_of self.old) (state_of self.new))) }
         ensures err { OnErr result (state_of self.new ≡ state_of self.old) }
     {
-        tape::mark(
-            self.alloc,
-            &mut self.log,
-            at,
-            count,
-            self.bytes.len(),
-            false,
-        )?;
+        self.tape.add(at, count, self.bytes.len(), &[], false)?;
         self.calls = self.calls.saturating_add(1);
         self.armed = self.armed.saturating_sub(1);
         self.faults = self.faults.saturating_add(1);
@@ -215,13 +208,12 @@ impl From<Memory> for DiskErr {
 }
 
 impl Disk for MemDisk {
-    ghost use Rattle.std.specs.Prelude.{reverse};
     ghost use Rattle.aeg_disk.specs.MemDisk.{state_of};
     ghost use Rattle.aeg_disk.specs.MemoryLaws.{lawful_memory};
 
     ghost state = { state_of };
 
-    ghost lawful = { λ d t. lawful_memory d.bytes.items (reverse d.log.items) d.faults d.stopped d.armed d.keep d.logged };
+    ghost lawful = { λ d t. lawful_memory d.bytes.items d.tape d.faults d.stopped d.armed d.keep d.logged };
 
     fn len(&mut self) -> Result<u64, DiskErr> {
         if self.stopped {
@@ -295,6 +287,6 @@ impl Device for MemDisk {
 
     fn erase(&mut self) {
         self.bytes.clear();
-        self.log.clear();
+        self.tape.clear();
     }
 }

@@ -1,149 +1,126 @@
-// The bytes of a disk in memory, and what undoes each change of them.
-ghost use Rattle.std.specs.Prelude.{◌≡◌, ◌+◌, ◌-◌, ◌<◌, ◌≤◌, ◌^◌, ◌++◌, [], ◌∷◌, length, take, drop, replicate, reverse, true, IfOk, OnOk, OnErr};
-ghost use Rattle.aeg_disk.specs.Disk.{written};
-ghost use Rattle.aeg_disk.specs.Memory.{Undoes, Marks, Replaces, undone, kept_of};
+// What undoes each write and sync of a disk in memory.
+ghost use Rattle.std.specs.Prelude.{◌≡◌, ◌∷◌, [], length, reverse, OnOk, OnErr, IfOk};
+ghost use Rattle.aeg_disk.specs.Memory.{kept_of, undone};
+ghost use Rattle.aeg_disk.specs.Tape.{change_of, changes_of};
 
-use crate::change::Change;
+use crate::note::Note;
 use aeg_base::Memory;
 use std::alloc::Global;
+use std::marker::Model;
 
-// Writes over what is there.
-fn overlay(bytes: &mut [u8], at: usize, piece: &[u8])
-    requires { at + length piece.now ≤ length bytes.old }
-    ensures { bytes.new ≡ take at bytes.old ++ piece.now ++ drop (at + length piece.now) bytes.old }
-{
-    bytes[at..at + piece.len()].copy_from_slice(piece);
+/// What undoes each write and sync, which contracts see as a list of changes, the newest first. The bytes that were
+/// replaced stand in one run, those of a later change behind those of an earlier one.
+#[derive(Drop)]
+pub struct Tape {
+    notes: Vec<Note>,
+    run: Vec<u8>,
 }
 
-fn overlay_in(bytes: &mut Vec<u8>, at: usize, piece: &[u8])
-    requires { at + length piece.now ≤ length bytes.old.items }
-    ensures { bytes.new.items ≡ take at bytes.old.items ++ piece.now ++ drop (at + length piece.now) bytes.old.items }
-{
-    overlay(bytes, at, piece);
+impl Model for Tape {
+    ghost use Rattle.std.specs.Prelude.{List, reverse};
+    ghost use Rattle.aeg_disk.specs.Memory.{Change};
+    ghost use Rattle.aeg_disk.specs.Tape.{changes_of};
+
+    ghost Value = { List Change };
+
+    ghost view = { λ t. changes_of (reverse t.notes.items) t.run.items };
 }
 
-// Fills up to this length with 0.
-fn grow(bytes: &mut Vec<u8>, to: usize) -> Result<(), Memory>
-    ensures ok { OnOk result (bytes.new.items ≡ bytes.old.items ++ replicate (to - length bytes.old.items) 0) }
-    ensures err { OnErr result (bytes.new.items ≡ bytes.old.items) }
+/// A number as a note has it.
+fn narrow(n: usize) -> Result<u32, Memory>
+    ensures { IfOk result (λ m. m ≡ n) }
 {
-    if to > bytes.len() {
-        bytes.resize(to, 0)?;
+    match u32::try_from(n) {
+        Ok(m) => Ok(m),
+        Err(_) => Err(Memory),
     }
-    Ok(())
-}
-
-// The bytes of a range, as far as they are there.
-fn part(alloc: Global, bytes: &[u8], at: usize, count: usize) -> Result<Vec<u8>, Memory>
-    requires { at + count < 2 ^ 64 }
-    ensures { IfOk result (λ v. v.items ≡ take count (drop at bytes.now)) }
-{
-    let len = bytes.len();
-    Ok(bytes[at.min(len)..(at + count).min(len)].to_vec(alloc)?)
-}
-
-/// Writes, in place, once there is room for all of it.
-pub(crate) fn put(
-    alloc: Global,
-    bytes: &mut Vec<u8>,
-    log: &mut Vec<Change>,
-    at: usize,
-    piece: &[u8],
-    settles: bool,
-) -> Result<(), Memory>
-    requires { at + length piece.now < 2 ^ 64 }
-    ensures written { OnOk result (bytes.new.items ≡ written at piece.now bytes.old.items) }
-    ensures logged { OnOk result ((c : _) × (log.new.items ≡ log.old.items ++ c ∷ []) × Undoes at piece.now bytes.old.items settles c) }
-    ensures err { OnErr result ((bytes.new.items ≡ bytes.old.items) × (log.new.items ≡ log.old.items)) }
-{
-    let before = bytes.len();
-    let end = at + piece.len();
-    let replaced = part(alloc, bytes, at, piece.len())?;
-    grow(bytes, end)?;
-    let change = Change {
-        place: at,
-        length: piece.len(),
-        before,
-        replaced,
-        settles,
-    };
-    if log.push(change).is_err() {
-        bytes.truncate(before);
-        return Err(Memory);
-    }
-    overlay_in(bytes, at, piece);
-    Ok(())
-}
-
-/// Notes a sync, or the range of a write that failed.
-pub(crate) fn mark(
-    alloc: Global,
-    log: &mut Vec<Change>,
-    at: usize,
-    count: usize,
-    before: usize,
-    settles: bool,
-) -> Result<(), Memory>
-    ensures logged { OnOk result ((c : _) × (log.new.items ≡ log.old.items ++ c ∷ []) × Marks at count before settles c) }
-    ensures err { OnErr result (log.new.items ≡ log.old.items) }
-{
-    let change = Change {
-        place: at,
-        length: count,
-        before,
-        replaced: Vec::new(alloc),
-        settles,
-    };
-    log.push(change)?;
-    Ok(())
 }
 
 // The bytes before a change.
-fn undo(alloc: Global, bytes: &[u8], change: &Change) -> Result<Vec<u8>, Memory>
-    ensures { IfOk result (λ v. v.items ≡ undone change.now bytes.now) }
+fn undo(alloc: Global, bytes: &[u8], note: Note, replaced: &[u8]) -> Result<Vec<u8>, Memory>
+    ensures { IfOk result (λ v. v.items ≡ undone (change_of note replaced.now) bytes.now) }
 {
-    let start = change.place.min(change.before);
+    let before = note.before as usize;
+    let start = (note.place as usize).min(before);
     let len = bytes.len();
-    let end = start.saturating_add(change.replaced.len()).min(len);
+    let end = start.saturating_add(replaced.len()).min(len);
     let mut out = bytes[..start.min(len)].to_vec(alloc)?;
-    out.extend_from_slice(&change.replaced)?;
+    out.extend_from_slice(replaced)?;
     out.extend_from_slice(&bytes[end..])?;
-    out.truncate(change.before);
+    out.truncate(before);
     Ok(out)
 }
 
-// What stood at the last sync.
-fn kept(alloc: Global, bytes: &[u8], log: &[Change]) -> Result<Vec<u8>, Memory>
-    ensures { IfOk result (λ v. v.items ≡ kept_of (reverse log.now) bytes.now) }
+// The bytes before all changes since the last one that settled them.
+fn kept(alloc: Global, bytes: &[u8], notes: &[Note], run: &[u8]) -> Result<Vec<u8>, Memory>
+    ensures { IfOk result (λ v. v.items ≡ kept_of (changes_of (reverse notes.now) run.now) bytes.now) }
 {
     let mut out = bytes.to_vec(alloc)?;
-    let mut rest = log;
+    let mut rest = notes;
+    let mut run = run;
     while let [before @ .., last] = rest {
         if last.settles {
             break;
         }
-        out = undo(alloc, &out, last)?;
+        let (older, replaced) = run.split_at(run.len().saturating_sub(last.replaced as usize));
+        out = undo(alloc, &out, *last, replaced)?;
         rest = before;
+        run = older;
     }
     Ok(out)
 }
 
-/// Puts what stood at the last sync in the place of the bytes.
-pub(crate) fn lose(alloc: Global, bytes: &mut Vec<u8>, log: &mut Vec<Change>) -> Result<(), Memory>
-    ensures kept { OnOk result (bytes.new.items ≡ kept_of (reverse log.old.items) bytes.old.items) }
-    ensures logged { OnOk result ((c : _) × (log.new.items ≡ log.old.items ++ c ∷ []) × Replaces bytes.old.items c) }
-    ensures err { OnErr result ((bytes.new.items ≡ bytes.old.items) × (log.new.items ≡ log.old.items)) }
-{
-    let next = kept(alloc, bytes, log)?;
-    let replaced = bytes.to_vec(alloc)?;
-    let change = Change {
-        place: 0,
-        length: 0,
-        before: replaced.len(),
-        replaced,
-        settles: true,
-    };
-    log.push(change)?;
-    *bytes = next;
-    Ok(())
+impl Tape {
+    /// Nothing was written.
+    pub fn new(alloc: Global) -> Self
+        ensures { result ≡ [] }
+    {
+        Tape {
+            notes: Vec::new(alloc),
+            run: Vec::new(alloc),
+        }
+    }
+
+    /// Takes note of a change at a place, of a disk of this length: it wrote so many bytes over these.
+    pub fn add(
+        &mut self,
+        place: usize,
+        count: usize,
+        before: usize,
+        replaced: &[u8],
+        settles: bool,
+    ) -> Result<(), Memory>
+        ensures ok { OnOk result (self.new ≡ record { place = place; count = count; before = before; replaced = replaced.now; settles = settles } ∷ self.old) }
+        ensures err { OnErr result (self.new ≡ self.old) }
+    {
+        let note = Note {
+            place: narrow(place)?,
+            count: narrow(count)?,
+            before: narrow(before)?,
+            replaced: narrow(replaced.len())?,
+            settles,
+        };
+        let earlier = self.run.len();
+        self.run.extend_from_slice(replaced)?;
+        if self.notes.push(note).is_err() {
+            self.run.truncate(earlier);
+            return Err(Memory);
+        }
+        Ok(())
+    }
+
+    /// What stood at the last sync.
+    pub fn kept(&self, alloc: Global, bytes: &[u8]) -> Result<Vec<u8>, Memory>
+        ensures { IfOk result (λ v. v.items ≡ kept_of self.now bytes.now) }
+    {
+        kept(alloc, bytes, &self.notes, &self.run)
+    }
+
+    /// Forgets all changes.
+    pub fn clear(&mut self)
+        ensures { self.new ≡ [] }
+    {
+        self.notes.clear();
+        self.run.clear();
+    }
 }
