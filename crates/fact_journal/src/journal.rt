@@ -1,5 +1,5 @@
 // Records of facts on a disk, and what a restart takes of them.
-ghost use Rattle.std.specs.Prelude.{◌≡◌, ◌⊎◌, ◌↔◌, ℕ, ◌+◌, ◌-◌, ◌≤◌, ◌^◌, min, List, true, false, length, IfOk, OnOk, OnErr};
+ghost use Rattle.std.specs.Prelude.{◌≡◌, ◌⊎◌, ◌↔◌, ℕ, ◌+◌, ◌-◌, ◌≤◌, ◌^◌, min, List, [], true, false, length, IfOk, OnOk, OnErr};
 ghost use Rattle.std.specs.List.{AllByRecursion};
 ghost use Rattle.aeg_disk.specs.Disk.{Rose, Later};
 ghost use Rattle.node_journal.specs.Append.{LeavesOnly};
@@ -13,12 +13,22 @@ ghost use Rattle.fact_journal.specs.Calls.{length_with, is_past, old_or_new, App
 
 use crate::reading::read_facts;
 use aeg_base::limits::{JOURNAL_BYTES, RECORD_BYTES};
-use aeg_base::{Bytes, Tier};
+use aeg_base::{Bytes, Memory, Tier};
 use aeg_disk::Disk;
 use log_values::{Fact, Record};
 use node_journal::{AppendErr, Journal, OpenErr, open_on};
 use std::alloc::Global;
 use std::marker::Model;
+
+/// The room with which a record begins: that of a promise, the shortest fact and the most frequent one.
+const RECORD_ROOM: usize = 8;
+
+/// No bytes of a record yet.
+fn begun(alloc: Global) -> Result<Bytes, Memory>
+    ensures { IfOk result (λ body. body ≡ []) }
+{
+    Ok(Bytes::of(Vec::with_capacity(alloc, RECORD_ROOM)?))
+}
 
 /// The journal of an opened disk, which contracts see as the place of the shut gate that ends it.
 #[derive(Drop)]
@@ -80,7 +90,7 @@ impl FactJournal {
         if facts.facts().is_empty() {
             return Ok(());
         }
-        let mut body = Bytes::new(self.alloc);
+        let mut body = begun(self.alloc)?;
         facts.encode(&mut body)?;
         self.journal.append(disk, &body)
     }

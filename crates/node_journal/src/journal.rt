@@ -32,8 +32,9 @@ impl From<Memory> for AppendErr {
 /// The journal of an opened disk, which contracts see as the place of the shut gate that ends it.
 #[derive(Drop)]
 pub struct Journal {
-    pub(crate) alloc: Global,
-    pub(crate) end: u64,
+    end: u64,
+    // Room for an entry, kept from call to call.
+    room: Vec<u8>,
 }
 
 impl Model for Journal {
@@ -44,17 +45,17 @@ impl Model for Journal {
     ghost view = { λ j. j.end };
 }
 
-// An entry behind its gate, and the shut gate that is to follow it.
-fn entry_of(alloc: Global, body: &Bytes) -> Result<Vec<u8>, Memory>
+// An entry behind its gate, and the shut gate that is to follow it, in place of what was in the room.
+fn fill(room: &mut Vec<u8>, body: &Bytes) -> Result<(), Memory>
     requires { length body.now ≤ RECORD_BYTES }
-    ensures { IfOk result (λ v. v.items ≡ entry body.now) }
+    ensures { OnOk result (room.new.items ≡ entry body.now) }
 {
-    let mut out = Vec::new(alloc);
     let len = body.items().len() as u32;
-    out.extend_from_slice(&len.to_be_bytes())?;
-    out.extend_from_slice(body.items())?;
-    out.push(0)?;
-    Ok(out)
+    room.clear();
+    room.extend_from_slice(&len.to_be_bytes())?;
+    room.extend_from_slice(body.items())?;
+    room.push(0)?;
+    Ok(())
 }
 
 // The gate is shut on the disk before the entry is written, and opened once the entry is on the disk.
@@ -70,6 +71,16 @@ fn write_entry<D: Disk>(disk: &mut D, gate: u64, piece: &[u8]) -> Result<(), Dis
 }
 
 impl Journal {
+    /// The journal whose shut gate stands at this place.
+    pub(crate) fn ending_at(alloc: Global, end: u64) -> Self
+        ensures { result ≡ end }
+    {
+        Journal {
+            end,
+            room: Vec::new(alloc),
+        }
+    }
+
     /// The place of the shut gate that ends it.
     pub fn place(&self) -> u64
         ensures { result ≡ self.now }
@@ -112,8 +123,8 @@ impl Journal {
         if len > JOURNAL_BYTES {
             return Err(AppendErr::Full { len });
         }
-        let piece = entry_of(self.alloc, body)?;
-        match write_entry(disk, self.end, &piece) {
+        fill(&mut self.room, body)?;
+        match write_entry(disk, self.end, &self.room) {
             Ok(()) => {
                 self.end += 5 + size;
                 Ok(())

@@ -197,10 +197,10 @@ pub fn open_on<D: Disk>(alloc: Global, disk: &mut D) -> Result<(Journal, Vec<Byt
     let len = disk.len()?;
     if len > 1 {
         return match read_entries(alloc, disk, len) {
-            Ok((end, list)) => Ok((Journal { alloc, end }, list)),
+            Ok((end, list)) => Ok((Journal::ending_at(alloc, end), list)),
             Err(e) => Err(e),
         };
     }
     shut(disk)?;
-    Ok((Journal { alloc, end: 0 }, Vec::new(alloc)))
+    Ok((Journal::ending_at(alloc, 0), Vec::new(alloc)))
 }

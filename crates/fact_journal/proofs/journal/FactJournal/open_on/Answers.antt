@@ -25,8 +25,8 @@ returns-in-Ok-read_facts-clause-one_list g c = λ lists s each.
     reads_one c.args.tier lists old s each (g.met.D.Disk.lawful c.args.disk.now t) new facts c.in-Ok.journal
     (opened c.args.tier old new c.deref.result.now facts c.in-Ok.journal (c.deref.ensures.value ∙ c.in-Ok.ensures.records t) (c.in-Ok.ensures.ready t) (c.in-Ok.ensures.size t ∙ ap size_of (sym c.deref.ensures.value)) c.in-Ok-read_facts.ensures.read)
 
-pub returns-in-Ok-clause-none_refused : goal.returns-in-Ok-clause-none_refused
-returns-in-Ok-clause-none_refused g c = λ lists s each n is.
+pub returns-in-Err-read_facts-clause-none_refused : goal.returns-in-Err-read_facts-clause-none_refused
+returns-in-Err-read_facts-clause-none_refused g c = λ lists s each n is.
     let t = s.tells in
     let old = g.D.Disk.state c.args.disk.now in
     let e : c.in-Err-read_facts.e ≡ BadRecord n = cc is in
@@ -35,8 +35,8 @@ returns-in-Ok-clause-none_refused g c = λ lists s each n is.
     none_refused c.args.tier lists old s each (g.met.D.Disk.lawful c.args.disk.now t) n
     (inr (c.in-Ok.ensures.whole t, subst (λ (l : List (List ℕ)). IsMisfitAt c.args.tier n l) (c.deref.ensures.value ∙ c.in-Ok.ensures.records t) (c.in-Err-read_facts.ensures.misfit n (ap Err e) short)))
 
-pub returns-clause-none_refused : goal.returns-clause-none_refused
-returns-clause-none_refused g c = λ lists s each n is.
+pub returns-in-Err-clause-none_refused : goal.returns-in-Err-clause-none_refused
+returns-in-Err-clause-none_refused g c = λ lists s each n is.
     let t = s.tells in
     let e : c.in-Err.e ≡ BadRecord n = cc is in
     none_refused c.args.tier lists (g.D.Disk.state c.args.disk.now) s each (g.met.D.Disk.lawful c.args.disk.now t) n (inl (c.in-Err.ensures.bad n (ap Err e) t))
