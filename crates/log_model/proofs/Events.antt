@@ -11,27 +11,27 @@ use Rattle.log_model.specs.World.Mode.{Up, Down, Gone}
 use Rattle.log_model.specs.World.Device.{Fine, CutKeep, CutDrop, Fault}
 use Rattle.log_model.specs.World.Found.{Reads, Nowhere}
 use Rattle.log_model.specs.World.Event.{Deliver, Lead, Offer, Crash, Restart, Wipe}
-use Rattle.log_model.proofs.Basics.{nothing_seen, Every, every-get}
+use Rattle.log_model.proofs.Basics.{Every, every-get}
 use Rattle.log_model.proofs.Invariant.{PacketOk, ModeOk, Inv, TurnOk, IsPending}
-use Rattle.log_model.proofs.Step.{quiet_node, turn_kept, write_kept}
+use Rattle.log_model.proofs.Step.{quiet_node, restored, turn_kept, write_kept}
 use Rattle.log_model.proofs.History.{newest-push}
 use Rattle.log_model.proofs.Rows.{Known, lead_ok}
 use Rattle.log_model.proofs.Votes.{offer_ok, on_msg_ok}
 
-failed_ok : {V : Type 0} (u : ℕ) (w : World V) (x : ℕ) (d : Device) (t : Turn V) (i : Inv u w) → x < 2 * u + 1 → newest (w.nodes x).records ≡ i.h x → TurnOk u i.h w.soup x t → is_fine d ≡ false
+failed_ok : {V : Type 0} (u : ℕ) (w : World V) (x : ℕ) (d : Device) (t : Turn V) (i : Inv u w) → newest (w.nodes x).records ≡ i.h x → TurnOk u i.h w.soup x t → is_fine d ≡ false
     → Inv u (with_node w x (failed (w.nodes x) t.facts d))
-failed_ok u w x Fine t i lx same k e = absurd (cc)
-failed_ok u w x CutKeep t i lx same k e = write_kept u w x t (failed (w.nodes x) t.facts CutKeep) i lx k (λ g f. (newest-push (w.nodes x).records t.facts [] ∙ ap (onto t.facts) same ∙ sym f, tt))
-failed_ok u w x CutDrop t i lx same k e = quiet_node u w x (failed (w.nodes x) t.facts CutDrop) i (λ l. (same, tt))
-failed_ok u w x Fault t i lx same k e = quiet_node u w x (failed (w.nodes x) t.facts Fault) i
+failed_ok u w x Fine t i same k e = absurd (cc)
+failed_ok u w x CutKeep t i same k e = write_kept u w x t (failed (w.nodes x) t.facts CutKeep) i k (λ g f. (newest-push (w.nodes x).records t.facts [] ∙ ap (onto t.facts) same ∙ sym f, tt))
+failed_ok u w x CutDrop t i same k e = quiet_node u w x (failed (w.nodes x) t.facts CutDrop) i (λ l. (same, tt))
+failed_ok u w x Fault t i same k e = quiet_node u w x (failed (w.nodes x) t.facts Fault) i
     (λ l. (same, (record { turn = t; is = newest-push (w.nodes x).records t.facts [] ∙ ap (onto t.facts) same; ok = k }, tt)))
 
-takes_ok : {V : Type 0} (u : ℕ) (w : World V) (x : ℕ) (d : Device) (t : Turn V) (i : Inv u w) → x < 2 * u + 1 → newest (w.nodes x).records ≡ i.h x → TurnOk u i.h w.soup x t → Inv u (takes w x d t)
-takes_ok u w x d t i lx same k = cond_both (is_fine d || not (writes t.facts)) _ _ (Inv u) (λ e. turn_kept u w x t i lx same k) (λ e. failed_ok u w x d t i lx same k (or_parts (is_fine d) _ e).0)
+takes_ok : {V : Type 0} (u : ℕ) (w : World V) (x : ℕ) (d : Device) (t : Turn V) (i : Inv u w) → newest (w.nodes x).records ≡ i.h x → TurnOk u i.h w.soup x t → Inv u (takes w x d t)
+takes_ok u w x d t i same k = cond_both (is_fine d || not (writes t.facts)) _ _ (Inv u) (λ e. turn_kept u w x t i same k) (λ e. failed_ok u w x d t i same k (or_parts (is_fine d) _ e).0)
 
 up_ok : {V : Type 0} (u : ℕ) (w : World V) (x : ℕ) (d : Device) (turn : LogState V → Turn V) (m : Mode (LogState V)) (i : Inv u w) → u < 128 → x < 2 * u + 1 → ModeOk u i.h w.soup x (w.nodes x) m
     → ((log : LogState V) → Known u i.h w.soup x log → TurnOk u i.h w.soup x (turn log)) → Inv u (at_up w x d m turn)
-up_ok u w x d turn (Up log) i few lx k f = takes_ok u w x d (turn log) i lx k.0 (f log (record { few = few; inside = lx; history = i.history; state = k.1 }))
+up_ok u w x d turn (Up log) i few lx k f = takes_ok u w x d (turn log) i k.0 (f log (record { few = few; inside = lx; history = i.history; state = k.1 }))
 up_ok u w x d turn Down i few lx k f = i
 up_ok u w x d turn Gone i few lx k f = i
 
@@ -53,35 +53,35 @@ crashed_ok u w i x node Down k l = l
 crashed_ok u w i x node Gone k l = l
 
 from_records : {V : Type 0} (u : ℕ) (soup : List (Packet V)) (x : ℕ) (g : ℕ → List (Fact V)) (R : List (List (Fact V))) → newest R ≡ g x → ModeOk u g soup x (up_from u R) (up_from u R).mode
-from_records u soup x g R e = (e, rw e (record { promised = refl; accepted = refl; learned = refl; seen = λ y b e. absurd (nothing_seen (2 * u + 1) y b e); leader = tt }))
+from_records u soup x g R e = (e, rw e (restored u g soup x (g x)))
 
-up_as_ok : {V : Type 0} (u : ℕ) (w : World V) (x k : ℕ) (o : Option (List (List (Fact V)))) (i : Inv u w) → x < 2 * u + 1 → ModeOk u i.h w.soup x (w.nodes x) (w.nodes x).mode → Every (IsPending u i.h w.soup x) (w.nodes x).others
+up_as_ok : {V : Type 0} (u : ℕ) (w : World V) (x k : ℕ) (o : Option (List (List (Fact V)))) (i : Inv u w) → ModeOk u i.h w.soup x (w.nodes x) (w.nodes x).mode → Every (IsPending u i.h w.soup x) (w.nodes x).others
     → slice_get (w.nodes x).others k ≡ o → Inv u (with_node w x (up_as u (w.nodes x) o))
-up_as_ok u w x k None i lx l p e = quiet_node u w x (w.nodes x) i (λ lx. l)
-up_as_ok {V} u w x k (Some R) i lx l p e = write_kept u w x q.turn (up_from u R) i lx q.ok (λ g f. from_records u w.soup x g R (q.is ∙ sym f))
+up_as_ok u w x k None i l p e = quiet_node u w x (w.nodes x) i (λ lx. l)
+up_as_ok {V} u w x k (Some R) i l p e = write_kept u w x q.turn (up_from u R) i q.ok (λ g f. from_records u w.soup x g R (q.is ∙ sym f))
   where
     q : IsPending u i.h w.soup x R
     q = every-get (IsPending u i.h w.soup x) (w.nodes x).others k R p e
 
-found_ok : {V : Type 0} (u : ℕ) (w : World V) (x k : ℕ) (i : Inv u w) → x < 2 * u + 1 → ModeOk u i.h w.soup x (w.nodes x) (w.nodes x).mode → ModeOk u i.h w.soup x (w.nodes x) Down → Inv u (with_node w x (found_at u (w.nodes x) k))
-found_ok u w x zero i lx l m = quiet_node u w x (up_from u (w.nodes x).records) i (λ lx. from_records u w.soup x i.h (w.nodes x).records m.0)
-found_ok u w x (suc k) i lx l m = up_as_ok u w x k (slice_get (w.nodes x).others k) i lx l m.1 refl
+found_ok : {V : Type 0} (u : ℕ) (w : World V) (x k : ℕ) (i : Inv u w) → ModeOk u i.h w.soup x (w.nodes x) (w.nodes x).mode → ModeOk u i.h w.soup x (w.nodes x) Down → Inv u (with_node w x (found_at u (w.nodes x) k))
+found_ok u w x zero i l m = quiet_node u w x (up_from u (w.nodes x).records) i (λ lx. from_records u w.soup x i.h (w.nodes x).records m.0)
+found_ok u w x (suc k) i l m = up_as_ok u w x k (slice_get (w.nodes x).others k) i l m.1 refl
 
-restarted_ok : {V : Type 0} (u : ℕ) (w : World V) (x : ℕ) (found : Found) (m : Mode (LogState V)) (i : Inv u w) → x < 2 * u + 1 → ModeOk u i.h w.soup x (w.nodes x) m → ModeOk u i.h w.soup x (w.nodes x) (w.nodes x).mode
+restarted_ok : {V : Type 0} (u : ℕ) (w : World V) (x : ℕ) (found : Found) (m : Mode (LogState V)) (i : Inv u w) → ModeOk u i.h w.soup x (w.nodes x) m → ModeOk u i.h w.soup x (w.nodes x) (w.nodes x).mode
     → Inv u (with_node w x (restarted_from u (w.nodes x) found m))
-restarted_ok u w x (Reads k) Down i lx m l = found_ok u w x k i lx l m
-restarted_ok u w x Nowhere Down i lx m l = quiet_node u w x (w.nodes x) i (λ lx. l)
-restarted_ok u w x (Reads k) (Up log) i lx m l = quiet_node u w x (w.nodes x) i (λ lx. l)
-restarted_ok u w x Nowhere (Up log) i lx m l = quiet_node u w x (w.nodes x) i (λ lx. l)
-restarted_ok u w x (Reads k) Gone i lx m l = quiet_node u w x (w.nodes x) i (λ lx. l)
-restarted_ok u w x Nowhere Gone i lx m l = quiet_node u w x (w.nodes x) i (λ lx. l)
+restarted_ok u w x (Reads k) Down i m l = found_ok u w x k i l m
+restarted_ok u w x Nowhere Down i m l = quiet_node u w x (w.nodes x) i (λ lx. l)
+restarted_ok u w x (Reads k) (Up log) i m l = quiet_node u w x (w.nodes x) i (λ lx. l)
+restarted_ok u w x Nowhere (Up log) i m l = quiet_node u w x (w.nodes x) i (λ lx. l)
+restarted_ok u w x (Reads k) Gone i m l = quiet_node u w x (w.nodes x) i (λ lx. l)
+restarted_ok u w x Nowhere Gone i m l = quiet_node u w x (w.nodes x) i (λ lx. l)
 
 pub happens_ok : {V : Type 0} (u : ℕ) (w : World V) (e : Event V) → u < 128 → Inv u w → Inv u (happens u w e)
 happens_ok u w (Deliver place d) few i = delivered_ok u w d place (slice_get w.soup place) i few refl
 happens_ok u w (Lead x d) few i = node_ok u w x d (λ log. lead u x log) i few (λ log k. lead_ok u i.h w.soup x log k)
 happens_ok u w (Offer x own d) few i = node_ok u w x d (λ log. offer u x log own) i few (λ log k. offer_ok u i.h w.soup x log log.leader own k k.state.leader)
 happens_ok u w (Crash x) few i = changes_ok u w x _ i (λ l. crashed_ok u w i x (w.nodes x) (w.nodes x).mode (i.nodes x l) (i.nodes x l))
-happens_ok u w (Restart x found) few i = cond_both (nat_lt x (2 * u + 1)) _ _ (Inv u) (λ e. let l : x < 2 * u + 1 = ltb-true _ _ e in restarted_ok u w x found (w.nodes x).mode i l (i.nodes x l) (i.nodes x l)) (λ e. i)
+happens_ok u w (Restart x found) few i = cond_both (nat_lt x (2 * u + 1)) _ _ (Inv u) (λ e. let l : x < 2 * u + 1 = ltb-true _ _ e in restarted_ok u w x found (w.nodes x).mode i (i.nodes x l) (i.nodes x l)) (λ e. i)
 happens_ok u w (Wipe x) few i = changes_ok u w x _ i (λ l. tt)
 
 pub start_ok : {V : Type 0} (u : ℕ) → Inv {V = V} u start

@@ -1,5 +1,5 @@
 -- What the facts of one node, newest first, say of its votes.
-use Rattle.std.proofs.Common.{◌≡◌, ℕ, ◌<◌, ◌≤◌, List, [], ◌∷◌, ◌++◌, length, refl, sym, ap, ◌∙◌, inl, inr, arith, Option, Some, None, suc, length-append}
+use Rattle.std.proofs.Common.{◌≡◌, ℕ, ◌<◌, ◌≤◌, List, [], ◌∷◌, length, refl, sym, ap, ◌∙◌, inl, inr, arith, Option, Some, None, suc}
 use Rattle.std.specs.Prelude.{◌==◌, ◌⊎◌, IfSome}
 use Rattle.std.proofs.lemmas.Bool.{cond_both, eqb-true, eqb-false}
 use Rattle.aeg_base.specs.Ballots.{is_below}
@@ -8,6 +8,7 @@ use Rattle.log_model.specs.declared.fact.Fact.{Fact}
 use Rattle.log_model.specs.declared.fact.Fact.TheVariants.{Promised, Accepted as Voted, Learned}
 use Rattle.log_model.specs.Recover.{onto, newest_onto, higher, promised_in, learned_in, accepted_in}
 use Rattle.log_model.specs.World.{recorded}
+use Rattle.log_model.proofs.Basics.{length_push}
 use Rattle.log_model.proofs.Ballots.{key, limit, key_same, below_key, not_below_key}
 
 abbrev pub opening : {V : Type 0} → List (Fact V) → ℕ
@@ -63,15 +64,12 @@ top_left F c o = higher-left (promised_in F) c (small_node F o)
 pub top_right : {V : Type 0} (F : List (Fact V)) (c : Ballot) → c.node < 256 → key c ≤ key (higher (promised_in F) c)
 top_right F c l = higher-right (promised_in F) c l
 
-pub length-push : {V : Type 0} (xs : List V) (v : V) → length (xs ++ v ∷ []) ≡ suc (length xs)
-length-push xs v = omega (arith, length-append xs (v ∷ []))
-
 pub votes_below : {V : Type 0} (F : List (Fact V)) (p : ℕ) (b : Ballot) (v : V) → Orderly F → DidVote F p b v → (p ≤ opening F) × (key b ≤ key (promised_in F))
 votes_below [] p b v o d = absurd d
 votes_below (Promised c ∷ F) p b v o d = let r = votes_below F p b v o.1 d in (r.0, omega (arith, r.1, top_left F c o.1))
 votes_below (Voted q c w ∷ F) p b v o (inl e) = (omega (arith, e.0, o.0), rw e.1 (top_right F c o.4))
 votes_below (Voted q c w ∷ F) p b v o (inr d) = let r = votes_below F p b v o.3 d in (r.0, omega (arith, r.1, top_left F c o.3))
-votes_below (Learned q w ∷ F) p b v o d = let r = votes_below F p b v o.1 d in (omega (arith, r.0, length-push (learned_in F) w), r.1)
+votes_below (Learned q w ∷ F) p b v o d = let r = votes_below F p b v o.1 d in (omega (arith, r.0, length_push (learned_in F) w), r.1)
 
 -- the last vote at p is the highest one there
 pub vote_is_low : {V : Type 0} (F : List (Fact V)) (p : ℕ) (b : Ballot) (v : V) → Orderly F → DidVote F p b v → suc (key b) ≤ limit (accepted_in p F)
@@ -130,7 +128,7 @@ promises_below [] b p o d = absurd d
 promises_below (Promised c ∷ F) b p o (inl e) = (omega (arith, e.1), rw e.0 (top_right F c o.2))
 promises_below (Promised c ∷ F) b p o (inr d) = let r = promises_below F b p o.1 d in (r.0, omega (arith, r.1, top_left F c o.1))
 promises_below (Voted q c w ∷ F) b p o d = let r = promises_below F b p o.3 d in (r.0, omega (arith, r.1, top_left F c o.3))
-promises_below (Learned q w ∷ F) b p o d = let r = promises_below F b p o.1 d in (omega (arith, r.0, length-push (learned_in F) w), r.1)
+promises_below (Learned q w ∷ F) b p o d = let r = promises_below F b p o.1 d in (omega (arith, r.0, length_push (learned_in F) w), r.1)
 
 pub one_promise : {V : Type 0} (F : List (Fact V)) (b : Ballot) (p q : ℕ) → Orderly F → DidPromise F b p → DidPromise F b q → p ≡ q
 one_promise [] b p q o d e = absurd d

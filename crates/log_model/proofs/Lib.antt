@@ -12,5 +12,4 @@ pub mod Chosen
 pub mod Origin
 mod Example
 pub mod Said
-pub mod Tier
 pub mod Ranged

@@ -1,8 +1,10 @@
 -- What is in range stays in range, row by row.
-use Rattle.std.proofs.Common.{◌≡◌, ℕ, ◌+◌, ◌*◌, ◌<◌, ◌≤◌, Bool, false, cond, List, [], ◌∷◌, ◌++◌, length, refl, sym, ap, ◌∙◌, subst, inl, inr, arith, Option, Some, None, zero, suc}
+pub use Rattle.log_model.proofs.Basics.{get_push, length_push}
+use Rattle.std.proofs.Common.{◌≡◌, ℕ, ◌+◌, ◌*◌, ◌<◌, ◌≤◌, Bool, false, cond, List, [], ◌∷◌, length, refl, sym, ◌∙◌, subst, inl, inr, arith, Option, Some, None, zero, suc}
 use Rattle.std.specs.Prelude.{slice_get, nat_lt, nat_le, ◌==◌, ◌&&◌, not, ◌⊎◌, IfSome}
 use Rattle.std.specs.List.{AllByRecursion}
-use Rattle.std.proofs.lemmas.Bool.{cond_both, eqb-true, eqb-false, ltb-false, and_parts}
+use Rattle.std.proofs.lemmas.Bool.{cond_both, eqb-true, eqb-false, and_parts}
+use Rattle.std.proofs.lemmas.Option.{slice_get_within}
 use Rattle.aeg_base.specs.Ballots.{same_ballot, is_below, is_at_most}
 use Rattle.aeg_base.specs.declared.names.Ballot.{Ballot}
 use Rattle.aeg_base.specs.declared.limits.TheConstants.{POSITIONS}
@@ -12,17 +14,13 @@ use Rattle.log_model.specs.declared.turn.LogIdle.{LogIdle}
 use Rattle.log_model.specs.declared.turn.LogIdle.TheVariants.{BallotSpent, Stale, Behind as IsBehind, Nothing}
 use Rattle.log_model.specs.Log.{Leader, LogState, open_at, idles, stays, says, has, seen_at, count_below, to_each, nobody, is, is_none, is_at, is_better, has_ballot, is_from, with_ballot}
 use Rattle.log_model.specs.Rows.{tells, tell, last_counter, next_ballot, leads, lead, reports, promises, on_prepare, joins, on_promise, promised_by, value_or, to_offer, offers, offer_as, offer, kept_leader, accepts, says_again, on_accept, learned_turn, notes, on_accepted, on_learn, on_ask, on_msg}
-use Rattle.log_model.specs.Recover.{recover}
+use Rattle.log_model.proofs.Basics.{between, every-append}
 use Rattle.log_model.specs.Ranges.{IsVoteIn, IsMessageIn, IsLeaderIn, IsLogIn, IsSendIn, IsTurnIn, MayRaise, IsOwnIn}
-
-all-append : {X : Type 0} (P : X → Type 0) (xs ys : List X) → AllByRecursion P xs → AllByRecursion P ys → AllByRecursion P (xs ++ ys)
-all-append P [] ys a b = b
-all-append P (x ∷ xs) ys a b = (a.0, all-append P xs ys a.1 b)
 
 -- a message to each node below n of a tier of at least as many
 to_each_in : {V : Type 0} (u : ℕ) (Q : ℕ → V → Type 0) (F : Ballot → Type 0) (n : ℕ) (skip : ℕ → Bool) (m : PaxMsg V) → n ≤ 2 * u + 1 → IsMessageIn Q F m → AllByRecursion (IsSendIn u Q F) (to_each n skip m)
 to_each_in u Q F zero skip m l k = tt
-to_each_in u Q F (suc n) skip m l k = all-append (IsSendIn u Q F) (to_each n skip m) _ (to_each_in u Q F n skip m (omega arith) k)
+to_each_in u Q F (suc n) skip m l k = every-append (IsSendIn u Q F) (to_each n skip m) _ (to_each_in u Q F n skip m (omega arith) k)
     (cond_both (skip n) [] ((n, m) ∷ []) (AllByRecursion (IsSendIn u Q F)) (λ e. tt) (λ e. ((omega arith, k), tt)))
 
 to_all_in : {V : Type 0} (u : ℕ) (Q : ℕ → V → Type 0) (F : Ballot → Type 0) (skip : ℕ → Bool) (m : PaxMsg V) → IsMessageIn Q F m → AllByRecursion (IsSendIn u Q F) (to_each (2 * u + 1) skip m)
@@ -35,18 +33,13 @@ idle_in u Q F log why k = record { state = k; facts = tt; sends = tt }
 stays_in : {V : Type 0} (u : ℕ) (Q : ℕ → V → Type 0) (F : Ballot → Type 0) (log : LogState V) → IsLogIn Q F log → IsTurnIn u Q F (stays log)
 stays_in u Q F log k = record { state = k; facts = tt; sends = tt }
 
-get_below : {V : Type 0} (xs : List V) (p : ℕ) (v : V) → slice_get xs p ≡ Some v → p < length xs
-get_below [] p v e = absurd (cc)
-get_below (x ∷ xs) zero v e = omega arith
-get_below (x ∷ xs) (suc p) v e = omega (arith, get_below xs p v e)
-
 -- a learned value is told
 tell_in : {V : Type 0} (u : ℕ) (Q : ℕ → V → Type 0) (F : Ballot → Type 0) (log : LogState V) (s p : ℕ) → s < 2 * u + 1 → IsLogIn Q F log → IsTurnIn u Q F (tell log s p)
 tell_in {V} u Q F log s p l k = go (slice_get log.learned p) refl
   where
     go : (o : Option V) → slice_get log.learned p ≡ o → IsTurnIn u Q F (says log (tells s p o))
     go None e = record { state = k; facts = tt; sends = tt }
-    go (Some v) e = let w = k.within in record { state = k; facts = tt; sends = ((l, (omega (arith, get_below log.learned p v e), k.learned p v e)), tt) }
+    go (Some v) e = let w = k.within in record { state = k; facts = tt; sends = ((l, (omega (arith, slice_get_within log.learned p v e), k.learned p v e)), tt) }
 
 -- PROMISES
 
@@ -98,10 +91,6 @@ again_in : {V : Type 0} (u : ℕ) (Q : ℕ → V → Type 0) (F : Ballot → Typ
 again_in u Q F b p None f k = tt
 again_in u Q F b p (Some a) f k = to_all_in u Q F nobody (Accepted b p a.1) (f, (k.0, k.1.1))
 
--- neither below nor above
-between : (p n : ℕ) → nat_lt p n ≡ false → nat_lt n p ≡ false → p ≡ n
-between p n e f = let a : n ≤ p = ltb-false p n e in let b : p ≤ n = ltb-false n p f in omega arith
-
 accept_in : {V : Type 0} (u : ℕ) (Q : ℕ → V → Type 0) (F : Ballot → Type 0) (log : LogState V) (s : ℕ) (b : Ballot) (p : ℕ) (v : V) → s < 2 * u + 1 → IsLogIn Q F log → F b → p < POSITIONS → Q p v → IsTurnIn u Q F (on_accept u log s b p v)
 accept_in u Q F log s b p v l k f w q = cond_both (nat_lt p (open_at log)) _ _ (IsTurnIn u Q F) (λ e. tell_in u Q F log s p l k)
     (λ e. cond_both (nat_lt (open_at log) p) _ _ (IsTurnIn u Q F) (λ g. record { state = k; facts = tt; sends = ((l, k.within), tt) })
@@ -111,20 +100,6 @@ accept_in u Q F log s b p v l k f w q = cond_both (nat_lt p (open_at log)) _ _ (
     (λ j. accepts_in u Q F log b p v k (between p (open_at log) e g) f w q))))
 
 -- LEARNING
-
-pub get_push : {V : Type 0} (xs : List V) (v : V) (p : ℕ) (w : V) → slice_get (xs ++ v ∷ []) p ≡ Some w → (slice_get xs p ≡ Some w) ⊎ ((p ≡ length xs) × (v ≡ w))
-get_push [] v zero w e = inr (refl, cc)
-get_push [] v (suc p) w e = absurd (cc)
-get_push (x ∷ xs) v zero w e = inl e
-get_push (x ∷ xs) v (suc p) w e = go (get_push xs v p w e)
-  where
-    go : (slice_get xs p ≡ Some w) ⊎ ((p ≡ length xs) × (v ≡ w)) → (slice_get xs p ≡ Some w) ⊎ ((suc p ≡ suc (length xs)) × (v ≡ w))
-    go (inl f) = inl f
-    go (inr f) = inr (ap suc f.0, f.1)
-
-pub length_push : {V : Type 0} (xs : List V) (v : V) → length (xs ++ v ∷ []) ≡ suc (length xs)
-length_push [] v = refl
-length_push (x ∷ xs) v = ap suc (length_push xs v)
 
 learned_in : {V : Type 0} (u : ℕ) (Q : ℕ → V → Type 0) (F : Ballot → Type 0) (log : LogState V) (p : ℕ) (v : V) (sends : List (ℕ × PaxMsg V)) → IsLogIn Q F log → p ≡ open_at log → p < POSITIONS → Q p v → AllByRecursion (IsSendIn u Q F) sends → IsTurnIn u Q F (learned_turn log p v sends)
 learned_in {V} u Q F log p v sends k e w q s = record {
@@ -188,7 +163,7 @@ offers_in u Q F x log l None k n w q = stays_in u Q F log k
 offers_in u Q F x log l (Some v) k n w q = record {
   state = record { promised = k.promised; within = k.within; accepted = (w, (n.ballot, q)); learned = k.learned; leader = record { ballot = n.ballot; best = n.best } };
   facts = ((w, (n.ballot, q)), tt);
-  sends = all-append (IsSendIn u Q F) (to_each (2 * u + 1) (is x) (Accept l.ballot (open_at log) v)) (to_each (2 * u + 1) nobody (Accepted l.ballot (open_at log) v))
+  sends = every-append (IsSendIn u Q F) (to_each (2 * u + 1) (is x) (Accept l.ballot (open_at log) v)) (to_each (2 * u + 1) nobody (Accepted l.ballot (open_at log) v))
       (to_all_in u Q F (is x) (Accept l.ballot (open_at log) v) (n.ballot, (w, q))) (to_all_in u Q F nobody (Accepted l.ballot (open_at log) v) (n.ballot, (w, q)));
 }
 
@@ -204,7 +179,3 @@ offer_as_in u Q F x log (Some l) own k n q = cond_both (nat_le (promised_by u l)
 
 pub offer_in : {V : Type 0} (u : ℕ) (Q : ℕ → V → Type 0) (F : Ballot → Type 0) (x : ℕ) (log : LogState V) (own : Option V) → IsLogIn Q F log → IsOwnIn Q (open_at log) own → IsTurnIn u Q F (offer u x log own)
 offer_in u Q F x log own k q = offer_as_in u Q F x log log.leader own k k.leader q
-
--- a log without facts
-pub new_in : {V : Type 0} (u : ℕ) (Q : ℕ → V → Type 0) (F : Ballot → Type 0) → IsLogIn Q F (recover u [])
-new_in u Q F = record { promised = inl refl; within = omega arith; accepted = tt; learned = λ p v e. absurd (cc); leader = tt }

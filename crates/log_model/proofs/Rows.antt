@@ -18,7 +18,7 @@ use Rattle.log_model.specs.Chosen.{Meets}
 use Rattle.log_model.proofs.Ballots.{key, limit, same_true, same_false, key_same, below_key, not_below_key, not_at_most_key}
 use Rattle.log_model.proofs.Basics.{set_cases, alone, Every, every-to_each}
 use Rattle.log_model.proofs.History.{opening, DidVote, DidPromise, Orderly, top_is, vote_is_small, votes_below, vote_is_low, accepted_voted, one_promise, small_node}
-use Rattle.log_model.proofs.Invariant.{IsSafe, IsReport, IsBacked, MsgOk, SendOk, LeaderOk, StateOk, History, AllGrew, soup-refl, vote-grew, state-grew}
+use Rattle.log_model.proofs.Invariant.{VoteOk, IsSafe, IsReport, IsBacked, MsgOk, SendOk, LeaderOk, StateOk, History, AllGrew, soup-refl, vote-grew, state-grew}
 use Rattle.log_model.proofs.Invariant.{Rest, TurnOk}
 
 -- what is known where x is up with the state log
@@ -32,13 +32,17 @@ pub record Known {V : Type 0} (u : ℕ) (h : ℕ → List (Fact V)) (soup : List
 pub promised_small : {V : Type 0} (u : ℕ) (h : ℕ → List (Fact V)) (soup : List (Packet V)) (x : ℕ) (log : LogState V) → Known u h soup x log → log.promised.node < 256
 promised_small u h soup x log k = rw k.state.promised (small_node (h x) (k.history.orderly x k.inside))
 
+-- what it voted for is still right when more was written
+pub votes_kept : {V : Type 0} (u : ℕ) (h g : ℕ → List (Fact V)) (soup : List (Packet V)) (x : ℕ) (log : LogState V) → Known u h soup x log → AllGrew h g → (p : ℕ) (b : Ballot) (v : V) → DidVote (h x) p b v → VoteOk u g p b v
+votes_kept u h g soup x log k m p b v d = vote-grew u h g p b v m (k.history.votes x k.inside p b v d)
+
 -- a row that writes nothing
 pub still : {V : Type 0} (u : ℕ) (h : ℕ → List (Fact V)) (soup : List (Packet V)) (x : ℕ) (log next : LogState V) (sends : List (ℕ × PaxMsg V)) (why : Option LogIdle) → Known u h soup x log → StateOk u h (h x) soup x next
     → ((g : ℕ → List (Fact V)) → g x ≡ h x → AllGrew h g → Every (SendOk u g soup x) sends) → TurnOk u h soup x (record { state = next; facts = []; sends = sends; learned = None; idle = why })
 still u h soup x log next sends why k s e = record {
   orderly = k.history.orderly x k.inside;
   rest = λ g same m. record {
-    votes = λ p b v d. vote-grew u h g p b v m (k.history.votes x k.inside p b v d);
+    votes = votes_kept u h g soup x log k m;
     learned = k.history.learned x k.inside;
     sends = e g same m;
     state = state-grew u h g (h x) soup soup x next m (soup-refl u soup) s;
@@ -115,7 +119,7 @@ leads_ok {V} u h soup x log k = record { orderly = (above, o, small); rest = aft
 
     after : (g : ℕ → List (Fact V)) → g x ≡ Promised b ∷ F → AllGrew h g → Rest u g (Promised b ∷ F) soup x (leads u x log)
     after g same m = record {
-      votes = λ p c v d. vote-grew u h g p c v m (k.history.votes x k.inside p c v d);
+      votes = votes_kept u h g soup x log k m;
       learned = k.history.learned x k.inside;
       sends = every-to_each (SendOk u g soup x) (2 * u + 1) (is x) (Prepare b (open_at log)) (λ y. (k.inside, rw same (inl (refl, ap length k.state.learned)), refl));
       state = record {
@@ -166,7 +170,7 @@ promises_ok {V} u h soup x log s b p k c le lt = record { orderly = (above, o, s
 
     after : (g : ℕ → List (Fact V)) → g x ≡ Promised b ∷ F → AllGrew h g → Rest u g (Promised b ∷ F) soup x (promises log s b p)
     after g same m = record {
-      votes = λ p c v d. vote-grew u h g p c v m (k.history.votes x k.inside p c v d);
+      votes = votes_kept u h g soup x log k m;
       learned = k.history.learned x k.inside;
       sends = (
         record {

@@ -1,5 +1,5 @@
 -- What the packets of a run say of each other, and of their senders' disks.
-use Rattle.std.proofs.Common.{◌≡◌, ℕ, ◌+◌, ◌*◌, ◌<◌, ◌≤◌, List, [], ◌∷◌, length, refl, subst, inl, inr, arith, Option, Some, None, zero, suc}
+use Rattle.std.proofs.Common.{◌≡◌, ℕ, ◌+◌, ◌*◌, ◌<◌, ◌≤◌, List, subst, inl, inr, arith, Option, Some, None, suc}
 use Rattle.std.specs.Prelude.{slice_get, ◌⊎◌, IfSome, IsTrue}
 use Rattle.std.proofs.lemmas.Bool.{cases_lt}
 use Rattle.aeg_base.specs.Ballots.{is_at_most}
@@ -8,17 +8,17 @@ use Rattle.log_model.specs.declared.fact.Fact.{Fact}
 use Rattle.log_model.specs.declared.message.PaxMsg.{PaxMsg}
 use Rattle.log_model.specs.declared.message.PaxMsg.TheVariants.{Prepare, Promise, Accept, Accepted, Ask, Learn, Behind}
 use Rattle.log_model.specs.Log.{LogState}
-use Rattle.log_model.specs.Recover.{onto, newest, promised_in, learned_in, accepted_in, recover}
-use Rattle.log_model.specs.World.{Packet, Mode, LogNode, Event, put, start, run}
+use Rattle.log_model.specs.Recover.{newest, promised_in, learned_in, accepted_in, recover}
+use Rattle.log_model.specs.World.{Packet, Mode, LogNode, Event, start, run}
 use Rattle.log_model.specs.World.Mode.{Up, Down, Gone}
 use Rattle.log_model.specs.Chosen.{chosen, Meets, Carries, Binds, StandsFor, HasFrom, KeepsVote}
 use Rattle.log_model.proofs.Ballots.{key, limit, at_most_key, key_at_most}
-use Rattle.log_model.proofs.Basics.{every-get}
+use Rattle.log_model.proofs.Basics.{every-get, get_within}
 use Rattle.log_model.proofs.History.{opening, DidVote, Orderly, small_node, vote_is_small, accepted_voted, Grew, grew-refl, grew-onto, votes_below, vote_is_low, promises_below}
 use Rattle.log_model.proofs.Invariant.{VoteOk, History, PacketOk, MsgOk, ModeOk, IsPending, Inv}
 use Rattle.log_model.proofs.Agree.{one_ballot, higher_agrees, meets_voted}
 use Rattle.log_model.proofs.Events.{start_ok, run_ok}
-use Rattle.log_model.proofs.Step.{put_same, grown}
+use Rattle.log_model.proofs.Step.{turn_rest}
 use Rattle.log_model.proofs.Chosen.{meets_chosen, chosen_meets}
 
 VotedBy : {V : Type 0} → ℕ → (ℕ → List (Fact V)) → ℕ → Ballot → V → Type 0
@@ -147,11 +147,6 @@ learn_chosen u es i k p v few ei e =
     let ok : MsgOk u n.h (run u es start).soup k.from k.msg = every-get (PacketOk u n.h (run u es start).soup) (run u es start).soup i k n.history.packets ei in
     meets_chosen u es p v few (subst (MsgOk u n.h (run u es start).soup k.from) e ok)
 
-within_get : {A : Type 0} (xs : List A) (p : ℕ) → p < length xs → (a : A) × (slice_get xs p ≡ Some a)
-within_get [] p l = absurd (omega arith)
-within_get (a ∷ xs) zero l = (a, refl)
-within_get (a ∷ xs) (suc p) l = within_get xs p (omega arith)
-
 -- a position is chosen only after the one before it
 pub no_gap : {V : Type 0} (u : ℕ) (es : List (Event V)) (p : ℕ) (v : V) → u < 128 → chosen u es (suc p) ≡ Some v → (w : V) × (chosen u es p ≡ Some w)
 unfolding VotedBy
@@ -160,7 +155,7 @@ no_gap {V} u es p v few e =
     let m : Meets u (run u es start).soup (suc p) v = chosen_meets u es start (suc p) v e in
     let a : VotedBy u n.h (suc p) m.ballot v = meets_voted u n.h (run u es start).soup n.history (suc p) v m in
     let below : suc p ≤ opening (n.h a.0) = (votes_below (n.h a.0) (suc p) m.ballot v (n.history.orderly a.0 a.1) a.2).0 in
-    let r : (w : V) × (slice_get (learned_in (n.h a.0)) p ≡ Some w) = within_get (learned_in (n.h a.0)) p below in
+    let r : (w : V) × (slice_get (learned_in (n.h a.0)) p ≡ Some w) = get_within (learned_in (n.h a.0)) p below in
     (r.0, meets_chosen u es p r.0 few (n.history.learned a.0 a.1 p r.0 r.1))
 
 -- what the disk of a node has learned meets the condition, whichever list it stands for
@@ -169,7 +164,7 @@ disk_meets : {V : Type 0} (u : ℕ) (h : ℕ → List (Fact V)) (soup : List (Pa
 disk_meets u h soup x node (Up log) R p v n lx k s e = n.learned x lx p v (rw (← s, k.0) at e)
 disk_meets u h soup x node Down R p v n lx k (inl s) e = n.learned x lx p v (rw (← s, k.0) at e)
 disk_meets {V} u h soup x node Down R p v n lx k (inr s) e =
-    (j.ok.rest (put h x (onto j.turn.facts (h x))) (put_same h x (onto j.turn.facts (h x))) (grown h x j.turn.facts j.ok.orderly)).learned p v (rw j.is at e)
+    (turn_rest u h soup x j.turn j.ok).learned p v (rw j.is at e)
   where
     j : IsPending u h soup x R
     j = every-get (IsPending u h soup x) node.others s.0 R k.1 s.1

@@ -1,7 +1,7 @@
 -- The rows that vote and learn are right by themselves.
 use Rattle.std.proofs.Common.{◌≡◌, ℕ, ◌+◌, ◌*◌, ◌<◌, ◌≤◌, Bool, true, false, cond, List, [], ◌∷◌, ◌++◌, length, refl, sym, ap, ◌∙◌, subst, inl, inr, arith, Option, Some, None, zero, suc}
 use Rattle.std.specs.Prelude.{slice_get, nat_lt, nat_le, ◌==◌, ◌⊎◌, IfSome}
-use Rattle.std.proofs.lemmas.Bool.{cond_both, eq-eqb, ltb-true, ltb-false, leb-false, cond-true, and_from, lt-ltb}
+use Rattle.std.proofs.lemmas.Bool.{cond_both, eq-eqb, ltb-true, leb-false, cond-true, and_from, lt-ltb}
 use Rattle.aeg_base.specs.Ballots.{same_ballot, is_below}
 use Rattle.aeg_base.specs.declared.names.Ballot.{Ballot}
 use Rattle.aeg_base.specs.declared.limits.TheConstants.{POSITIONS}
@@ -16,11 +16,11 @@ use Rattle.log_model.specs.Recover.{promised_in, learned_in, accepted_in}
 use Rattle.log_model.specs.World.{Packet}
 use Rattle.log_model.specs.Chosen.{is_vote, has_sent, Meets}
 use Rattle.log_model.proofs.Ballots.{key, limit, same_true, same_refl, not_below_key}
-use Rattle.log_model.proofs.Basics.{set_cases, nothing_seen, Every, every-append, every-to_each, count-more}
-use Rattle.log_model.proofs.History.{opening, DidVote, Orderly, top_is, vote_is_low, accepted_voted, none_past, promises_below, length-push}
+use Rattle.log_model.proofs.Basics.{between, get_push, length_push, set_cases, nothing_seen, Every, every-append, every-to_each, count-more}
+use Rattle.log_model.proofs.History.{opening, DidVote, Orderly, top_is, vote_is_low, accepted_voted, none_past, promises_below}
 use Rattle.log_model.proofs.Invariant.{IsSafe, VoteOk, MsgOk, SendOk, LeaderOk, History, AllGrew, report-grew, backed-grew, safe-grew, vote-grew}
 use Rattle.log_model.proofs.Invariant.{Rest, TurnOk}
-use Rattle.log_model.proofs.Rows.{Known, promised_small, stays_ok, on_prepare_ok, on_promise_ok, still, idle_ok, tell_ok, low_accepted, no_from, offer_safe}
+use Rattle.log_model.proofs.Rows.{Known, votes_kept, promised_small, stays_ok, on_prepare_ok, on_promise_ok, still, idle_ok, tell_ok, low_accepted, no_from, offer_safe}
 
 -- A VOTE
 
@@ -31,7 +31,7 @@ accepted_vote u h soup x log k = rw k.state.accepted (accepted_voted (h x) (open
 votes_with : {V : Type 0} (u : ℕ) (h g : ℕ → List (Fact V)) (soup : List (Packet V)) (x : ℕ) (log : LogState V) (q : ℕ) (c : Ballot) (w : V) → Known u h soup x log → AllGrew h g → VoteOk u g q c w
     → (p : ℕ) (b : Ballot) (v : V) → DidVote (Voted q c w ∷ h x) p b v → VoteOk u g p b v
 votes_with u h g soup x log q c w k m new p b v (inl e) = rw (e.0, e.1, e.2) new
-votes_with u h g soup x log q c w k m new p b v (inr d) = vote-grew u h g p b v m (k.history.votes x k.inside p b v d)
+votes_with u h g soup x log q c w k m new p b v (inr d) = votes_kept u h g soup x log k m p b v d
 
 -- the state after a vote at the open position
 vote_accepted : {V : Type 0} (F : List (Fact V)) (log : LogState V) (p : ℕ) (b : Ballot) (v : V) → log.learned ≡ learned_in F → p ≡ open_at log → Some (b, v) ≡ accepted_in (opening F) (Voted p b v ∷ F)
@@ -119,10 +119,6 @@ offer_ok u h soup x log (Some l) own k lo =
 
 -- ACCEPT
 
--- neither before nor past the open position
-pub at_open : (p f : ℕ) → nat_lt p f ≡ false → nat_lt f p ≡ false → p ≡ f
-at_open p f a b = omega (arith, ltb-false p f a, ltb-false f p b)
-
 again_ok : {V : Type 0} (u : ℕ) (h : ℕ → List (Fact V)) (soup : List (Packet V)) (x : ℕ) (b : Ballot) (p : ℕ) (a : Option (Ballot × V)) → u < 128 → x < 2 * u + 1 → b.node < 2 * u + 1 → History u h soup
     → IfSome a (λ c. DidVote (h x) p c.0 c.1) → has_ballot b a ≡ true → (g : ℕ → List (Fact V)) → AllGrew h g → Every (SendOk u g soup x) (says_again u b p a)
 again_ok u h soup x b p None few lx lb k d e g m = tt
@@ -184,20 +180,10 @@ on_accept_ok {V} u h soup x log s b p v k c =
     (λ low. cond_both (nat_lt (open_at log) p) _ _ (TurnOk u h soup x) (λ e. still u h soup x log log _ None k k.state (λ g same m. (tt, tt)))
     (λ high. cond_both (is_below b log.promised) _ _ (TurnOk u h soup x) (λ e. idle_ok u h soup x log (Stale _) k)
     (λ le. cond_both (has_ballot b log.accepted) _ _ (TurnOk u h soup x)
-    (λ e. still u h soup x log log _ None k k.state (λ g same m. again_ok u h soup x b p log.accepted k.few k.inside c.0 k.history (rw (at_open p (open_at log) low high ∙ ap length k.state.learned) (accepted_vote u h soup x log k)) e g m))
-    (λ e. accepts_ok u h soup x log s b p v k c (at_open p (open_at log) low high) (not_below_key b log.promised (promised_small u h soup x log k) le) e))))
+    (λ e. still u h soup x log log _ None k k.state (λ g same m. again_ok u h soup x b p log.accepted k.few k.inside c.0 k.history (rw (between p (open_at log) low high ∙ ap length k.state.learned) (accepted_vote u h soup x log k)) e g m))
+    (λ e. accepts_ok u h soup x log s b p v k c (between p (open_at log) low high) (not_below_key b log.promised (promised_small u h soup x log k) le) e))))
 
 -- LEARNING
-
-pub get-push : {X : Type 0} (xs : List X) (y : X) (k : ℕ) (x : X) → slice_get (xs ++ y ∷ []) k ≡ Some x → (slice_get xs k ≡ Some x) ⊎ ((k ≡ length xs) × (y ≡ x))
-get-push [] y zero x e = inr (refl, cc)
-get-push [] y (suc k) x e = absurd (cc)
-get-push (z ∷ xs) y zero x e = inl e
-get-push {X} (z ∷ xs) y (suc k) x e = go (get-push xs y k x e)
-  where
-    go : (slice_get xs k ≡ Some x) ⊎ ((k ≡ length xs) × (y ≡ x)) → (slice_get xs k ≡ Some x) ⊎ ((suc k ≡ suc (length xs)) × (y ≡ x))
-    go (inl f) = inl f
-    go (inr f) = inr (ap suc f.0, f.1)
 
 learned_ok : {V : Type 0} (u : ℕ) (h : ℕ → List (Fact V)) (soup : List (Packet V)) (x : ℕ) (log : LogState V) (p : ℕ) (v : V) (ks : List (ℕ × PaxMsg V)) → Known u h soup x log → p ≡ open_at log → Meets u soup p v
     → ((g : ℕ → List (Fact V)) → Every (SendOk u g soup x) ks) → TurnOk u h soup x (learned_turn log p v ks)
@@ -224,7 +210,7 @@ learned_ok {V} u h soup x log p v ks k at meets sends = record { orderly = (here
     }
 
     all : (q : ℕ) (w : V) → slice_get (learned_in F ++ v ∷ []) q ≡ Some w → Meets u soup q w
-    all q w e = go (get-push (learned_in F) v q w e)
+    all q w e = go (get_push (learned_in F) v q w e)
       where
         go : (slice_get (learned_in F) q ≡ Some w) ⊎ ((q ≡ length (learned_in F)) × (v ≡ w)) → Meets u soup q w
         go (inl f) = k.history.learned x k.inside q w f
@@ -232,12 +218,12 @@ learned_ok {V} u h soup x log p v ks k at meets sends = record { orderly = (here
 
     after : (g : ℕ → List (Fact V)) → g x ≡ Learned p v ∷ F → AllGrew h g → Rest u g (Learned p v ∷ F) soup x (learned_turn log p v ks)
     after g same m = record {
-      votes = λ q c w d. vote-grew u h g q c w m (k.history.votes x k.inside q c w d);
+      votes = votes_kept u h g soup x log k m;
       learned = all;
       sends = sends g;
       state = record {
         promised = k.state.promised;
-        accepted = sym (none_past F (length (learned_in F ++ v ∷ [])) o (omega (arith, length-push (learned_in F) v)));
+        accepted = sym (none_past F (length (learned_in F ++ v ∷ [])) o (omega (arith, length_push (learned_in F) v)));
         learned = ap (λ xs. xs ++ v ∷ []) k.state.learned;
         seen = λ y b e. absurd (nothing_seen (length log.seen) y b e);
         leader = leader g m log.leader k.state.leader;
@@ -248,7 +234,7 @@ pub on_learn_ok : {V : Type 0} (u : ℕ) (h : ℕ → List (Fact V)) (soup : Lis
 on_learn_ok u h soup x log s p v k c =
     cond_both (nat_lt p (open_at log)) _ _ (TurnOk u h soup x) (λ e. idle_ok u h soup x log Nothing k)
     (λ a. cond_both (nat_lt (open_at log) p) _ _ (TurnOk u h soup x) (λ e. idle_ok u h soup x log (IsBehind _) k)
-    (λ b. learned_ok u h soup x log p v _ k (at_open p (open_at log) a b) c (λ g. (tt, tt))))
+    (λ b. learned_ok u h soup x log p v _ k (between p (open_at log) a b) c (λ g. (tt, tt))))
 
 pub on_ask_ok : {V : Type 0} (u : ℕ) (h : ℕ → List (Fact V)) (soup : List (Packet V)) (x : ℕ) (log : LogState V) (s p : ℕ) → Known u h soup x log → TurnOk u h soup x (on_ask log s p)
 on_ask_ok u h soup x log s p k = cond_both (nat_lt p (open_at log)) _ _ (TurnOk u h soup x) (λ e. tell_ok u h soup x log s p k) (λ e. idle_ok u h soup x log Nothing k)
@@ -276,14 +262,14 @@ on_accepted_ok {V} u h soup x log place j b p v k is_at_place is_msg c =
     (λ low. cond_both (nat_lt (open_at log) p) _ _ (TurnOk u h soup x) (λ e. idle_ok u h soup x log (IsBehind _) k)
     (λ high. cond_both (is_from b (seen_at log.seen j.from)) _ _ (TurnOk u h soup x) (λ e. idle_ok u h soup x log Nothing k)
     (λ new. cond_both (nat_lt u (count_below (2 * u + 1) (with_ballot log.seen j.from b))) _ _ (TurnOk u h soup x)
-    (λ e. learned_ok u h soup x log p v [] k (at_open p (open_at log) low high) (meets (at_open p (open_at log) low high) (ltb-true _ _ e)) (λ g. tt))
+    (λ e. learned_ok u h soup x log p v [] k (between p (open_at log) low high) (meets (between p (open_at log) low high) (ltb-true _ _ e)) (λ g. tt))
     (λ e. still u h soup x log (notes log j.from b).state [] None k
     (record {
       promised = k.state.promised;
       accepted = k.state.accepted;
       learned = k.state.learned;
       leader = later log.leader k.state.leader;
-      seen = λ y d q. seen_sent y d (at_open p (open_at log) low high) (set_cases log.seen j.from (Some b) None (Some d) y q);
+      seen = λ y d q. seen_sent y d (between p (open_at log) low high) (set_cases log.seen j.from (Some b) None (Some d) y q);
     })
     (λ g same m. tt)))))
   where

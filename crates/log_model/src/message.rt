@@ -32,6 +32,7 @@ pub fn copy_report<V: Value>(report: &Option<(Ballot, V)>) -> Result<Option<(Bal
 
 impl<V: Value> PaxMsg<V> {
     /// The same message again.
+    #[inline(always)]
     pub fn copy(&self) -> Result<Self, Memory>
         ensures { IfOk result (λ copy. copy ≡ self.now) }
     {
