@@ -2,10 +2,10 @@
 use Rattle.std.proofs.Common.{◌≡◌, ℕ, zero, suc, ◌+◌, ◌<◌, ◌≤◌, Bool, true, false, cond, ◌==◌, ◌&&◌, List, [], ◌∷◌, ◌++◌, length, if◌then◌else◌, refl, sym, ap, subst, ◌∙◌, None, Some, Option, arith, take, ◌-◌, length-append}
 use Rattle.std.specs.Prelude.{slice_index_or}
 use Rattle.std.proofs.Math.Seq.{take-append_seam}
-use Rattle.std.proofs.lemmas.Bool.Decides.{nat_tests}
+use Rattle.std.proofs.lemmas.Bool.{and_from, and_parts, eq-eqb, eqb-true}
 use Rattle.aeg_base.specs.declared.names.Tier.{Tier}
-use Rattle.aeg_base.specs.declared.names.Tier.TheVariants.{Mid, Inv, Pay}
 use Rattle.server_model.specs.Server.{same_tier, found_in}
+use Rattle.server_model.proofs.Tiers.{tier_eq, tier_same}
 use Rattle.one_server.specs.Places.{place_from, place_in, AreIndexed, Sets, Loses}
 use Rattle.one_server.specs.declared.places.Places.{Places}
 
@@ -57,45 +57,14 @@ placed at (item ∷ items) tier number (suc k) d e = by (same_tier item.0 tier &
     by true ih e = let same = some_same at (at + suc k) e in absurd (omega arith)
     by false ih e = let more : at + suc k ≡ (at + 1) + k = omega arith in ih (e ∙ ap (λ (n : ℕ). Some n) more)
 
-same_tier_is : (a b : Tier) → same_tier a b ≡ true → a ≡ b
-same_tier_is Mid Mid e = refl
-same_tier_is Inv Inv e = refl
-same_tier_is Pay Pay e = refl
-same_tier_is Mid Inv e = cc
-same_tier_is Mid Pay e = cc
-same_tier_is Inv Mid e = cc
-same_tier_is Inv Pay e = cc
-same_tier_is Pay Mid e = cc
-same_tier_is Pay Inv e = cc
-
-both_true : (a b : Bool) → (a && b) ≡ true → (a ≡ true) × (b ≡ true)
-both_true true b e = (refl, e)
-both_true false b e = cc
-
-equal_is : (a b : ℕ) → (a == b) ≡ true → a ≡ b
-equal_is a b e = grind (arith, nat_tests)
-
-same_itself : (a : Tier) → same_tier a a ≡ true
-same_itself Mid = refl
-same_itself Inv = refl
-same_itself Pay = refl
-
-equal_itself : (n : ℕ) → (n == n) ≡ true
-equal_itself n = grind (arith, nat_tests)
-
-joined : (a b : Bool) → a ≡ true → b ≡ true → (a && b) ≡ true
-joined true true p q = refl
-joined false b p q = cc
-joined true false p q = cc
-
 -- two items that both are the number's are one another's
 alike : (a b tier : Tier) (m n number : ℕ) → (same_tier a tier && (m == number)) ≡ true → (same_tier b tier && (n == number)) ≡ true → (same_tier a b && (m == n)) ≡ true
 alike a b tier m n number p q =
-    let first = both_true (same_tier a tier) (m == number) p in
-    let second = both_true (same_tier b tier) (n == number) q in
-    let tiers : a ≡ b = same_tier_is a tier first.0 ∙ sym (same_tier_is b tier second.0) in
-    let numbers : m ≡ n = equal_is m number first.1 ∙ sym (equal_is n number second.1) in
-    joined (same_tier a b) (m == n) (subst (λ (t : Tier). same_tier a t ≡ true) tiers (same_itself a)) (subst (λ (k : ℕ). (m == k) ≡ true) numbers (equal_itself m))
+    let first = and_parts (same_tier a tier) (m == number) p in
+    let second = and_parts (same_tier b tier) (n == number) q in
+    let tiers : a ≡ b = tier_eq a tier first.0 ∙ sym (tier_eq b tier second.0) in
+    let numbers : m ≡ n = eqb-true m number first.1 ∙ sym (eqb-true n number second.1) in
+    and_from (same_tier a b) (m == n) (subst (λ (t : Tier). same_tier a t ≡ true) tiers (tier_same a)) (subst (λ (k : ℕ). (m == k) ≡ true) numbers (eq-eqb m m refl))
 
 -- one more item at the end has the next place, where none had its number
 pub place-append : {T : Type 0} (at : ℕ) (items : List (Tier × ℕ × T)) (new : Tier × ℕ × T) (tier : Tier) (number : ℕ) → place_from at items new.0 new.1 ≡ None
@@ -151,9 +120,9 @@ indexed_less {T} front whole old new tier number item indexed loses none same t 
 
     by : (b : Bool) → (same_tier tier t && (number == n)) ≡ b → cond b None (place_in old t n) ≡ place_from 0 front t n
     by true e =
-        let parts = both_true (same_tier tier t) (number == n) e in
-        let tiers = same_tier_is tier t parts.0 in
-        let numbers = equal_is number n parts.1 in
+        let parts = and_parts (same_tier tier t) (number == n) e in
+        let tiers = tier_eq tier t parts.0 in
+        let numbers = eqb-true number n parts.1 in
         sym (no_place 0 front t n (ap (λ (x : Tier). found_in front x n) (sym tiers) ∙ ap (λ (x : ℕ). found_in front tier x) (sym numbers) ∙ none))
     by false e = before ∙ ap (λ b. cond b (Some (0 + length front)) (place_from 0 front t n)) e
 

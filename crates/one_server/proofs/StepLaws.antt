@@ -1,6 +1,6 @@
 -- A step of the one server, from what its parts come to.
-use Rattle.std.proofs.Common.{◌≡◌, ℕ, ◌+◌, ◌==◌, Bool, true, List, [], Option, None, Some, if◌then◌else◌, sym, ap, subst, ◌∙◌, arith}
-use Rattle.std.proofs.lemmas.Bool.Decides.{nat_tests}
+use Rattle.std.proofs.Common.{◌≡◌, ℕ, ◌+◌, Bool, List, [], Option, None, Some, if◌then◌else◌, sym, ap, subst, ◌∙◌}
+use Rattle.std.proofs.lemmas.Bool.{eq-eqb}
 use Rattle.std.specs.declared.result.Result.{Result}
 use Rattle.aeg_base.specs.Store.{Store}
 use Rattle.aeg_base.specs.declared.names.ReqId.{ReqId}
@@ -14,9 +14,6 @@ use Rattle.one_server.specs.Writes.{Runs, after}
 use Rattle.one_server.specs.declared.refusal.StepErr.{StepErr}
 use Rattle.one_server.specs.declared.stage.Ran.{Ran}
 
-same_number : (a b : ℕ) → a ≡ b → (a == b) ≡ true
-same_number a b e = grind (arith, nat_tests)
-
 started : {B : Type 0} (s : Server B) (who : ReqId) (body : List ℕ) (number : ℕ) (row : Option (Option ℕ → Store → Segment)) (ran : Ran)
     → Runs row None s.store (Some ran) → starts s who body number row ≡ ended s who body number (after s.store ran.writes.items) ran.ending
 started s who body number None ran h = absurd h
@@ -28,7 +25,7 @@ pub start_ends : {B : Type 0} (m : Meaning B) (s new : Server B) (who : ReqId) (
     → Answers (ended s who body number (after s.store ran.writes.items) ran.ending) s new result → Answers (step m s (Start who number) body) s new result
 start_ends {B} m s new who number body ran result next free runs h =
     let same : step m s (Start who number) body ≡ ended s who body number (after s.store ran.writes.items) ran.ending =
-    ap (λ (b : Bool). if b then start m s who number body (progress_of s who.client) else Refused 1) (same_number who.seq (last_of s who.client + 1) next)
+    ap (λ (b : Bool). if b then start m s who number body (progress_of s who.client) else Refused 1) (eq-eqb who.seq (last_of s who.client + 1) next)
     ∙ ap (λ (p : Option Progress). start m s who number body p) free
     ∙ started s who body number (m.table who body 0) ran runs in
     subst (λ (t : Step B). Answers t s new result) (sym same) h
@@ -46,7 +43,7 @@ pub resume_ends : {B : Type 0} (m : Meaning B) (s new : Server B) (who : ReqId) 
 resume_ends {B} m s new who number progress body code ran result there same_seq text served runs h =
     let same : step m s (Resume who number) [] ≡ ended s who body number (after s.store ran.writes.items) ran.ending =
     ap (λ (p : Option Progress). resume m s who number p) there
-    ∙ ap (λ (b : Bool). if b then resumes m s who number progress (code_of s progress.tier progress.number) else Refused 5) (same_number progress.seq who.seq same_seq)
+    ∙ ap (λ (b : Bool). if b then resumes m s who number progress (code_of s progress.tier progress.number) else Refused 5) (eq-eqb progress.seq who.seq same_seq)
     ∙ ap (λ (o : Option ℕ). resumes m s who number progress o) served
     ∙ ap (λ (b : List ℕ). goes_on s who b number code (m.table who b progress.stage)) (sym text)
     ∙ resumed s who body number code (m.table who body progress.stage) ran runs in

@@ -2,3 +2,4 @@ mod Examples
 pub mod LineLaws
 pub mod WordLaws
 pub mod TextLengths
+pub mod Tiers

@@ -39,58 +39,52 @@ bump-raises next t v = go (tier_cases v t)
 
 -- NUMBERS
 
-pub num-low : (next : OfTiers ℕ) (ws : List Want) (es : List Ending) (i : ℕ) (a : Act) (t : Tier) (n : ℕ) → slice_get (acts next ws es) i ≡ Some a → Numbered a t n → of_tier next t ≤ n
-num-low next [] es i a t n e k = absurd (cc)
-num-low next (w ∷ ws) [] i a t n e k = absurd (cc)
-num-low next (w ∷ ws) (Reply text ∷ es) zero a t n e k = absurd (let s : record { want = w; ending = Reply text; num = 0 } ≡ a = cc in subst (λ b. Numbered b t n) (sym s) k)
-num-low next (w ∷ ws) (Reply text ∷ es) (suc i) a t n e k = num-low next ws es i a t n e k
-num-low next (w ∷ ws) (Call v stage text ∷ es) zero a t n e k =
-    let s : record { want = w; ending = Call v stage text; num = of_tier next v } ≡ a = cc in
-    let q : (v ≡ t) × (of_tier next v ≡ n) = subst (λ b. Numbered b t n) (sym s) k in
-    let r : of_tier next v ≡ of_tier next t = ap (of_tier next) q.0 in omega (arith, q.1)
-num-low next (w ∷ ws) (Call v stage text ∷ es) (suc i) a t n e k = omega (arith, num-low (bump next v) ws es i a t n e k, bump-raises next v t)
+numbered_at : (a b : Act) (t : Tier) (n : ℕ) → Some a ≡ Some b → Numbered b t n → Numbered a t n
+numbered_at a b t n e k = let s : a ≡ b = cc in subst (λ c. Numbered c t n) (sym s) k
 
-pub num-high : (next : OfTiers ℕ) (ws : List Want) (es : List Ending) (i : ℕ) (a : Act) (t : Tier) (n : ℕ) → slice_get (acts next ws es) i ≡ Some a → Numbered a t n → n < of_tier (next_after next es) t
-num-high next [] es i a t n e k = absurd (cc)
-num-high next (w ∷ ws) [] i a t n e k = absurd (cc)
-num-high next (w ∷ ws) (Reply text ∷ es) zero a t n e k = absurd (let s : record { want = w; ending = Reply text; num = 0 } ≡ a = cc in subst (λ b. Numbered b t n) (sym s) k)
-num-high next (w ∷ ws) (Reply text ∷ es) (suc i) a t n e k = num-high next ws es i a t n e k
-num-high next (w ∷ ws) (Call v stage text ∷ es) zero a t n e k =
-    let s : record { want = w; ending = Call v stage text; num = of_tier next v } ≡ a = cc in
-    let q : (v ≡ t) × (of_tier next v ≡ n) = subst (λ b. Numbered b t n) (sym s) k in
-    let r : of_tier next v ≡ of_tier next t = ap (of_tier next) q.0 in
-    let b : of_tier (bump next v) t ≡ suc (of_tier next v) = subst (λ z. of_tier (bump next v) z ≡ suc (of_tier next v)) q.0 (of_here next v (suc (of_tier next v))) in
-    omega (arith, q.1, r, b, next-raises (bump next v) es t)
-  where
-    next-raises : (next : OfTiers ℕ) (es : List Ending) (t : Tier) → of_tier next t ≤ of_tier (next_after next es) t
-    next-raises next [] t = omega arith
-    next-raises next (Reply text ∷ es) t = next-raises next es t
-    next-raises next (Call v stage text ∷ es) t = omega (arith, next-raises (bump next v) es t, bump-raises next v t)
-num-high next (w ∷ ws) (Call v stage text ∷ es) (suc i) a t n e k = num-high (bump next v) ws es i a t n e k
+bump-here : (next : OfTiers ℕ) (v t : Tier) → v ≡ t → of_tier (bump next v) t ≡ suc (of_tier next v)
+bump-here next v t e = subst (λ z. of_tier (bump next v) z ≡ suc (of_tier next v)) e (of_here next v (suc (of_tier next v)))
 
 pub next-raises : (next : OfTiers ℕ) (es : List Ending) (t : Tier) → of_tier next t ≤ of_tier (next_after next es) t
 next-raises next [] t = omega arith
 next-raises next (Reply text ∷ es) t = next-raises next es t
 next-raises next (Call v stage text ∷ es) t = omega (arith, next-raises (bump next v) es t, bump-raises next v t)
 
+pub num-low : (next : OfTiers ℕ) (ws : List Want) (es : List Ending) (i : ℕ) (a : Act) (t : Tier) (n : ℕ) → slice_get (acts next ws es) i ≡ Some a → Numbered a t n → of_tier next t ≤ n
+num-low next [] es i a t n e k = absurd (cc)
+num-low next (w ∷ ws) [] i a t n e k = absurd (cc)
+num-low next (w ∷ ws) (Reply text ∷ es) zero a t n e k = absurd (numbered_at (record { want = w; ending = Reply text; num = 0 }) a t n e k)
+num-low next (w ∷ ws) (Reply text ∷ es) (suc i) a t n e k = num-low next ws es i a t n e k
+num-low next (w ∷ ws) (Call v stage text ∷ es) zero a t n e k =
+    let q : (v ≡ t) × (of_tier next v ≡ n) = numbered_at (record { want = w; ending = Call v stage text; num = of_tier next v }) a t n e k in
+    let r : of_tier next v ≡ of_tier next t = ap (of_tier next) q.0 in omega (arith, q.1)
+num-low next (w ∷ ws) (Call v stage text ∷ es) (suc i) a t n e k = omega (arith, num-low (bump next v) ws es i a t n e k, bump-raises next v t)
+
+pub num-high : (next : OfTiers ℕ) (ws : List Want) (es : List Ending) (i : ℕ) (a : Act) (t : Tier) (n : ℕ) → slice_get (acts next ws es) i ≡ Some a → Numbered a t n → n < of_tier (next_after next es) t
+num-high next [] es i a t n e k = absurd (cc)
+num-high next (w ∷ ws) [] i a t n e k = absurd (cc)
+num-high next (w ∷ ws) (Reply text ∷ es) zero a t n e k = absurd (numbered_at (record { want = w; ending = Reply text; num = 0 }) a t n e k)
+num-high next (w ∷ ws) (Reply text ∷ es) (suc i) a t n e k = num-high next ws es i a t n e k
+num-high next (w ∷ ws) (Call v stage text ∷ es) zero a t n e k =
+    let q : (v ≡ t) × (of_tier next v ≡ n) = numbered_at (record { want = w; ending = Call v stage text; num = of_tier next v }) a t n e k in
+    let r : of_tier next v ≡ of_tier next t = ap (of_tier next) q.0 in
+    omega (arith, q.1, r, bump-here next v t q.0, next-raises (bump next v) es t)
+num-high next (w ∷ ws) (Call v stage text ∷ es) (suc i) a t n e k = num-high (bump next v) ws es i a t n e k
+
 -- each number of a tier is given once
 pub num-once : (next : OfTiers ℕ) (ws : List Want) (es : List Ending) (i j : ℕ) (a b : Act) (t : Tier) (n : ℕ) → slice_get (acts next ws es) i ≡ Some a → slice_get (acts next ws es) j ≡ Some b → Numbered a t n → Numbered b t n → i ≡ j
 num-once next [] es i j a b t n e f k l = absurd (cc)
 num-once next (w ∷ ws) [] i j a b t n e f k l = absurd (cc)
-num-once next (w ∷ ws) (Reply text ∷ es) zero j a b t n e f k l = absurd (let s : record { want = w; ending = Reply text; num = 0 } ≡ a = cc in subst (λ b. Numbered b t n) (sym s) k)
-num-once next (w ∷ ws) (Reply text ∷ es) (suc i) zero a b t n e f k l = absurd (let s : record { want = w; ending = Reply text; num = 0 } ≡ b = cc in subst (λ b. Numbered b t n) (sym s) l)
+num-once next (w ∷ ws) (Reply text ∷ es) zero j a b t n e f k l = absurd (numbered_at (record { want = w; ending = Reply text; num = 0 }) a t n e k)
+num-once next (w ∷ ws) (Reply text ∷ es) (suc i) zero a b t n e f k l = absurd (numbered_at (record { want = w; ending = Reply text; num = 0 }) b t n f l)
 num-once next (w ∷ ws) (Reply text ∷ es) (suc i) (suc j) a b t n e f k l = ap suc (num-once next ws es i j a b t n e f k l)
 num-once next (w ∷ ws) (Call v stage text ∷ es) zero zero a b t n e f k l = refl
 num-once next (w ∷ ws) (Call v stage text ∷ es) zero (suc j) a b t n e f k l =
-    let s : record { want = w; ending = Call v stage text; num = of_tier next v } ≡ a = cc in
-    let q : (v ≡ t) × (of_tier next v ≡ n) = subst (λ b. Numbered b t n) (sym s) k in
-    let c : of_tier (bump next v) t ≡ suc (of_tier next v) = subst (λ z. of_tier (bump next v) z ≡ suc (of_tier next v)) q.0 (of_here next v (suc (of_tier next v))) in
-    absurd (omega (arith, q.1, c, num-low (bump next v) ws es j b t n f l))
+    let q : (v ≡ t) × (of_tier next v ≡ n) = numbered_at (record { want = w; ending = Call v stage text; num = of_tier next v }) a t n e k in
+    absurd (omega (arith, q.1, bump-here next v t q.0, num-low (bump next v) ws es j b t n f l))
 num-once next (w ∷ ws) (Call v stage text ∷ es) (suc i) zero a b t n e f k l =
-    let s : record { want = w; ending = Call v stage text; num = of_tier next v } ≡ b = cc in
-    let q : (v ≡ t) × (of_tier next v ≡ n) = subst (λ b. Numbered b t n) (sym s) l in
-    let c : of_tier (bump next v) t ≡ suc (of_tier next v) = subst (λ z. of_tier (bump next v) z ≡ suc (of_tier next v)) q.0 (of_here next v (suc (of_tier next v))) in
-    absurd (omega (arith, q.1, c, num-low (bump next v) ws es i a t n e k))
+    let q : (v ≡ t) × (of_tier next v ≡ n) = numbered_at (record { want = w; ending = Call v stage text; num = of_tier next v }) b t n f l in
+    absurd (omega (arith, q.1, bump-here next v t q.0, num-low (bump next v) ws es i a t n e k))
 num-once next (w ∷ ws) (Call v stage text ∷ es) (suc i) (suc j) a b t n e f k l = ap suc (num-once (bump next v) ws es i j a b t n e f k l)
 
 -- BY INDEX

@@ -1,8 +1,8 @@
 -- A round that a middle node can apply is the decided one.
 use Rattle.std.proofs.Common.{◌≡◌, ℕ, ◌+◌, ◌*◌, ◌<◌, Bool, true, false, cond, List, [], ◌∷◌, length, refl, sym, ap, ◌∙◌, subst, Option, Some, None, zero, suc, arith}
-use Rattle.std.specs.Prelude.{slice_get, ◌==◌, ◌&&◌, nat_le}
-use Rattle.std.proofs.lemmas.Bool.{cond-true, cond_both, and_parts, eqb-true}
-use Rattle.std.proofs.lemmas.Option.{cond_some}
+use Rattle.std.specs.Prelude.{slice_get, ◌==◌, nat_le}
+use Rattle.std.proofs.lemmas.Bool.{cond-true, cond_both}
+use Rattle.std.proofs.lemmas.Option.{cond_some, slice_get_within}
 use Rattle.aeg_base.specs.declared.names.Tier.{Tier}
 use Rattle.log_model.proofs.Basics.{Every, every-append}
 use Rattle.log_model.specs.Log.{nobody}
@@ -13,24 +13,22 @@ use Rattle.log_values.specs.declared.mid_value.MidValue.TheVariants.{Batch, Verd
 use Rattle.log_values.specs.declared.mid_value.Verdict.{Verdict}
 use Rattle.log_values.specs.declared.mid_value.Verdict.TheVariants.{Commit, Serial}
 use Rattle.round_model.specs.After.{Round, after, batch_at, round_at, verdict_at, verdict_in}
-use Rattle.round_model.specs.Answers.{Code, code_of}
+use Rattle.round_model.specs.Answers.{code_of}
 use Rattle.round_model.specs.Lists.{OfTiers, of_tier, and_then, below, each, half, odd}
 use Rattle.round_model.specs.Service.{Finish, finish_by, Service, finish, is_order}
 use Rattle.round_model.specs.Tables.{last_of, pending_of, drop_done, Tables, Want, bump, job_of, not_done, settled, wants}
 use Rattle.round_model.specs.Verdicts.{Vote, without_round}
 use Rattle.run_model.specs.World.{Config}
-use Rattle.server_model.specs.Server.{same_tier}
 use Rattle.svc_api.specs.declared.action.Ending.{Ending}
 use Rattle.svc_api.specs.declared.action.Ending.TheVariants.{Call, Reply}
 use Rattle.tier_laws.proofs.Acts.{Act, acts}
-use Rattle.tier_laws.proofs.Lists.{tier_eq}
 use Rattle.tier_laws.proofs.Ledger.{Decision, TablesOk, finish_in, half-is, ordered}
-use Rattle.tier_laws.proofs.Legal.{within_get}
 use Rattle.tier_laws.proofs.Past.{Known, MidOk, MidOther, SentOk, Past, VerdictBy, VerdictOk}
 use Rattle.tier_laws.proofs.Rounds.{ToldOne}
 use Rattle.tier_laws.proofs.Stable.{MoreAnswers, MoreLog, RoundParts, after-step, batch-more, job-more, round_parts, then_parts, verdict-more, verdict_in-some}
 use Rattle.aeg_base.proofs.ChangeLaws.{written-changes}
 use Rattle.tier_laws.proofs.Ranges.{RoundIn, round_in}
+use Rattle.tier_laws.proofs.Codes.{code_at}
 use Rattle.svc_api.specs.declared.outcome.Outcome.{Outcome}
 use Rattle.exec_model.specs.Outcomes as changes
 use Rattle.tier_model.specs.Mid.{Mid, Ready, finish_of, call_to, apply, calls_to, fits, ready, tells}
@@ -38,15 +36,6 @@ use Rattle.tier_model.specs.Mid.{Mid, Ready, finish_of, call_to, apply, calls_to
 pub every-each : {A : Type 0} (P : A → Type 0) (n : ℕ) (skip : ℕ → Bool) (f : ℕ → A) → ((y : ℕ) → P (f y)) → Every P (each n skip f)
 every-each P zero skip f k = tt
 every-each P (suc n) skip f k = every-append P (each n skip f) _ (every-each P n skip f k) (cond_both (skip n) [] (f n ∷ []) (Every P) (λ e. tt) (λ e. (k n, tt)))
-
-pub code_at : (cs : List Code) (t : Tier) (n code : ℕ) → code_of cs t n ≡ Some code → (i : ℕ) × (k : Code) × (slice_get cs i ≡ Some k) × (k.tier ≡ t) × (k.num ≡ n) × (k.code ≡ code)
-code_at [] t n code e = absurd (cc)
-code_at (c ∷ cs) t n code e = go ((same_tier c.tier t && (c.num == n))) refl e (code_at cs t n code)
-  where
-    go : (b : Bool) → (same_tier c.tier t && (c.num == n)) ≡ b → cond b (Some c.code) (code_of cs t n) ≡ Some code → (code_of cs t n ≡ Some code → (i : ℕ) × (k : Code) × (slice_get cs i ≡ Some k) × (k.tier ≡ t) × (k.num ≡ n) × (k.code ≡ code))
-        → (i : ℕ) × (k : Code) × (slice_get (c ∷ cs) i ≡ Some k) × (k.tier ≡ t) × (k.num ≡ n) × (k.code ≡ code)
-    go true f e r = let p = and_parts (same_tier c.tier t) ((c.num == n)) f in (0, c, refl, tier_eq c.tier t p.0, eqb-true c.num n p.1, cc)
-    go false f e r = let q = r e in (suc q.0, q.1, q.2, q.3, q.4, q.5)
 
 -- the held answers are those of the history
 pub held_right : {B : Type 0} (c : Config B) (P : Past B) (x : ℕ) (σ : Mid) → Known c P → MidOther c P x σ → MoreAnswers (code_of σ.held) P.server.served
@@ -167,7 +156,7 @@ is_decided {B} c P x σ R k o pre e = record {
     value = verdict_in-some (slice_get P.log (2 * σ.applied + 1)) q.0 verdict
 
     d : Decision c.service c.depth P.log P.server σ.applied
-    d = k.decided σ.applied (below_half σ.applied (length P.log) (within_get P.log (2 * σ.applied + 1) value.0 value.1))
+    d = k.decided σ.applied (below_half σ.applied (length P.log) (slice_get_within P.log (2 * σ.applied + 1) value.0 value.1))
 
     a : (T : Tables) × (after c.service c.depth P.log P.server.served σ.applied ≡ Some T) × (round_at c.service P.log P.server.served σ.applied T ≡ Some d.made)
     a = then_parts (after c.service c.depth P.log P.server.served σ.applied) (round_at c.service P.log P.server.served σ.applied) d.made d.is_round

@@ -1,8 +1,8 @@
 -- A backend node learns, offers, retries and restarts.
-use Rattle.std.proofs.Common.{◌≡◌, ℕ, ◌+◌, ◌*◌, ◌<◌, ◌≤◌, Bool, true, false, cond, List, [], ◌∷◌, ◌++◌, length, refl, sym, ap, ◌∙◌, subst, inl, inr, Option, Some, None, zero, suc, arith}
+use Rattle.std.proofs.Common.{◌≡◌, ℕ, ◌+◌, ◌*◌, ◌<◌, ◌≤◌, Bool, true, false, cond, List, [], ◌∷◌, ◌++◌, length, refl, sym, ap, ◌∙◌, subst, inl, inr, Option, Some, None, suc, arith}
 use Rattle.std.specs.Prelude.{slice_get, ◌⊎◌, ◌==◌, ◌&&◌, ◌||◌, nat_lt, take}
-use Rattle.std.proofs.lemmas.Bool.{cond-true, cond-false, and_parts, eqb-true, eq-eqb, ltb-true, ltb-false, cases_lt, cases_eq}
-use Rattle.std.proofs.lemmas.Option.{cond_some}
+use Rattle.std.proofs.lemmas.Bool.{cond-true, cond-false, and_parts, eqb-true, ltb-true, ltb-false, cases_lt, cases_eq}
+use Rattle.std.proofs.Math.Seq.{take-append_seam}
 use Rattle.aeg_base.specs.declared.names.Tier.{Tier}
 use Rattle.log_model.proofs.Basics.{Every}
 use Rattle.log_model.specs.Log.{nobody}
@@ -16,23 +16,17 @@ use Rattle.round_model.specs.Service.{Service}
 use Rattle.run_model.specs.Histories.{BackRun, back_from, back_run, back_serve, back_value, floor_from, floor_of, floor_value}
 use Rattle.run_model.specs.World.{Config}
 use Rattle.server_model.specs.Server.{same_tier}
-use Rattle.tier_laws.proofs.Lists.{put_here, put_there, tier_same}
+use Rattle.tier_laws.proofs.Lists.{put_here, put_there, get_end, get_left, kept_at, pushed}
 use Rattle.tier_laws.proofs.Apply.{every-each}
 use Rattle.tier_laws.proofs.BackRows.{BackKnown, BackOther, Tied}
 use Rattle.tier_laws.proofs.Backs.{back-push, run-keeps, value-keeps}
-use Rattle.tier_laws.proofs.Ledger.{get-end, get-left}
 use Rattle.tier_laws.proofs.Past.{SentOk, Past}
-use Rattle.tier_laws.proofs.Rows.{pushed}
 use Rattle.tier_laws.proofs.Stable.{MoreLog}
+use Rattle.tier_laws.proofs.Codes.{code_of-left, code_of-cases, code_of-right}
 use Rattle.tier_model.specs.Back.{answer_to, Back, after_value, passes, serves, settles, value_sends}
 use Rattle.tier_model.specs.Moves.{Packet}
 
 -- PREFIXES
-
-take-prefix : {V : Type 0} (xs ys : List V) → MoreLog xs ys → take (length xs) ys ≡ xs
-take-prefix [] ys k = refl
-take-prefix (x ∷ xs) [] k = absurd (let e = k.at 0 x refl in cc)
-take-prefix (x ∷ xs) (y ∷ ys) k = let e = k.at 0 x refl in let s : y ≡ x = cc in λ i. s i ∷ take-prefix xs ys (record { at = λ i v f. k.at (suc i) v f }) i
 
 prefix-split : {V : Type 0} (xs ys : List V) → MoreLog xs ys → (rest : List V) × (ys ≡ xs ++ rest)
 prefix-split [] ys k = (ys, refl)
@@ -42,6 +36,9 @@ prefix-split (x ∷ xs) (y ∷ ys) k =
     let s : y ≡ x = cc in
     let r = prefix-split xs ys (record { at = λ i v f. k.at (suc i) v f }) in
     (r.0, λ i. s i ∷ r.1 i)
+
+take-prefix : {V : Type 0} (xs ys : List V) → MoreLog xs ys → take (length xs) ys ≡ xs
+take-prefix xs ys k = let r = prefix-split xs ys k in ap (take (length xs)) r.1 ∙ take-append_seam xs r.0
 
 back_from-append : {B : Type 0} (m : Service B) (t : Tier) (R : BackRun B) (xs ys : List AnyValue) → back_from m t R (xs ++ ys) ≡ back_from m t (back_from m t R xs) ys
 back_from-append m t R [] ys = refl
@@ -61,33 +58,6 @@ floor-push : (vs : List AnyValue) (v : AnyValue) → floor_of (vs ++ v ∷ []) �
 floor-push vs v = floor-append 1 vs v
 
 -- CODES
-
-code_of-left : (cs : List Code) (k : Code) (t : Tier) (n code : ℕ) → code_of cs t n ≡ Some code → code_of (cs ++ k ∷ []) t n ≡ Some code
-code_of-left [] k t n code e = absurd (cc)
-code_of-left (c ∷ cs) k t n code e = go (same_tier c.tier t && (c.num == n)) e (code_of-left cs k t n code)
-  where
-    go : (b : Bool) → cond b (Some c.code) (code_of cs t n) ≡ Some code → (code_of cs t n ≡ Some code → code_of (cs ++ k ∷ []) t n ≡ Some code) → cond b (Some c.code) (code_of (cs ++ k ∷ []) t n) ≡ Some code
-    go true f r = f
-    go false f r = r f
-
-code_of-right : (cs : List Code) (t : Tier) (n code : ℕ) → code_of cs t n ≡ None → code_of (cs ++ record { tier = t; num = n; code = code } ∷ []) t n ≡ Some code
-code_of-right [] t n code e = cond-true (same_tier t t && (n == n)) (Some code) None (both (same_tier t t) (n == n) (tier_same t) (eq-eqb n n refl))
-  where
-    both : (a b : Bool) → a ≡ true → b ≡ true → (a && b) ≡ true
-    both a b e f = rw (e, f) refl
-code_of-right (c ∷ cs) t n code e = go (same_tier c.tier t && (c.num == n)) e (code_of-right cs t n code)
-  where
-    go : (b : Bool) → cond b (Some c.code) (code_of cs t n) ≡ None → (code_of cs t n ≡ None → code_of (cs ++ record { tier = t; num = n; code = code } ∷ []) t n ≡ Some code) → cond b (Some c.code) (code_of (cs ++ record { tier = t; num = n; code = code } ∷ []) t n) ≡ Some code
-    go true f r = absurd (cc)
-    go false f r = r f
-
-code_of-cases : (cs : List Code) (k : Code) (t : Tier) (n code : ℕ) → code_of (cs ++ k ∷ []) t n ≡ Some code → (code_of cs t n ≡ Some code) ⊎ ((k.num ≡ n) × (k.code ≡ code))
-code_of-cases [] k t n code e = let p = cond_some (same_tier k.tier t && (k.num == n)) k.code code e in inr (eqb-true k.num n (and_parts (same_tier k.tier t) (k.num == n) p.0).1, p.1)
-code_of-cases (c ∷ cs) k t n code e = go (same_tier c.tier t && (c.num == n)) e (code_of-cases cs k t n code)
-  where
-    go : (b : Bool) → cond b (Some c.code) (code_of (cs ++ k ∷ []) t n) ≡ Some code → (code_of (cs ++ k ∷ []) t n ≡ Some code → (code_of cs t n ≡ Some code) ⊎ ((k.num ≡ n) × (k.code ≡ code))) → (cond b (Some c.code) (code_of cs t n) ≡ Some code) ⊎ ((k.num ≡ n) × (k.code ≡ code))
-    go true f r = inl f
-    go false f r = r f
 
 from-keeps : (cs : List Code) (g : ℕ) (t : Tier) (n : ℕ) → g ≤ n → code_of (codes_from cs g) t n ≡ code_of cs t n
 from-keeps [] g t n l = refl
@@ -112,30 +82,15 @@ from-some (c ∷ cs) g t n code e = go (nat_lt c.num g) refl e (from-some cs g t
 
 from_at : (cs : List Code) (g i : ℕ) (k : Code) → slice_get (codes_from cs g) i ≡ Some k → (j : ℕ) × (slice_get cs j ≡ Some k)
 from_at [] g i k e = absurd (cc)
-from_at (c ∷ cs) g i k e = go (nat_lt c.num g) i e (λ i f. from_at cs g i k f)
-  where
-    go : (b : Bool) (i : ℕ) → slice_get (cond b (codes_from cs g) (c ∷ codes_from cs g)) i ≡ Some k → ((i : ℕ) → slice_get (codes_from cs g) i ≡ Some k → (j : ℕ) × (slice_get cs j ≡ Some k)) → (j : ℕ) × (slice_get (c ∷ cs) j ≡ Some k)
-    go true i f r = let q = r i f in (suc q.0, q.1)
-    go false zero f r = (0, f)
-    go false (suc i) f r = let q = r i f in (suc q.0, q.1)
+from_at (c ∷ cs) g i k e = kept_at (nat_lt c.num g) c (codes_from cs g) cs i k e (λ i f. from_at cs g i k f)
 
 copies_from_at : (cs : List Copy) (g i : ℕ) (k : Copy) → slice_get (copies_from cs g) i ≡ Some k → (j : ℕ) × (slice_get cs j ≡ Some k)
 copies_from_at [] g i k e = absurd (cc)
-copies_from_at (c ∷ cs) g i k e = go (nat_lt c.num g) i e (λ i f. copies_from_at cs g i k f)
-  where
-    go : (b : Bool) (i : ℕ) → slice_get (cond b (copies_from cs g) (c ∷ copies_from cs g)) i ≡ Some k → ((i : ℕ) → slice_get (copies_from cs g) i ≡ Some k → (j : ℕ) × (slice_get cs j ≡ Some k)) → (j : ℕ) × (slice_get (c ∷ cs) j ≡ Some k)
-    go true i f r = let q = r i f in (suc q.0, q.1)
-    go false zero f r = (0, f)
-    go false (suc i) f r = let q = r i f in (suc q.0, q.1)
+copies_from_at (c ∷ cs) g i k e = kept_at (nat_lt c.num g) c (copies_from cs g) cs i k e (λ i f. copies_from_at cs g i k f)
 
 copies_but_at : (cs : List Copy) (g i : ℕ) (k : Copy) → slice_get (copies_but cs g) i ≡ Some k → (j : ℕ) × (slice_get cs j ≡ Some k)
 copies_but_at [] g i k e = absurd (cc)
-copies_but_at (c ∷ cs) g i k e = go (c.num == g) i e (λ i f. copies_but_at cs g i k f)
-  where
-    go : (b : Bool) (i : ℕ) → slice_get (cond b (copies_but cs g) (c ∷ copies_but cs g)) i ≡ Some k → ((i : ℕ) → slice_get (copies_but cs g) i ≡ Some k → (j : ℕ) × (slice_get cs j ≡ Some k)) → (j : ℕ) × (slice_get (c ∷ cs) j ≡ Some k)
-    go true i f r = let q = r i f in (suc q.0, q.1)
-    go false zero f r = (0, f)
-    go false (suc i) f r = let q = r i f in (suc q.0, q.1)
+copies_but_at (c ∷ cs) g i k e = kept_at (c.num == g) c (copies_but cs g) cs i k e (λ i f. copies_but_at cs g i k f)
 
 -- ONE VALUE
 
@@ -159,7 +114,7 @@ learn_call : {B : Type 0} (c : Config B) (P : Past B) (t : Tier) (x : ℕ) (vs x
 learn_call {B} c P t x vs xs σ n text known pre tied other = go (passes t σ n) refl
   where
     positive : 0 < n
-    positive = known.positive (length xs) n text (pre.at (length xs) (OfBack (Called n text)) (get-end xs (OfBack (Called n text))))
+    positive = known.positive (length xs) n text (pre.at (length xs) (OfBack (Called n text)) (get_end xs (OfBack (Called n text))))
 
     pushed_run : back_run c.service t (xs ++ OfBack (Called n text) ∷ []) ≡ cond (is_some ((back_run c.service t xs).code n)) (back_run c.service t xs) (back_serve c.service t (back_run c.service t xs) n text)
     pushed_run = back-push c.service t xs (OfBack (Called n text))
@@ -249,10 +204,10 @@ learn_settle {B} c P t x vs xs σ g known pre tied other = go (nat_lt σ.floor g
     same = back-push c.service t xs (OfBack (Settled g))
 
     before : MoreLog xs vs
-    before = record { at = λ i v e. pre.at i v (get-left xs (OfBack (Settled g) ∷ []) i v e) }
+    before = record { at = λ i v e. pre.at i v (get_left xs (OfBack (Settled g) ∷ []) i v e) }
 
     all : (n : ℕ) → 0 < n → n < g → (code : ℕ) × ((back_run c.service t xs).code n ≡ Some code)
-    all n a b = let r = known.settles (length xs) g n (pre.at (length xs) (OfBack (Settled g)) (get-end xs (OfBack (Settled g)))) a b in (r.0, subst (λ z. (back_run c.service t z).code n ≡ Some r.0) (take-prefix xs vs before) r.1)
+    all n a b = let r = known.settles (length xs) g n (pre.at (length xs) (OfBack (Settled g)) (get_end xs (OfBack (Settled g)))) a b in (r.0, subst (λ z. (back_run c.service t z).code n ≡ Some r.0) (take-prefix xs vs before) r.1)
 
     go : (b : Bool) → nat_lt σ.floor g ≡ b → Learnt c P t x (xs ++ OfBack (Settled g) ∷ []) (cond b (record { log = σ.log; state = σ.state; kept = codes_from σ.kept g; floor = g; copies = copies_from σ.copies g; floors = σ.floors }) σ) []
     go false e = record { tied = tied_same c.service t xs (xs ++ OfBack (Settled g) ∷ []) σ same (floor-push xs (OfBack (Settled g)) ∙ cond-false (nat_lt (floor_of xs) g) g (floor_of xs) (subst (λ z. nat_lt z g ≡ false) tied.greatest e)) tied; other = other; sends = tt }

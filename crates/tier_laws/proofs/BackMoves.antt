@@ -2,16 +2,16 @@
 use Rattle.std.proofs.Common.{◌≡◌, ℕ, ◌+◌, ◌*◌, ◌≤◌, Bool, true, false, cond, List, [], ◌∷◌, ◌++◌, length, refl, sym, ap, ◌∙◌, subst, inl, inr, Option, Some, None, zero, suc, arith}
 use Rattle.std.specs.Prelude.{replicate, slice_get, ◌⊎◌, nat_lt, nat_le}
 use Rattle.std.proofs.lemmas.Bool.{cond-true, cond-false, cond_both, lt-ltb}
+use Rattle.std.proofs.lemmas.List.{append-nil, append_assoc}
 use Rattle.aeg_base.specs.declared.names.Tier.{Tier}
 use Rattle.log_model.proofs.Basics.{Every, every-append}
 use Rattle.log_model.proofs.Invariant.{Rest, TurnOk}
 use Rattle.log_model.proofs.Origin.{Origins, Stood}
 use Rattle.log_model.proofs.Rows.{still}
-use Rattle.log_model.proofs.Step.{grown, put_same}
+use Rattle.log_model.proofs.Step.{turn_rest, wrote}
 use Rattle.log_model.specs.Log.{Leader, LogState, Turn, is, nobody, open_at}
 use Rattle.log_model.specs.Recover.{learned_in, onto, recover}
 use Rattle.log_model.specs.Rows.{lead, offer, on_msg}
-use Rattle.log_model.specs.World.{put}
 use Rattle.log_model.specs.declared.fact.Fact.{Fact as LogFact}
 use Rattle.log_model.specs.declared.message.PaxMsg.{PaxMsg}
 use Rattle.log_values.specs.declared.any_value.AnyValue.{AnyValue}
@@ -26,13 +26,12 @@ use Rattle.server_model.specs.Server.{same_tier}
 use Rattle.tier_laws.proofs.Apply.{every-each}
 use Rattle.tier_laws.proofs.BackLearn.{Learnt, learn_ok}
 use Rattle.tier_laws.proofs.BackRows.{BackHere, BackKnown, BackMoveOk, BackOther, Tied, back_knows}
-use Rattle.tier_laws.proofs.Ledger.{get-end, length-push}
 use Rattle.tier_laws.proofs.Offers.{every_from, highest_every}
 use Rattle.tier_laws.proofs.Past.{BackOk, FloorOk, SentOk, Past}
 use Rattle.tier_laws.proofs.Stable.{MoreLog}
 use Rattle.aeg_base.specs.declared.names.Tier.TheVariants.{Mid as MidTier, Inv, Pay}
 use Rattle.frames.specs.declared.turn.Idle.TheVariants as why
-use Rattle.tier_laws.proofs.Soups.{mid_soup, back_soup, nil, mid_soup-append, back_soup-append, NoLog, no_mid, no_back, none_nil, none_append, none_each, back_soup-own, mid_soup-back, back_soup-other, every-log}
+use Rattle.tier_laws.proofs.Soups.{mid_soup, back_soup, mid_soup-append, back_soup-append, NoLog, no_mid, no_back, none_nil, none_append, none_each, back_soup-own, mid_soup-back, back_soup-other, every-log}
 use Rattle.tier_model.specs.Back.{Back, after_value, in_log, new_value, passes, value_sends, value_state, value_tells, with_log}
 use Rattle.log_model.specs.declared.fact.Fact.TheVariants.{Promised, Accepted as Voted, Learned}
 use Rattle.log_model.specs.declared.message.PaxMsg.TheVariants.{Ask}
@@ -48,8 +47,9 @@ use Rattle.log_values.specs.declared.fact.Fact.{Fact}
 use Rattle.round_model.specs.Answers.{highest}
 use Rattle.round_model.specs.Copies.{floor_at}
 use Rattle.tier_laws.proofs.BackRows.{back_stays}
-use Rattle.tier_laws.proofs.Lists.{at-replicate}
+use Rattle.tier_laws.proofs.Lists.{at-replicate, get_end, get_left, length_push}
 use Rattle.tier_laws.proofs.Moves.{log_facts-map}
+use Rattle.tier_laws.proofs.Logs.{state_more}
 use Rattle.tier_model.specs.Back.{answer_to}
 use Rattle.tier_model.specs.BackRows.{leads, offers, offers_as, after_values, answers_again, bare, own_by, own_value, recovered, retry}
 use Rattle.tier_model.specs.Moves.{Packet, asks, log_packets, log_facts, idles}
@@ -120,8 +120,8 @@ turn_learnt {B} c P t x vs σ s known tied other more (inl e) =
     not_more : (a b : ℕ) → b ≡ a → nat_lt a b ≡ false
     not_more a b e = grind arith
 turn_learnt {B} c P t x vs σ s known tied other more (inr r) =
-    let some : new_value σ.log s ≡ Some r.0 = cond-true (nat_lt (length σ.log.learned) (length s.learned)) (slice_get s.learned (length σ.log.learned)) None (lt-ltb _ _ (omega (arith, ap length r.1, length-push σ.log.learned r.0)))
-    ∙ ap (λ z. slice_get z (length σ.log.learned)) r.1 ∙ get-end σ.log.learned r.0 in
+    let some : new_value σ.log s ≡ Some r.0 = cond-true (nat_lt (length σ.log.learned) (length s.learned)) (slice_get s.learned (length σ.log.learned)) None (lt-ltb _ _ (omega (arith, ap length r.1, length_push σ.log.learned r.0)))
+    ∙ ap (λ z. slice_get z (length σ.log.learned)) r.1 ∙ get_end σ.log.learned r.0 in
     let l : Learnt c P t x (σ.log.learned ++ r.0 ∷ []) (after_value c.service t (with_log σ s) r.0) (value_sends c.u c.service t x (with_log σ s) r.0) =
     learn_ok c P t x vs σ.log.learned (with_log σ s) r.0 known (subst (λ z. MoreLog z vs) r.1 more) (relog_tied c.service t σ.log.learned σ s tied) (relog_other c P t σ s other) in
     subst (λ o. Learnt c P t x s.learned (value_state c.service t (with_log σ s) o) (value_tells c.u c.service t x (with_log σ s) o)) (sym some)
@@ -134,7 +134,7 @@ back_move {B} c P t vs h soup x σ a own k ok from one fine = record {
   turn_ok = ok;
   good = λ p b w d. good p w (from.from p b w d);
   is_facts = log_facts-map a.facts;
-  is_sends = back_soup-append t (log_packets t x a.sends) told ∙ ap (λ z. back_soup t (log_packets t x a.sends) ++ z) (no_back told none t) ∙ nil (back_soup t (log_packets t x a.sends)) ∙ back_soup-own t x a.sends k.backend;
+  is_sends = back_soup-append t (log_packets t x a.sends) told ∙ ap (λ z. back_soup t (log_packets t x a.sends) ++ z) (no_back told none t) ∙ append-nil (back_soup t (log_packets t x a.sends)) ∙ back_soup-own t x a.sends k.backend;
   is_log = state_log c.service t (with_log σ a.state) (new_value σ.log a.state);
   no_mid = mid_soup-append (log_packets t x a.sends) told ∙ ap (λ z. z ++ mid_soup told) (mid_soup-back t x a.sends k.backend) ∙ no_mid told none;
   no_back = λ w e. back_soup-append w (log_packets t x a.sends) told ∙ ap (λ z. z ++ back_soup w told) (back_soup-other w t x a.sends (tier_sym w t e)) ∙ no_back told none w;
@@ -153,11 +153,11 @@ back_move {B} c P t vs h soup x σ a own k ok from one fine = record {
     good p w (inl s) = k.good s.0 s.2 p s.1 w s.3
     good p w (inr s) = fine p w s.0
 
-    r : Rest c.u (put h x (onto a.facts (h x))) (onto a.facts (h x)) (back_soup t soup) x a
-    r = ok.rest (put h x (onto a.facts (h x))) (put_same h x (onto a.facts (h x))) (grown h x a.facts ok.orderly)
+    r : Rest c.u (wrote h x a) (onto a.facts (h x)) (back_soup t soup) x a
+    r = turn_rest c.u h (back_soup t soup) x a ok
 
     more : MoreLog a.state.learned vs
-    more = record { at = λ p v e. k.complete.at p v (r.learned p v (subst (λ z. slice_get z p ≡ Some v) r.state.learned e)) }
+    more = state_more c.u h (back_soup t soup) vs x a ok k.complete
 
     steps : (learned_in (onto a.facts (h x)) ≡ learned_in (h x)) ⊎ ((v : AnyValue) × (learned_in (onto a.facts (h x)) ≡ learned_in (h x) ++ v ∷ [])) → (a.state.learned ≡ σ.log.learned) ⊎ ((v : AnyValue) × (a.state.learned ≡ σ.log.learned ++ v ∷ []))
     steps (inl e) = inl (r.state.learned ∙ e ∙ sym k.log.learned)
@@ -228,7 +228,7 @@ back_retry_ok {B} c P t vs h soup x σ k = record {
   turn_ok = still c.u h (back_soup t soup) x σ.log σ.log (asks c.u x (open_at σ.log)) None (back_knows c P t vs h soup x σ k) k.log (λ g same m. every-each (SendOk c.u g (back_soup t soup) x) (2 * c.u + 1) (is x) (λ y. (y, Ask (open_at σ.log))) (λ y. tt));
   good = λ p b w d. k.good x k.inside p b w d;
   is_facts = refl;
-  is_sends = back_soup-append t (log_packets t x (asks c.u x (open_at σ.log))) told ∙ ap (λ z. back_soup t (log_packets t x (asks c.u x (open_at σ.log))) ++ z) (no_back told none t) ∙ nil (back_soup t (log_packets t x (asks c.u x (open_at σ.log)))) ∙ back_soup-own t x (asks c.u x (open_at σ.log)) k.backend;
+  is_sends = back_soup-append t (log_packets t x (asks c.u x (open_at σ.log))) told ∙ ap (λ z. back_soup t (log_packets t x (asks c.u x (open_at σ.log))) ++ z) (no_back told none t) ∙ append-nil (back_soup t (log_packets t x (asks c.u x (open_at σ.log)))) ∙ back_soup-own t x (asks c.u x (open_at σ.log)) k.backend;
   is_log = refl;
   no_mid = mid_soup-append (log_packets t x (asks c.u x (open_at σ.log))) told ∙ ap (λ z. z ++ mid_soup told) (mid_soup-back t x (asks c.u x (open_at σ.log)) k.backend) ∙ no_mid told none;
   no_back = λ w e. back_soup-append w (log_packets t x (asks c.u x (open_at σ.log))) told ∙ ap (λ z. z ++ back_soup w told) (back_soup-other w t x (asks c.u x (open_at σ.log)) (tier_sym w t e)) ∙ no_back told none w;
@@ -270,23 +270,14 @@ back_offers_ok {B} c P t vs h soup x σ k = go (log_wants c.u σ.log)
 
 -- RESTART
 
-assoc : {A : Type 0} (xs : List A) (x : A) (ys : List A) → xs ++ x ∷ ys ≡ (xs ++ x ∷ []) ++ ys
-assoc [] x ys = refl
-assoc (z ∷ xs) x ys = ap (λ q. z ∷ q) (assoc xs x ys)
-
 values_ok : {B : Type 0} (c : Config B) (P : Past B) (t : Tier) (K xs vs : List AnyValue) (σ : Back B) → BackKnown c P t K → MoreLog (xs ++ vs) K → Tied c.service t xs σ → BackOther c P t σ → Tied c.service t (xs ++ vs) (after_values c.service t σ vs) × BackOther c P t (after_values c.service t σ vs) × ((after_values c.service t σ vs).log ≡ σ.log)
-values_ok c P t K xs [] σ known pre tied other = (subst (λ z. Tied c.service t z σ) (sym (nil xs)) tied, other, refl)
+values_ok c P t K xs [] σ known pre tied other = (subst (λ z. Tied c.service t z σ) (sym (append-nil xs)) tied, other, refl)
 values_ok c P t K xs (v ∷ vs) σ known pre tied other =
-    let p : MoreLog ((xs ++ v ∷ []) ++ vs) K = subst (λ z. MoreLog z K) (assoc xs v vs) pre in
-    let one : MoreLog (xs ++ v ∷ []) K = record { at = λ i w e. p.at i w (left (xs ++ v ∷ []) vs i w e) } in
+    let p : MoreLog ((xs ++ v ∷ []) ++ vs) K = subst (λ z. MoreLog z K) (sym (append_assoc xs (v ∷ []) vs)) pre in
+    let one : MoreLog (xs ++ v ∷ []) K = record { at = λ i w e. p.at i w (get_left (xs ++ v ∷ []) vs i w e) } in
     let l : Learnt c P t 0 (xs ++ v ∷ []) (after_value c.service t σ v) (value_sends c.u c.service t 0 σ v) = learn_ok c P t 0 K xs σ v known one tied other in
     let r = values_ok c P t K (xs ++ v ∷ []) vs (after_value c.service t σ v) known p l.tied l.other in
-    (subst (λ z. Tied c.service t z (after_values c.service t (after_value c.service t σ v) vs)) (sym (assoc xs v vs)) r.0, r.1, r.2 ∙ value_log c.service t σ v)
-  where
-    left : {A : Type 0} (xs ys : List A) (i : ℕ) (a : A) → slice_get xs i ≡ Some a → slice_get (xs ++ ys) i ≡ Some a
-    left [] ys i a e = absurd (cc)
-    left (x ∷ xs) ys zero a e = e
-    left (x ∷ xs) ys (suc i) a e = left xs ys i a e
+    (subst (λ z. Tied c.service t z (after_values c.service t (after_value c.service t σ v) vs)) (append_assoc xs (v ∷ []) vs) r.0, r.1, r.2 ∙ value_log c.service t σ v)
 
 floors_one : (n y : ℕ) → floor_at (replicate n 1) y ≡ 1
 floors_one n y = at-replicate 1 n y

@@ -23,7 +23,6 @@ use Rattle.run_model.specs.World.{Config}
 use Rattle.server_model.specs.Server.{same_tier}
 use Rattle.tier_laws.proofs.Logs.{Complete}
 use Rattle.tier_laws.proofs.Past.{BackOk, FloorOk, Grows, SentOk, Past, floor-more}
-use Rattle.tier_laws.proofs.Rows.{pushed}
 use Rattle.aeg_base.specs.declared.names.Tier.TheVariants.{Mid as MidTier}
 use Rattle.frames.specs.declared.turn.Turn.{Turn as Answer}
 use Rattle.frames.specs.declared.turn.Idle.TheVariants as why
@@ -31,8 +30,8 @@ use Rattle.tier_laws.proofs.Soups.{mid_soup, back_soup, NoLog, no_mid, no_back, 
 use Rattle.tier_model.specs.Back.{Back}
 use Rattle.log_model.specs.declared.turn.LogIdle.TheVariants.{Nothing}
 use Rattle.log_model.specs.World.{packets_of}
-use Rattle.tier_laws.proofs.Apply.{code_at}
-use Rattle.tier_laws.proofs.Lists.{at_here, at_there}
+use Rattle.tier_laws.proofs.Lists.{at_here, at_there, pushed}
+use Rattle.tier_laws.proofs.Codes.{code_at}
 use Rattle.tier_model.specs.Back.{answer_to}
 use Rattle.tier_model.specs.BackRows.{copied, notes_copy, call_as, told_floor, on_call, on_settle}
 use Rattle.tier_model.specs.Moves.{Move, Packet, log_facts, idles, becomes}

@@ -1,7 +1,10 @@
 -- A backend's log grows.
-use Rattle.std.proofs.Common.{◌≡◌, ℕ, ◌<◌, ◌≤◌, Bool, true, false, cond, List, [], ◌∷◌, ◌++◌, length, refl, sym, ap, ◌∙◌, subst, inl, inr, Option, Some, None, zero, suc, arith}
+use Rattle.std.proofs.Common.{◌≡◌, ℕ, ◌<◌, Bool, true, false, cond, List, [], ◌∷◌, ◌++◌, length, refl, sym, ap, ◌∙◌, subst, inl, inr, Option, Some, None, arith}
 use Rattle.std.specs.Prelude.{slice_get, ◌⊎◌, ◌==◌, ◌||◌, take}
 use Rattle.std.proofs.lemmas.Bool.{eq-eqb, ne_eqb, cond-true, cond-false, cases_eq}
+use Rattle.std.proofs.lemmas.List.{append-nil, take-append-le}
+use Rattle.std.proofs.lemmas.Option.{slice_get_within}
+use Rattle.std.proofs.Math.Seq.{take-append_seam}
 use Rattle.aeg_base.specs.declared.names.Tier.{Tier}
 use Rattle.run_model.specs.Histories.{put}
 use Rattle.log_values.specs.declared.any_value.AnyValue.{AnyValue}
@@ -18,10 +21,10 @@ use Rattle.server_model.specs.Backends.{Served as Coded}
 use Rattle.server_model.specs.History.{History as History_}
 use Rattle.server_model.specs.Server.{same_tier}
 use Rattle.server_model.specs.declared.history.Hist.TheVariants.{Serve}
-use Rattle.tier_laws.proofs.Lists.{put_here, put_there, tier_cases, tier_here, tier_there}
-use Rattle.tier_laws.proofs.Ledger.{Decision, Extended, Ledger, TablesOk, answers-kept, decision-more, get-last, kept-refl, legal-append, server-append, tables-kept}
+use Rattle.tier_laws.proofs.Lists.{put_here, put_there, tier_here, tier_there, by_tier, get_push}
+use Rattle.tier_laws.proofs.Ledger.{Decision, Extended, Ledger, TablesOk, answers-kept, decision-more, legal-append, server-append, tables-kept}
 use Rattle.tier_laws.proofs.Mirrors.{Mirrors}
-use Rattle.tier_laws.proofs.Rounds.{Kept, number_cases}
+use Rattle.tier_laws.proofs.Rounds.{Kept, number_cases, kept-refl}
 use Rattle.tier_laws.proofs.Stable.{after-more}
 use Rattle.tier_laws.proofs.Maps.{IsDone, Server, coded, empty_server, put_number, result_or, server, step}
 use Rattle.tier_laws.proofs.Maps.Result.{Done}
@@ -77,44 +80,18 @@ called-code {B} m t R (OfBack (Called k text) ∷ vs) n = called-code m t (back_
     go None f (inr e) =
         rw f (ap (λ z. is_some z || is_called n vs) (put_there R.code k _ n (λ g. e (sym g))) ∙ ap (λ z. is_some (R.code n) || z) (sym (cond-false (k == n) true (is_called n vs) (ne_eqb k n e))))
 
-take-left : {A : Type 0} (xs : List A) (a : A) (i : ℕ) → i ≤ length xs → take i (xs ++ a ∷ []) ≡ take i xs
-take-left [] a zero l = refl
-take-left [] a (suc i) l = absurd (omega arith)
-take-left (x ∷ xs) a zero l = refl
-take-left (x ∷ xs) a (suc i) l = ap (λ z. x ∷ z) (take-left xs a i (omega arith))
-
-take-whole : {A : Type 0} (xs : List A) → take (length xs) xs ≡ xs
-take-whole [] = refl
-take-whole (x ∷ xs) = ap (λ z. x ∷ z) (take-whole xs)
-
-get-bound : {A : Type 0} (xs : List A) (i : ℕ) (a : A) → slice_get xs i ≡ Some a → i ≤ length xs
-get-bound [] i a e = absurd (cc)
-get-bound (x ∷ xs) zero a e = omega arith
-get-bound (x ∷ xs) (suc i) a e = omega (arith, get-bound xs i a e)
-
 -- what a longer log keeps of its settled floors
 abbrev SettlesIn : {B : Type 0} → Service B → Tier → List AnyValue → Type 0
 SettlesIn m t vs = (i g n : ℕ) → slice_get vs i ≡ Some (OfBack (Settled g)) → 0 < n → n < g → (code : ℕ) × ((back_run m t (take i vs)).code n ≡ Some code)
 
 settles-push : {B : Type 0} (m : Service B) (t : Tier) (vs : List AnyValue) (v : AnyValue) → SettlesIn m t vs → ((g n : ℕ) → v ≡ OfBack (Settled g) → 0 < n → n < g → (code : ℕ) × ((back_run m t vs).code n ≡ Some code)) → SettlesIn m t (vs ++ v ∷ [])
-settles-push m t vs v k f i g n e a b = go (get-last vs v i (OfBack (Settled g)) e)
+settles-push m t vs v k f i g n e a b = go (get_push vs v i (OfBack (Settled g)) e)
   where
     go : (slice_get vs i ≡ Some (OfBack (Settled g))) ⊎ ((i ≡ length vs) × (v ≡ OfBack (Settled g))) → (code : ℕ) × ((back_run m t (take i (vs ++ v ∷ []))).code n ≡ Some code)
-    go (inl h) = rw (take-left vs v i (get-bound vs i (OfBack (Settled g)) h)) (k i g n h a b)
+    go (inl h) = rw (take-append-le i vs (v ∷ []) (omega (arith, slice_get_within vs i (OfBack (Settled g)) h))) (k i g n h a b)
     go (inr h) =
-        let same : take i (vs ++ v ∷ []) ≡ vs = ap (λ z. take z (vs ++ v ∷ [])) h.0 ∙ take-left vs v (length vs) (omega arith) ∙ take-whole vs in
+        let same : take i (vs ++ v ∷ []) ≡ vs = ap (λ z. take z (vs ++ v ∷ [])) h.0 ∙ take-append_seam vs (v ∷ []) in
         rw same (f g n h.1 a b)
-
-by_tier : {A : Type 0} (P : Tier → A → Type 0) (K : Tier → A) (t : Tier) (a : A) → P t a → ((v : Tier) → same_tier v t ≡ false → P v (K v)) → (v : Tier) → P v (put_tier K t a v)
-by_tier {A} P K t a here there v = go (tier_cases v t)
-  where
-    go : (v ≡ t) ⊎ (same_tier v t ≡ false) → P v (put_tier K t a v)
-    go (inl e) = subst (λ z. P z (put_tier K t a z)) (sym e) (subst (P t) (sym (tier_here K t a)) here)
-    go (inr e) = subst (P v) (sym (tier_there K t a v e)) (there v e)
-
-nil : {A : Type 0} (xs : List A) → xs ++ [] ≡ xs
-nil [] = refl
-nil (x ∷ xs) = ap (λ z. x ∷ z) (nil xs)
 
 -- a value that the history has nothing of
 ledger_quiet : {B : Type 0} (m : Service B) (D : ℕ) (L : List AnyValue) (K : Tier → List AnyValue) (h : History_) (t : Tier) (v : AnyValue) (g : Ledger m D L K h) → back_value m t (back_run m t (K t)) v ≡ back_run m t (K t)
@@ -202,14 +179,14 @@ pub ledger_called : {B : Type 0} (m : Service B) (D : ℕ) (L : List AnyValue) (
 ledger_called {B} m D L K h t n text b c g = go (code_cases ((back_run m t (K t)).code n) (is_called n (K t)) (called-code m t _ (K t) n))
   where
     go : ((is_called n (K t) ≡ true) × ((code : ℕ) × ((back_run m t (K t)).code n ≡ Some code))) ⊎ ((is_called n (K t) ≡ false) × ((back_run m t (K t)).code n ≡ None)) → Extended m D h L (put_tier K t (K t ++ OfBack (Called n text) ∷ [])) (h ++ back_steps t (K t) (OfBack (Called n text)))
-    go (inl e) = subst (λ z. Extended m D h L (put_tier K t (K t ++ OfBack (Called n text) ∷ [])) z) (sym (ap (λ z. h ++ z) (cond-true (is_called n (K t)) [] ((Serve t n, []) ∷ []) e.0) ∙ nil h))
+    go (inl e) = subst (λ z. Extended m D h L (put_tier K t (K t ++ OfBack (Called n text) ∷ [])) z) (sym (ap (λ z. h ++ z) (cond-true (is_called n (K t)) [] ((Serve t n, []) ∷ []) e.0) ∙ append-nil h))
         (record { kept = kept-refl (server m h); ledger = ledger_quiet m D L K h t (OfBack (Called n text)) g (ap (λ z. cond (is_some z) (back_run m t (K t)) (back_serve m t (back_run m t (K t)) n text)) e.1.1) (λ f k q. absurd (cc)) })
     go (inr e) = subst (λ z. Extended m D h L (put_tier K t (K t ++ OfBack (Called n text) ∷ [])) z) (sym (ap (λ z. h ++ z) (cond-false (is_called n (K t)) [] ((Serve t n, []) ∷ []) e.0)))
         (ledger_served m D L K h t n text g b c e.1)
 
 pub ledger_settled : {B : Type 0} (m : Service B) (D : ℕ) (L : List AnyValue) (K : Tier → List AnyValue) (h : History_) (t : Tier) (f : ℕ) → ((n : ℕ) → 0 < n → n < f → (code : ℕ) × ((server m h).served t n ≡ Some code)) → Ledger m D L K h
     → Extended m D h L (put_tier K t (K t ++ OfBack (Settled f) ∷ [])) (h ++ back_steps t (K t) (OfBack (Settled f)))
-ledger_settled {B} m D L K h t f k g = subst (λ z. Extended m D h L (put_tier K t (K t ++ OfBack (Settled f) ∷ [])) z) (sym (nil h)) (record { kept = kept-refl (server m h); ledger = ledger_quiet m D L K h t (OfBack (Settled f)) g refl all })
+ledger_settled {B} m D L K h t f k g = subst (λ z. Extended m D h L (put_tier K t (K t ++ OfBack (Settled f) ∷ [])) z) (sym (append-nil h)) (record { kept = kept-refl (server m h); ledger = ledger_quiet m D L K h t (OfBack (Settled f)) g refl all })
   where
     all : (e n : ℕ) → OfBack (Settled f) ≡ OfBack (Settled e) → 0 < n → n < e → (code : ℕ) × ((back_run m t (K t)).code n ≡ Some code)
     all e n q a b = let same : f ≡ e = cc in let r = k n a (omega arith) in (r.0, sym (g.served t n) ∙ r.1)

@@ -1,6 +1,7 @@
 -- When a verdict is chosen, what it needs was already there before the event.
 use Rattle.std.proofs.Common.{◌≡◌, ℕ, ◌+◌, ◌*◌, ◌<◌, ◌≤◌, List, [], ◌∷◌, ◌++◌, length, refl, sym, ap, ◌∙◌, subst, inl, inr, Option, Some, None, arith}
 use Rattle.std.specs.Prelude.{slice_get, ◌⊎◌}
+use Rattle.std.proofs.lemmas.Option.{slice_get_within}
 use Rattle.aeg_base.specs.declared.names.Tier.{Tier}
 use Rattle.aeg_base.specs.declared.names.Tier.TheVariants.{Inv, Pay}
 use Rattle.log_model.specs.Chosen.{Meets, chosen_among}
@@ -18,23 +19,22 @@ use Rattle.tier_laws.proofs.Events.{happens_ok, world_ok}
 use Rattle.tier_laws.proofs.Grow.{served_same}
 use Rattle.run_model.proofs.Appending.{run-append}
 use Rattle.tier_laws.proofs.Later.{happens_keeps}
-use Rattle.tier_laws.proofs.Ledger.{get-last}
-use Rattle.tier_laws.proofs.Legal.{within_get}
 use Rattle.tier_laws.proofs.Logs.{chosen_now, meets_good}
 use Rattle.tier_laws.proofs.Past.{MidOk, Past, VerdictOk}
 use Rattle.tier_laws.proofs.Soups.{mid_soup, back_soup}
 use Rattle.tier_laws.proofs.Told.{at_round, durable}
+use Rattle.tier_laws.proofs.Lists.{get_push}
 
 back_log_same : {B : Type 0} (w : World B) (t : Tier) (o : Option AnyValue) → (back_chosen w t o).log ≡ w.log
 back_log_same w t None = refl
 back_log_same w t (Some v) = refl
 
 new_value : {B : Type 0} (c : Config B) (w : World B) (o : Option AnyValue) (p : ℕ) (v : AnyValue) → chosen_among c.u (mid_soup w.soup) (length w.log) (mid_soup w.soup) ≡ o → length w.log ≤ p → slice_get (mid_chosen c w o).log p ≡ Some v → Meets c.u (mid_soup w.soup) p v
-new_value c w None p v e l f = absurd (omega (arith, within_get w.log p v f))
-new_value {B} c w (Some u) p v e l f = go (get-last w.log u p v f)
+new_value c w None p v e l f = absurd (omega (arith, slice_get_within w.log p v f))
+new_value {B} c w (Some u) p v e l f = go (get_push w.log u p v f)
   where
     go : (slice_get w.log p ≡ Some v) ⊎ ((p ≡ length w.log) × (u ≡ v)) → Meets c.u (mid_soup w.soup) p v
-    go (inl g) = absurd (omega (arith, within_get w.log p v g))
+    go (inl g) = absurd (omega (arith, slice_get_within w.log p v g))
     go (inr g) = subst (λ z. Meets c.u (mid_soup w.soup) z v) (sym g.0) (subst (Meets c.u (mid_soup w.soup) (length w.log)) g.1 (chosen_now c.u (mid_soup w.soup) (length w.log) u e))
 
 new_good : {B : Type 0} (c : Config B) (P : Past B) (w : World B) (p : ℕ) (v : AnyValue) → Mid_event c P w → length w.log ≤ p → slice_get (grows c w).log p ≡ Some v → MidOk c P p v

@@ -2,35 +2,27 @@
 pub use Rattle.tier_laws.proofs.Invariant.Whole.{past, Core, Done, NearlyDone, Inv, Mid_event}
 pub use Rattle.tier_laws.proofs.Invariant.MiddleNodes.{MidPending, MidUp, MidDown, MidMode}
 pub use Rattle.tier_laws.proofs.Invariant.BackendNodes.{BackPending, BackUp, BackDown, BackMode}
-use Rattle.std.proofs.Common.{◌≡◌, ℕ, ◌+◌, ◌*◌, ◌<◌, false, List, [], ◌∷◌, ◌++◌, refl, sym, ap, ◌∙◌, subst, Some}
-use Rattle.std.specs.Prelude.{slice_get, ◌==◌}
+use Rattle.std.proofs.Common.{◌≡◌, ℕ, List, [], ◌++◌, refl, sym, ap, ◌∙◌, subst, Some}
+use Rattle.std.specs.Prelude.{slice_get}
+use Rattle.std.proofs.lemmas.List.{append-nil}
 use Rattle.aeg_base.specs.declared.names.Tier.{Tier}
-use Rattle.log_model.proofs.Basics.{Every, every-append}
-use Rattle.log_model.proofs.History.{DidVote, grew-refl}
+use Rattle.log_model.proofs.History.{DidVote}
 use Rattle.log_model.proofs.Invariant.{AllGrew, SoupGrew, soup-append, state-grew, turn-grew}
-use Rattle.log_model.proofs.Step.{put_each}
-use Rattle.log_model.specs.Recover.{newest_onto, onto}
-use Rattle.log_model.specs.World.{Mode, Node, Packet as LogPacket, recorded}
+use Rattle.log_model.specs.Recover.{onto}
+use Rattle.log_model.specs.World.{Mode, Node, Packet as LogPacket}
 use Rattle.log_model.specs.World.Mode.{Down, Gone, Up}
 use Rattle.log_model.specs.declared.fact.Fact.{Fact as LogFact}
 use Rattle.log_values.specs.declared.fact.Fact.{Fact}
 use Rattle.log_values.specs.declared.any_value.AnyValue.{AnyValue}
 use Rattle.round_model.specs.Answers.{Code}
-use Rattle.round_model.specs.Verdicts.{Vote}
-use Rattle.run_model.specs.World.{Config, World, with_mid}
+use Rattle.run_model.specs.World.{Config, World}
 use Rattle.tier_laws.proofs.BackRows.{back_other-more}
-use Rattle.tier_laws.proofs.Logs.{LogPart, log_weaker, nearly}
-use Rattle.tier_laws.proofs.Past.{BackOk, Grows, Known, MidOk, SentOk, Past, RunOk, back_ok-more, mid_ok-more, other-more, parcels-more, submitted-more}
-use Rattle.tier_laws.proofs.Maps.{server}
+use Rattle.tier_laws.proofs.Logs.{nearly}
+use Rattle.tier_laws.proofs.Past.{Grows, Known, MidOk, Past, back_ok-more, mid_ok-more, other-more}
 use Rattle.tier_model.specs.Back.{Back}
 use Rattle.tier_model.specs.Mid.{Mid}
-use Rattle.tier_laws.proofs.Soups.{mid_soup, back_soup, nil, mid_soup-append, back_soup-append}
+use Rattle.tier_laws.proofs.Soups.{mid_soup, back_soup, mid_soup-append, back_soup-append}
 use Rattle.tier_model.specs.Moves.{Packet}
-
-pub newest-push : {F : Type 0} (R : List (List F)) (fs E : List F) → newest_onto (recorded R fs) E ≡ onto fs (newest_onto R E)
-newest-push R [] E = refl
-newest-push [] (f ∷ fs) E = refl
-newest-push (r ∷ R) (f ∷ fs) E = newest-push R (f ∷ fs) (onto r E)
 
 -- THE NODES
 
@@ -80,21 +72,7 @@ unchanged c w i = record { codes = i.codes; h = i.h; k = i.k; core = i.core; nea
 pub known : {B : Type 0} (c : Config B) (w : World B) (codes : ℕ → List Code) (h : ℕ → List (LogFact AnyValue)) (k : Tier → ℕ → List (LogFact AnyValue)) → Core c w codes h k → ((p : ℕ) (v : AnyValue) → slice_get w.log p ≡ Some v → MidOk c (past c w codes) p v) → Known c (past c w codes)
 known c w codes h k i v = record { laws = i.laws; values = v; decided = i.ledger.decided; runs = i.runs; codes = i.right }
 
--- A MIDDLE NODE CHANGES
-
-pub record MidChange {B : Type 0} (c : Config B) (w : World B) (codes : ℕ → List Code) (h : ℕ → List (LogFact AnyValue)) (x : ℕ) (node : Node Mid Fact) (ks : List Packet) (rs : List Vote) : Type 0 where
-  pub new_codes : ℕ → List Code
-  pub new_h : ℕ → List (LogFact AnyValue)
-  pub grew : AllGrew h new_h
-  pub grows : Grows (past c w codes) (past c (with_mid w x node ks rs) new_codes)
-  pub same_h : (y : ℕ) → (y == x) ≡ false → new_h y ≡ h y
-  pub same_codes : (y : ℕ) → (y == x) ≡ false → new_codes y ≡ codes y
-  pub log : LogPart c.u new_h (mid_soup (w.soup ++ ks)) w.log (MidOk c (past c (with_mid w x node ks rs) new_codes))
-  pub no_back : (t : Tier) → back_soup t ks ≡ []
-  pub runs : (i : ℕ) (v : Vote) → slice_get (w.runs ++ rs) i ≡ Some v → RunOk c (past c (with_mid w x node ks rs) new_codes) v
-  pub right : (y i : ℕ) (q : Code) → slice_get (new_codes y) i ≡ Some q → (server c.service w.hist).served q.tier q.num ≡ Some q.code
-  pub sends : Every (SentOk c (past c (with_mid w x node ks rs) new_codes)) ks
-  pub mode : x < 2 * c.u + 1 → MidMode c (past c (with_mid w x node ks rs) new_codes) new_h (mid_soup (w.soup ++ ks)) x node node.mode
+-- THE PACKETS
 
 pub soup_mid : (u : ℕ) (soup ks : List Packet) → SoupGrew u (mid_soup soup) (mid_soup (soup ++ ks))
 soup_mid u soup ks = subst (SoupGrew u (mid_soup soup)) (sym (mid_soup-append soup ks)) (soup-append u (mid_soup soup) (mid_soup ks))
@@ -103,34 +81,7 @@ pub soup_back : (u : ℕ) (t : Tier) (soup ks : List Packet) → SoupGrew u (bac
 soup_back u t soup ks = subst (SoupGrew u (back_soup t soup)) (sym (back_soup-append t soup ks)) (soup-append u (back_soup t soup) (back_soup t ks))
 
 pub same_back : (t : Tier) (soup ks : List Packet) → back_soup t ks ≡ [] → back_soup t (soup ++ ks) ≡ back_soup t soup
-same_back t soup ks e = back_soup-append t soup ks ∙ ap (λ z. back_soup t soup ++ z) e ∙ nil (back_soup t soup)
+same_back t soup ks e = back_soup-append t soup ks ∙ ap (λ z. back_soup t soup ++ z) e ∙ append-nil (back_soup t soup)
 
 pub same_mid : (soup ks : List Packet) → mid_soup ks ≡ [] → mid_soup (soup ++ ks) ≡ mid_soup soup
-same_mid soup ks e = mid_soup-append soup ks ∙ ap (λ z. mid_soup soup ++ z) e ∙ nil (mid_soup soup)
-
-all_same : {V : Type 0} (h : ℕ → List (LogFact V)) → AllGrew h h
-all_same h = record { at = λ y. grew-refl (h y) }
-
-pub mid_changed : {B : Type 0} (c : Config B) (w : World B) (codes : ℕ → List Code) (h : ℕ → List (LogFact AnyValue)) (k : Tier → ℕ → List (LogFact AnyValue)) (x : ℕ) (node : Node Mid Fact) (ks : List Packet) (rs : List Vote) → Core c w codes h k
-    → (d : MidChange c w codes h x node ks rs) → Core c (with_mid w x node ks rs) d.new_codes d.new_h k
-mid_changed {B} c w codes h k x node ks rs i d = record {
-  laws = i.laws;
-  mid_log = d.log;
-  back_log = λ t. subst (λ z. LogPart c.u (k t) z (w.logs t) (BackOk c Q t)) (sym (same_back t w.soup ks (d.no_back t))) (log_weaker c.u (k t) (back_soup t w.soup) (w.logs t) (BackOk c P t) (BackOk c Q t) (λ p v g. back_ok-more c P Q t p v d.grows g) (i.back_log t));
-  ledger = i.ledger;
-  runs = d.runs;
-  right = d.right;
-  packets = every-append (SentOk c Q) w.soup ks (parcels-more c P Q w.soup d.grows i.packets) d.sends;
-  mids = put_each (λ y n. y < 2 * c.u + 1 → MidMode c Q d.new_h (mid_soup (w.soup ++ ks)) y n n.mode) w.mids x node d.mode
-      (λ y e l. mid_mode-more c P Q h d.new_h (mid_soup w.soup) (mid_soup (w.soup ++ ks)) y (w.mids y) (w.mids y).mode d.grows d.grew (soup_mid c.u w.soup ks) (d.same_h y e) (d.same_codes y e) (i.mids y l));
-  backs = λ t y l. back_mode-more c P Q t (k t) (k t) (back_soup t w.soup) (back_soup t (w.soup ++ ks)) y (w.backs t y) (w.backs t y).mode d.grows (all_same (k t)) (soup_back c.u t w.soup ks) refl (i.backs t y l);
-  clients = λ y text e. submitted-more P Q _ d.grows (i.clients y text e);
-  starts = λ j n who body e. submitted-more P Q _ d.grows (i.starts j n who body e);
-  told = i.told;
-}
-  where
-    P : Past B
-    P = past c w codes
-
-    Q : Past B
-    Q = past c (with_mid w x node ks rs) d.new_codes
+same_mid soup ks e = mid_soup-append soup ks ∙ ap (λ z. mid_soup soup ++ z) e ∙ append-nil (mid_soup soup)

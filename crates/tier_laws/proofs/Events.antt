@@ -36,7 +36,7 @@ use Rattle.run_model.specs.declared.trace.TraceEvent.TheVariants.{Submit, Delive
 use Rattle.run_model.specs.World.{Config, World, ClientEnd, start, fate, unwritten, can_fare, no_run, request_to, requests, opens, is_client_number, submits, reopens, takes_reply, client_gets, node_gets, arrives, delivered, shortened, leads, offers, works, node_retries, retries, crashes, restarts, wipes, if_can, happens}
 use Rattle.run_model.specs.Runs.{is_in, log_part, log_soup, grows, run, world}
 use Rattle.tier_laws.specs.Said.{Laws}
-use Rattle.tier_laws.proofs.Lists.{put_here, put_there}
+use Rattle.tier_laws.proofs.Lists.{put_here, put_there, get_end, get_left, get_right, pushed}
 use Rattle.tier_laws.proofs.Apply.{every-each}
 use Rattle.tier_laws.proofs.BackMoves.{back_move, back_retry_ok, back_leads_ok, back_offers_ok, one_msg}
 use Rattle.tier_laws.proofs.BackRows.{BackHere, BackMoveOk, back_knows, back_stays, call_ok, settle_ok}
@@ -44,17 +44,17 @@ use Rattle.tier_laws.proofs.BackSteps.{at_back_ok, back_crash, back_restart, bac
 use Rattle.tier_laws.proofs.Backs.{ledger_start}
 use Rattle.tier_laws.proofs.Core.{Inv as WorldOk, Mid_event, back_mode-more, mid_mode-more, past, same_back, same_mid, soup_back, soup_mid, unchanged}
 use Rattle.tier_laws.proofs.Grow.{grows_ok}
-use Rattle.tier_laws.proofs.Ledger.{get-end, get-left}
 use Rattle.tier_laws.proofs.Logs.{Complete, LogPart, log_weaker, nearly}
 use Rattle.tier_laws.proofs.MidSteps.{at_mid_ok, mid_crash, mid_restart, mid_wipe, start_tables}
 use Rattle.tier_laws.proofs.Mirrors.{mirrors_start}
 use Rattle.tier_laws.proofs.Moves.{Here, MoveOk, knows, log_move, stays_ok}
 use Rattle.tier_laws.proofs.Offers.{retry_ok, leads_ok, offers_ok}
-use Rattle.tier_laws.proofs.Past.{BackOk, Grows, MidOk, SentBy, SentOk, Past, Submitted, back_ok-more, kept-refl, mid_ok-more, more-refl, parcels-more, run_ok-more, submitted-more}
-use Rattle.tier_laws.proofs.Rows.{answer_ok, have_ok, pushed, request_ok, token_ok, work_ok}
+use Rattle.tier_laws.proofs.Past.{BackOk, Grows, MidOk, SentBy, SentOk, Past, Submitted, back_ok-more, mid_ok-more, more-refl, parcels-more, run_ok-more, submitted-more}
+use Rattle.tier_laws.proofs.Rows.{answer_ok, have_ok, request_ok, token_ok, work_ok}
 use Rattle.tier_laws.proofs.Soups.{mid_soup, back_soup, back_nil, NoLog, no_mid, no_back, none_each}
 use Rattle.tier_laws.proofs.Stable.{MoreLog}
 use Rattle.tier_laws.proofs.Maps.{empty_server, server}
+use Rattle.tier_laws.proofs.Rounds.{kept-refl}
 
 -- CLIENT ENDS
 
@@ -112,13 +112,13 @@ opens_ok {B} c w y text i = client_changed c w cl (requests c.u y (suc (w.client
     sub = w.submitted ++ record { client = y; seq = suc (w.clients y).last; body = text } ∷ []
 
     more : MoreLog w.submitted sub
-    more = record { at = λ j v e. get-left w.submitted _ j v e }
+    more = record { at = λ j v e. get_left w.submitted _ j v e }
 
     Q : Past B
     Q = past c (at_clients w cl (requests c.u y (suc (w.clients y).last) text) sub w.told) i.codes
 
     new : Submitted Q (record { client = y; seq = suc (w.clients y).last; body = text })
-    new = (length w.submitted, get-end w.submitted (record { client = y; seq = suc (w.clients y).last; body = text }))
+    new = (length w.submitted, get_end w.submitted (record { client = y; seq = suc (w.clients y).last; body = text }))
 
     clients : (z : ℕ) (t : List ℕ) → (z ≡ y) ⊎ (z ≡ y → ⊥) → (cl z).opened ≡ Some t → Submitted Q (record { client = z; seq = (cl z).last; body = t })
     clients z t (inl f) e =
@@ -181,10 +181,6 @@ takes_ok {B} c w y s text said i = cond_both (is_some (w.clients y).opened && (s
 
 -- DELIVERIES
 
-get-past : {A : Type 0} (xs ys : List A) (i : ℕ) (a : A) → slice_get ys i ≡ Some a → (j : ℕ) × (slice_get (xs ++ ys) j ≡ Some a)
-get-past [] ys i a e = (i, e)
-get-past (x ∷ xs) ys i a e = let r = get-past xs ys i a e in (suc r.0, r.1)
-
 log_part-first : (t : Tier) (from to : End) (p : PaxMsg AnyValue) (ys : List (LogPacket AnyValue)) → is_in t from ≡ true → slice_get (log_part t from to (msgs.Log p) ++ ys) 0 ≡ Some (record { from = index_of from; to = index_of to; msg = p })
 log_part-first t from to p ys e = rw e refl
 
@@ -194,7 +190,7 @@ log_place t [] i from to p b e = absurd (cc)
 log_place t (k ∷ soup) zero from to p b e =
     let s : record { from = from; to = to; message = msgs.Log p } ≡ k = cc in
     (0, subst (λ (z : Packet). slice_get (log_part t z.from z.to z.message ++ log_soup t soup) 0 ≡ Some (record { from = index_of from; to = index_of to; msg = p })) s (log_part-first t from to p (log_soup t soup) b))
-log_place t (k ∷ soup) (suc i) from to p b e = let r = log_place t soup i from to p b e in get-past (log_part t k.from k.to k.message) (log_soup t soup) r.0 _ r.1
+log_place t (k ∷ soup) (suc i) from to p b e = let r = log_place t soup i from to p b e in get_right (log_part t k.from k.to k.message) (log_soup t soup) r.0 _ r.1
 
 pub back_place : (t : Tier) (soup : List Packet) (i : ℕ) (from to : End) (p : PaxMsg AnyValue) → same_tier t MidTier ≡ false → is_in t from ≡ true → slice_get soup i ≡ Some (record { from = from; to = to; message = msgs.Log p }) → (j : ℕ) × (slice_get (back_soup t soup) j ≡ Some (record { from = index_of from; to = index_of to; msg = p }))
 back_place MidTier soup i from to p m b e = absurd (cc)
@@ -267,7 +263,7 @@ client_ok c w from (msgs.Settle g) y i sent = unchanged c w i
 
 node_gets_ok : {B : Type 0} (c : Config B) (w : World B) (fared : Fared) (place : ℕ) (from : End) (message : Msg) (t : Tier) (x : ℕ) → c.u < 128 → (i : WorldOk c w) → slice_get w.soup place ≡ Some (record { from = from; to = node t x; message = message }) → SentBy c (past c w i.codes) from (node t x) message
     → Mid_event c (past c w i.codes) (node_gets c w fared from message t x)
-node_gets_ok c w fared place from message MidTier x few i e sent = at_mid_ok c w x (fate c fared) (λ σ. on_frame c.u c.service x σ from message) no_run few i.core.laws i (λ σ k. mid_frame_ok c w place from (node MidTier x) message x σ i e sent k) (λ R fs f σ. refl)
+node_gets_ok c w fared place from message MidTier x few i e sent = at_mid_ok c w x (fate c fared) (λ σ. on_frame c.u c.service x σ from message) no_run few i.core.laws i (λ σ k. mid_frame_ok c w place from (node MidTier x) message x σ i e sent k)
 node_gets_ok c w fared place from message Inv x few i e sent = at_back_ok c w Inv x (fate c fared) (λ σ. backs.on_frame c.u c.service Inv x σ from message) few refl i (λ σ k. back_frame_ok c w place from message Inv x σ i e sent k)
 node_gets_ok c w fared place from message Pay x few i e sent = at_back_ok c w Pay x (fate c fared) (λ σ. backs.on_frame c.u c.service Pay x σ from message) few refl i (λ σ k. back_frame_ok c w place from message Pay x σ i e sent k)
 
@@ -286,22 +282,22 @@ shortened_ok c w fared bytes place (Some k) few i e = cond_both (nat_le (c.frame
 -- COMMANDS
 
 lead_event : {B : Type 0} (c : Config B) (w : World B) (fared : Fared) (t : Tier) (x : ℕ) → c.u < 128 → (i : WorldOk c w) → Mid_event c (past c w i.codes) (leads c w fared t x)
-lead_event c w fared MidTier x few i = at_mid_ok c w x (fate c fared) (λ σ. mids.leads c.u c.service x σ) no_run few i.core.laws i (λ σ k. leads_ok c (past c w i.codes) i.h w.soup x σ k) (λ R fs f σ. refl)
+lead_event c w fared MidTier x few i = at_mid_ok c w x (fate c fared) (λ σ. mids.leads c.u c.service x σ) no_run few i.core.laws i (λ σ k. leads_ok c (past c w i.codes) i.h w.soup x σ k)
 lead_event c w fared Inv x few i = at_back_ok c w Inv x (fate c fared) (λ σ. backs.leads c.u c.service Inv x σ) few refl i (λ σ k. back_leads_ok c (past c w i.codes) Inv (w.logs Inv) (i.k Inv) w.soup x σ k)
 lead_event c w fared Pay x few i = at_back_ok c w Pay x (fate c fared) (λ σ. backs.leads c.u c.service Pay x σ) few refl i (λ σ k. back_leads_ok c (past c w i.codes) Pay (w.logs Pay) (i.k Pay) w.soup x σ k)
 
 offer_event : {B : Type 0} (c : Config B) (w : World B) (fared : Fared) (t : Tier) (x : ℕ) → c.u < 128 → (i : WorldOk c w) → Mid_event c (past c w i.codes) (offers c w fared t x)
-offer_event c w fared MidTier x few i = at_mid_ok c w x (fate c fared) (λ σ. mids.offers c.u c.service x σ) no_run few i.core.laws i (λ σ k. offers_ok c (past c w i.codes) i.h w.soup x σ k) (λ R fs f σ. refl)
+offer_event c w fared MidTier x few i = at_mid_ok c w x (fate c fared) (λ σ. mids.offers c.u c.service x σ) no_run few i.core.laws i (λ σ k. offers_ok c (past c w i.codes) i.h w.soup x σ k)
 offer_event c w fared Inv x few i = at_back_ok c w Inv x (fate c fared) (λ σ. backs.offers c.u c.service Inv x σ) few refl i (λ σ k. back_offers_ok c (past c w i.codes) Inv (w.logs Inv) (i.k Inv) w.soup x σ k)
 offer_event c w fared Pay x few i = at_back_ok c w Pay x (fate c fared) (λ σ. backs.offers c.u c.service Pay x σ) few refl i (λ σ k. back_offers_ok c (past c w i.codes) Pay (w.logs Pay) (i.k Pay) w.soup x σ k)
 
 work_event : {B : Type 0} (c : Config B) (w : World B) (t : Tier) (x : ℕ) (schedule : List ℕ) → c.u < 128 → (i : WorldOk c w) → Mid_event c (past c w i.codes) (works c w t x schedule)
-work_event c w MidTier x schedule few i = at_mid_ok c w x unwritten (λ σ. work c.u c.service x σ schedule) (λ σ. work_run c.u c.service x σ schedule) few i.core.laws i (λ σ k. work_ok c (past c w i.codes) i.h w.soup x σ schedule k) (λ R fs f σ. absurd (cc))
+work_event c w MidTier x schedule few i = at_mid_ok c w x unwritten (λ σ. work c.u c.service x σ schedule) (λ σ. work_run c.u c.service x σ schedule) few i.core.laws i (λ σ k. work_ok c (past c w i.codes) i.h w.soup x σ schedule k)
 work_event c w Inv x schedule few i = unchanged c w i
 work_event c w Pay x schedule few i = unchanged c w i
 
 node_retry_event : {B : Type 0} (c : Config B) (w : World B) (t : Tier) (x : ℕ) → c.u < 128 → (i : WorldOk c w) → Mid_event c (past c w i.codes) (node_retries c w t x)
-node_retry_event c w MidTier x few i = at_mid_ok c w x unwritten (λ σ. mids.retry c.u x σ) no_run few i.core.laws i (λ σ k. retry_ok c (past c w i.codes) i.h w.soup x σ k) (λ R fs f σ. refl)
+node_retry_event c w MidTier x few i = at_mid_ok c w x unwritten (λ σ. mids.retry c.u x σ) no_run few i.core.laws i (λ σ k. retry_ok c (past c w i.codes) i.h w.soup x σ k)
 node_retry_event c w Inv x few i = at_back_ok c w Inv x unwritten (λ σ. backs.retry c.u Inv x σ) few refl i (λ σ k. back_retry_ok c (past c w i.codes) Inv (w.logs Inv) (i.k Inv) w.soup x σ k)
 node_retry_event c w Pay x few i = at_back_ok c w Pay x unwritten (λ σ. backs.retry c.u Pay x σ) few refl i (λ σ k. back_retry_ok c (past c w i.codes) Pay (w.logs Pay) (i.k Pay) w.soup x σ k)
 

@@ -26,7 +26,7 @@ use Rattle.server_model.specs.History.{History as History_}
 use Rattle.server_model.specs.Server.{same_tier}
 use Rattle.server_model.specs.declared.history.Hist.{Hist}
 use Rattle.server_model.specs.declared.history.Hist.TheVariants.{Resume, Serve, Start}
-use Rattle.tier_laws.proofs.Lists.{tier_cases, tier_here, tier_there}
+use Rattle.tier_laws.proofs.Lists.{tier_here, tier_there, get_cases, by_tier, get_map}
 use Rattle.tier_laws.proofs.Backs.{ledger_called, ledger_settled}
 use Rattle.tier_laws.proofs.Core.{Core, Inv as WorldOk, Mid_event, NearlyDone, back_mode-more, mid_mode-more, past}
 use Rattle.tier_laws.proofs.Ledger.{Extended, Ledger, extend_batch, ledger_verdict, more-push, ordered}
@@ -34,7 +34,7 @@ use Rattle.tier_laws.proofs.Logs.{Complete, LogPart, Nearly, chosen_now, grow_no
 use Rattle.tier_laws.proofs.Past.{BackOk, BatchOk, Grows, MidOk, Past, Submitted, VerdictBy, back_ok-more, mid_ok-more, more-refl, parcels-more, run_ok-more, submitted-more}
 use Rattle.tier_laws.proofs.Rounds.{Kept}
 use Rattle.tier_laws.proofs.Stable.{MoreLog, RoundParts, batch_in-some, round_parts, then_parts}
-use Rattle.tier_laws.proofs.Wants.{fresh-at, get_cases, get_map}
+use Rattle.tier_laws.proofs.Wants.{fresh-at}
 use Rattle.tier_laws.proofs.Maps.{server}
 use Rattle.aeg_base.specs.declared.names.Tier.TheVariants.{Mid as MidTier}
 use Rattle.aeg_base.specs.declared.names.ReqId.{ReqId}
@@ -275,13 +275,6 @@ mid_grown {B} c w codes h k (Some v) few e i n =
     }
 
 -- A BACKEND'S LOG
-
-by_tier : {A : Type 0} (G : Tier → A → Type 0) (f : Tier → A) (t : Tier) (a : A) → G t a → ((v : Tier) → same_tier v t ≡ false → G v (f v)) → (v : Tier) → G v (put_tier f t a v)
-by_tier {A} G f t a here there v = go (tier_cases v t)
-  where
-    go : (v ≡ t) ⊎ (same_tier v t ≡ false) → G v (put_tier f t a v)
-    go (inl e) = subst (λ z. G z (put_tier f t a z)) (sym e) (subst (G t) (sym (tier_here f t a)) here)
-    go (inr e) = subst (G v) (sym (tier_there f t a v e)) (there v e)
 
 extend_back : {B : Type 0} (c : Config B) (w : World B) (codes : ℕ → List Code) (h : ℕ → List (LogFact AnyValue)) (k : Tier → ℕ → List (LogFact AnyValue)) (t : Tier) (v : AnyValue) → same_tier t MidTier ≡ false → Core c w codes h k → BackOk c (past c w codes) t (length (w.logs t)) v
     → Extended c.service c.depth w.hist w.log (put_tier w.logs t (w.logs t ++ v ∷ [])) (w.hist ++ back_steps t (w.logs t) v)

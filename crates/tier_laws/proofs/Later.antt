@@ -33,11 +33,10 @@ use Rattle.run_model.specs.Histories.{HistoryStep}
 use Rattle.run_model.proofs.Appending.{run-append}
 use Rattle.tier_laws.specs.Said.{Laws}
 use Rattle.tier_laws.proofs.Events.{world_ok}
-use Rattle.tier_laws.proofs.Ledger.{get-left}
-use Rattle.tier_laws.proofs.Legal.{get_within}
 use Rattle.tier_laws.proofs.Past.{more-refl}
 use Rattle.tier_laws.proofs.Soups.{mid_soup, back_soup}
 use Rattle.tier_laws.proofs.Stable.{MoreLog}
+use Rattle.tier_laws.proofs.Lists.{get_left, get_within}
 
 -- AN EVENT LEAVES WHAT WAS CHOSEN
 
@@ -165,11 +164,11 @@ happens_keeps c w (Wipe n) = wipe_keeps c w n.tier n.index
 
 mid_longer : {B : Type 0} (c : Config B) (w : World B) (o : Option AnyValue) → MoreLog w.hist (mid_chosen c w o).hist
 mid_longer c w None = more-refl w.hist
-mid_longer c w (Some v) = record { at = λ i k e. get-left w.hist _ i k e }
+mid_longer c w (Some v) = record { at = λ i k e. get_left w.hist _ i k e }
 
 back_longer : {B : Type 0} (w : World B) (t : Tier) (o : Option AnyValue) → MoreLog w.hist (back_chosen w t o).hist
 back_longer w t None = more-refl w.hist
-back_longer w t (Some v) = record { at = λ i k e. get-left w.hist _ i k e }
+back_longer w t (Some v) = record { at = λ i k e. get_left w.hist _ i k e }
 
 -- a run goes on from its history
 pub run_longer : {B : Type 0} (c : Config B) (es : List TraceEvent) (w : World B) → MoreLog w.hist (run c es w).hist

@@ -1,8 +1,10 @@
 -- As the logs grow the history stays legal, and the tables mirror the server.
 pub use Rattle.tier_laws.proofs.Invariant.HistoryFollowsLogs.{TablesOk, ToldAll, ordered, finish_in, Decision, Ledger}
-use Rattle.std.proofs.Common.{◌≡◌, ℕ, ◌+◌, ◌*◌, ◌<◌, Bool, true, false, cond, List, [], ◌∷◌, ◌++◌, length, refl, sym, ap, ◌∙◌, subst, inl, inr, Some, None, zero, suc, arith, length-append}
+use Rattle.std.proofs.Common.{◌≡◌, ℕ, ◌+◌, ◌*◌, ◌<◌, Bool, true, false, cond, List, [], ◌∷◌, ◌++◌, length, refl, sym, ap, ◌∙◌, subst, inl, inr, Some, None, zero, suc, arith}
 use Rattle.std.specs.Prelude.{slice_get, ◌⊎◌, not}
 use Rattle.std.proofs.lemmas.Bool.{cond-true, cond-false, cases_eq}
+use Rattle.std.proofs.lemmas.List.{append-nil}
+use Rattle.std.proofs.lemmas.Option.{slice_get_within}
 use Rattle.aeg_base.specs.Store.{Store}
 use Rattle.aeg_base.specs.declared.names.Tier.{Tier}
 use Rattle.aeg_base.specs.declared.names.Tier.TheVariants.{Inv}
@@ -22,38 +24,17 @@ use Rattle.server_model.specs.declared.history.Hist.TheVariants.{Serve}
 use Rattle.svc_api.specs.declared.action.Ending.{Ending}
 use Rattle.svc_api.specs.declared.action.Ending.TheVariants.{Call, Reply}
 use Rattle.tier_laws.proofs.Acts.{Act, Distinct, NoneOf, acts, acts_want, find_client, kept-in, kept-out, last-in, last-out, want_acts}
-use Rattle.tier_laws.proofs.Legal.{RoundDone, Setting, ends_of, job-length, length-tabulate, once-at, round_legal, within_get}
+use Rattle.tier_laws.proofs.Legal.{RoundDone, Setting, ends_of, job-length, once-at, round_legal}
 use Rattle.tier_laws.proofs.Mirrors.{Mirrors, mirrors_kept, setting}
-use Rattle.tier_laws.proofs.Rounds.{Kept, ToldOne, told-kept}
+use Rattle.tier_laws.proofs.Rounds.{Kept, ToldOne, told-kept, kept-refl}
 use Rattle.tier_laws.proofs.Stable.{MoreAnswers, MoreLog, RoundParts, after-more, after-step, round-more, round_parts, then_parts, verdict-more}
 use Rattle.tier_laws.proofs.Maps.{LegalFrom, Server, empty_server, result_or, server, server_from, step}
+use Rattle.tier_laws.proofs.Lists.{get_end, get_left, length_push, length-tabulate}
 
 -- LISTS AND POSITIONS
 
-pub get-left : {A : Type 0} (xs ys : List A) (i : ℕ) (a : A) → slice_get xs i ≡ Some a → slice_get (xs ++ ys) i ≡ Some a
-get-left [] ys i a e = absurd (cc)
-get-left (x ∷ xs) ys zero a e = e
-get-left (x ∷ xs) ys (suc i) a e = get-left xs ys i a e
-
-pub get-end : {A : Type 0} (xs : List A) (a : A) → slice_get (xs ++ a ∷ []) (length xs) ≡ Some a
-get-end [] a = refl
-get-end (x ∷ xs) a = get-end xs a
-
-pub get-last : {A : Type 0} (xs : List A) (a : A) (i : ℕ) (b : A) → slice_get (xs ++ a ∷ []) i ≡ Some b → (slice_get xs i ≡ Some b) ⊎ ((i ≡ length xs) × (a ≡ b))
-get-last [] a zero b e = inr (refl, cc)
-get-last [] a (suc i) b e = absurd (cc)
-get-last (x ∷ xs) a zero b e = inl e
-get-last {A} (x ∷ xs) a (suc i) b e = go (get-last xs a i b e)
-  where
-    go : (slice_get xs i ≡ Some b) ⊎ ((i ≡ length xs) × (a ≡ b)) → (slice_get xs i ≡ Some b) ⊎ ((suc i ≡ suc (length xs)) × (a ≡ b))
-    go (inl f) = inl f
-    go (inr f) = inr (ap suc f.0, f.1)
-
-pub length-push : {A : Type 0} (xs : List A) (a : A) → length (xs ++ a ∷ []) ≡ suc (length xs)
-length-push xs a = omega (arith, length-append xs (a ∷ []))
-
 pub more-push : {A : Type 0} (xs : List A) (a : A) → MoreLog xs (xs ++ a ∷ [])
-more-push xs a = record { at = λ i v e. get-left xs (a ∷ []) i v e }
+more-push xs a = record { at = λ i v e. get_left xs (a ∷ []) i v e }
 
 pub half-is : (n : ℕ) → n ≡ cond (odd n) (2 * half n + 1) (2 * half n)
 half-is zero = refl
@@ -97,9 +78,6 @@ pub record Extended {B : Type 0} (m : Service B) (D : ℕ) (h : History_) (L : L
   pub ledger : Ledger m D L K k
   pub kept : Kept (server m h) (server m k)
 
-pub kept-refl : {B : Type 0} (O : Server B) → Kept O O
-kept-refl O = record { calls = λ t n text e. e; replies = λ c s text e. e; served = λ t n code e. e }
-
 -- A batch
 pub ledger_batch : {B : Type 0} (m : Service B) (D : ℕ) (L : List AnyValue) (K : Tier → List AnyValue) (h : History_) (es : List Entry) → odd (length L) ≡ false → Ledger m D L K h → Ledger m D (L ++ OfMid (Batch es) ∷ []) K h
 ledger_batch m D L K h es even g = record {
@@ -115,12 +93,9 @@ ledger_batch m D L K h es even g = record {
 }
   where
     same : half (length (L ++ OfMid (Batch es) ∷ [])) ≡ half (length L)
-    same = ap half (length-push L (OfMid (Batch es))) ∙ cond-false (odd (length L)) (suc (half (length L))) (half (length L)) even
+    same = ap half (length_push L (OfMid (Batch es))) ∙ cond-false (odd (length L)) (suc (half (length L))) (half (length L)) even
 
 -- A VERDICT
-
-same_served : {B : Type 0} (m : Service B) (D : ℕ) (L : List AnyValue) (A C : Answers) (r : ℕ) (R : Round) → A ≡ C → round m D L A r ≡ Some R → round m D L C r ≡ Some R
-same_served m D L A C r R e f = subst (λ z. round m D L z r ≡ Some R) e f
 
 told_kept : {B : Type 0} (P : Server B) (w : Want) (k : ℕ) (e : Ending) (text : List ℕ) → ToldOne P w k e → kept_by e ≡ Some text → P.replies w.client w.seq ≡ Some text
 told_kept P w k (Reply x) text t e = t ∙ e
@@ -166,7 +141,7 @@ fact_at {B} m O T es J order k t e o s se P d pe = (
 
     told_here : (i : ℕ) (a : Act) → slice_get (acts T.next (wants m T es) (ends_of m J order O.store)) i ≡ Some a → ToldOne P a.want a.num a.ending
     told_here i a f =
-        let l : i < length (wants m T es) = within_get (wants m T es) i a.want (acts_want T.next (wants m T es) (ends_of m J order O.store) i a f).0 in
+        let l : i < length (wants m T es) = slice_get_within (wants m T es) i a.want (acts_want T.next (wants m T es) (ends_of m J order O.store) i a f).0 in
         let once : times i order ≡ 1 = once-at (length J) i order (omega (arith, job-length O.served (wants m T es) J e)) g.once in
         subst (λ z. ToldOne z a.want a.num a.ending) (sym pe) (d.there.ended i a f (omega arith)).2
 
@@ -176,7 +151,7 @@ fact_at {B} m O T es J order k t e o s se P d pe = (
 verdict_end : (L : List AnyValue) (v : Verdict) → odd (length L) ≡ true → verdict_at (L ++ OfMid (Decided v) ∷ []) (half (length L)) ≡ Some v
 verdict_end L v o =
     let h : length L ≡ 2 * half (length L) + 1 = half-is (length L) ∙ cond-true (odd (length L)) (2 * half (length L) + 1) (2 * half (length L)) o in
-    ap verdict_in (subst (λ z. slice_get (L ++ OfMid (Decided v) ∷ []) z ≡ Some (OfMid (Decided v))) h (get-end L (OfMid (Decided v))))
+    ap verdict_in (subst (λ z. slice_get (L ++ OfMid (Decided v) ∷ []) z ≡ Some (OfMid (Decided v))) h (get_end L (OfMid (Decided v))))
 
 record AtRound {B : Type 0} (m : Service B) (D : ℕ) (L : List AnyValue) (O : Server B) (T : Tables) (es : List Entry) (J : List Seg) (v : Verdict) : Type 0 where
   at_odd : odd (length L) ≡ true
@@ -226,7 +201,7 @@ ledger_round {B} m D L K h v g es J a = record {
     f = fact_at m O T es J order g.mirrors g.tables_ok a.is_job a.is_ordered O.store refl P d (server-append m (empty_server m) h ks)
 
     half_next : half (length (L ++ OfMid (Decided v) ∷ [])) ≡ suc (half (length L))
-    half_next = ap half (length-push L (OfMid (Decided v))) ∙ cond-true (odd (length L)) (suc (half (length L))) (half (length L)) a.at_odd
+    half_next = ap half (length_push L (OfMid (Decided v))) ∙ cond-true (odd (length L)) (suc (half (length L))) (half (length L)) a.at_odd
 
     more : MoreLog L (L ++ OfMid (Decided v) ∷ [])
     more = more-push L (OfMid (Decided v))
@@ -277,8 +252,4 @@ ledger_verdict {B} m D L K h v R o e q g = subst (λ z. Extended m D h (L ++ OfM
         ∙ ap (λ z. steps_by (wants m g.tables p.batch) (numbers g.tables.next (ends_of m R.job (ordered R v) z)) (ordered R v)) (sym g.mirrors.store)
 
 pub extend_batch : {B : Type 0} (m : Service B) (D : ℕ) (L : List AnyValue) (K : Tier → List AnyValue) (h : History_) (es : List Entry) → odd (length L) ≡ false → Ledger m D L K h → Extended m D h (L ++ OfMid (Batch es) ∷ []) K (h ++ [])
-extend_batch m D L K h es e g = subst (λ z. Extended m D h (L ++ OfMid (Batch es) ∷ []) K z) (sym (nil h)) (record { ledger = ledger_batch m D L K h es e g; kept = kept-refl (server m h) })
-  where
-    nil : {A : Type 0} (xs : List A) → xs ++ [] ≡ xs
-    nil [] = refl
-    nil (x ∷ xs) = ap (λ z. x ∷ z) (nil xs)
+extend_batch m D L K h es e g = subst (λ z. Extended m D h (L ++ OfMid (Batch es) ∷ []) K z) (sym (append-nil h)) (record { ledger = ledger_batch m D L K h es e g; kept = kept-refl (server m h) })

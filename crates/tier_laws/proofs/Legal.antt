@@ -2,6 +2,7 @@
 use Rattle.std.proofs.Common.{◌≡◌, ℕ, ◌<◌, ◌≤◌, true, List, [], ◌∷◌, ◌++◌, length, refl, sym, ap, ◌∙◌, subst, inl, inr, Option, Some, None, zero, suc, arith}
 use Rattle.std.specs.Prelude.{slice_get, ◌⊎◌, ◌==◌, nat_lt}
 use Rattle.std.proofs.lemmas.Bool.{eq-eqb, eqb-true, ne_eqb, cond-true, cond-false, cases_eq, and_parts, ltb-true}
+use Rattle.std.proofs.lemmas.List.{append-nil, append_assoc}
 use Rattle.aeg_base.specs.Store.{Store}
 use Rattle.aeg_base.specs.declared.names.Tier.{Tier}
 use Rattle.exec_model.specs.declared.job.Seg.{Seg}
@@ -19,27 +20,9 @@ use Rattle.tier_laws.proofs.Rounds.{Bounded, NumberOk, Partway, WantOk, act_done
 use Rattle.tier_laws.proofs.Stable.{then_parts}
 use Rattle.tier_laws.proofs.Maps.{IsDone, LegalFrom, Server, result_or, server_from, step}
 use Rattle.tier_laws.proofs.Maps.Result.{Done}
+use Rattle.tier_laws.proofs.Lists.{get_within, get-tabulate, length-tabulate}
 
--- LISTS
-
-pub get-tabulate : {A : Type 0} (n : ℕ) (f : ℕ → A) (i : ℕ) → i < n → slice_get (tabulate n f) i ≡ Some (f i)
-get-tabulate zero f i l = absurd (omega arith)
-get-tabulate (suc n) f zero l = refl
-get-tabulate (suc n) f (suc i) l = get-tabulate n (λ i. f (suc i)) i (omega arith)
-
-pub length-tabulate : {A : Type 0} (n : ℕ) (f : ℕ → A) → length (tabulate n f) ≡ n
-length-tabulate zero f = refl
-length-tabulate (suc n) f = omega (arith, length-tabulate n (λ i. f (suc i)))
-
-pub get_within : {A : Type 0} (xs : List A) (i : ℕ) → i < length xs → (a : A) × (slice_get xs i ≡ Some a)
-get_within [] i l = absurd (omega arith)
-get_within (x ∷ xs) zero l = (x, refl)
-get_within (x ∷ xs) (suc i) l = get_within xs i (omega arith)
-
-pub within_get : {A : Type 0} (xs : List A) (i : ℕ) (a : A) → slice_get xs i ≡ Some a → i < length xs
-within_get [] i a e = absurd (cc)
-within_get (x ∷ xs) zero a e = omega arith
-within_get (x ∷ xs) (suc i) a e = omega (arith, within_get xs i a e)
+-- ORDERS
 
 pub once-at : (n i : ℕ) (order : List ℕ) → i < n → each_once n order ≡ true → times i order ≡ 1
 once-at zero i order l e = absurd (omega arith)
@@ -52,14 +35,6 @@ once-at (suc n) i order l e = go (and_parts (times n order == 1) (each_once n or
 all-mid : (n i : ℕ) (done rest : List ℕ) → all_below n (done ++ i ∷ rest) ≡ true → i < n
 all-mid n i [] rest e = ltb-true i n (and_parts (nat_lt i n) (all_below n rest) e).0
 all-mid n i (d ∷ done) rest e = all-mid n i done rest (and_parts (nat_lt d n) (all_below n (done ++ i ∷ rest)) e).1
-
-assoc : {A : Type 0} (xs : List A) (x : A) (ys : List A) → xs ++ x ∷ ys ≡ (xs ++ x ∷ []) ++ ys
-assoc [] x ys = refl
-assoc (z ∷ xs) x ys = ap (λ q. z ∷ q) (assoc xs x ys)
-
-nil : {A : Type 0} (xs : List A) → xs ++ [] ≡ xs
-nil [] = refl
-nil (x ∷ xs) = ap (λ z. x ∷ z) (nil xs)
 
 -- JOBS
 
@@ -255,11 +230,11 @@ one_legal {B} m O next ws J order g done i P h k b = record {
 rest_legal : {B : Type 0} (m : Service B) (O : Server B) (next : OfTiers ℕ) (ws : List Want) (J : List Seg) (order : List ℕ) → Setting m O next ws J order → (rest done : List ℕ) (P : Server B) → order ≡ done ++ rest
     → Partway O (acts_of m O next ws J order) ws done (serial m J done O.store) P → Bounded P → RoundDone m O next ws J order P (steps_by ws (numbers next (ends_of m J order O.store)) rest)
 rest_legal m O next ws J order g [] done P e k b =
-    let f : order ≡ done = e ∙ nil done in
+    let f : order ≡ done = e ∙ append-nil done in
     record { legal = tt; there = subst (λ z. Partway O (acts_of m O next ws J order) ws z (serial m J z O.store) P) (sym f) k; bounded = b }
 rest_legal m O next ws J order g (i ∷ rest) done P e k b =
     let t : Stepped m O next ws J order done i P = one_legal m O next ws J order g done i P (here m O next ws J order done i rest P g e) k b in
-    let r : RoundDone m O next ws J order t.server (steps_by ws (numbers next (ends_of m J order O.store)) rest) = rest_legal m O next ws J order g rest (done ++ i ∷ []) t.server (e ∙ assoc done i rest) t.there t.bounded in
+    let r : RoundDone m O next ws J order t.server (steps_by ws (numbers next (ends_of m J order O.store)) rest) = rest_legal m O next ws J order g rest (done ++ i ∷ []) t.server (e ∙ sym (append_assoc done (i ∷ []) rest)) t.there t.bounded in
     let same = server_step m P t.server (step_of (slice_get ws i) (at 0 (numbers next (ends_of m J order O.store)) i)) (steps_by ws (numbers next (ends_of m J order O.store)) rest) t.is_step in
     record {
       legal = legal_step m P t.server (step_of (slice_get ws i) (at 0 (numbers next (ends_of m J order O.store)) i)) (steps_by ws (numbers next (ends_of m J order O.store)) rest) t.is_step r.legal;

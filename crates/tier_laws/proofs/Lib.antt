@@ -1,5 +1,6 @@
 pub mod Maps
 pub mod Lists
+pub mod Codes
 pub mod Stable
 pub mod Acts
 pub mod Rounds
@@ -22,6 +23,7 @@ pub mod BackRows
 pub mod BackLearn
 pub mod BackMoves
 pub mod Core
+pub mod NodeSteps
 pub mod MidSteps
 pub mod BackSteps
 pub mod Shows

@@ -1,13 +1,82 @@
 -- Items by index, and tiers.
-use Rattle.std.proofs.Common.{◌≡◌, ℕ, true, false, List, [], ◌∷◌, refl, ap, inl, inr, zero, suc}
-use Rattle.std.specs.Prelude.{◌⊎◌, ◌==◌, replicate}
-use Rattle.std.proofs.lemmas.Bool.{cond-true, cond-false, eq-eqb, ne_eqb}
+pub use Rattle.log_model.proofs.Step.{put_same as put_here}
+pub use Rattle.log_model.proofs.Basics.{get_left, get_within, get_push, length_push}
+pub use Rattle.server_model.proofs.Tiers.{tier_same, tier_eq}
+use Rattle.std.proofs.Common.{◌≡◌, ℕ, Bool, true, false, cond, List, [], ◌∷◌, ◌++◌, length, map, refl, sym, ap, subst, inl, inr, Option, Some, None, zero, suc, ◌<◌, arith}
+use Rattle.std.specs.Prelude.{slice_get, ◌⊎◌, replicate, take}
+use Rattle.std.proofs.lemmas.Bool.{cond-true, cond-false, ne_eqb}
+use Rattle.log_model.proofs.Step.{put_other}
 use Rattle.aeg_base.specs.declared.names.Tier.{Tier}
 use Rattle.aeg_base.specs.declared.names.Tier.TheVariants.{Mid, Inv, Pay}
 use Rattle.server_model.specs.Server.{same_tier}
-use Rattle.round_model.specs.Lists.{at, put_at, OfTiers, of_tier, with_tier}
+use Rattle.round_model.specs.Lists.{is_some, tabulate, at, put_at, OfTiers, of_tier, with_tier}
 use Rattle.run_model.specs.World.{put_tier}
 use Rattle.run_model.specs.Histories.{put}
+
+-- ITEMS BY INDEX
+
+pub get_right : {A : Type 0} (xs ys : List A) (i : ℕ) (a : A) → slice_get ys i ≡ Some a → (j : ℕ) × (slice_get (xs ++ ys) j ≡ Some a)
+get_right [] ys i a e = (i, e)
+get_right (x ∷ xs) ys i a e = let r = get_right xs ys i a e in (suc r.0, r.1)
+
+pub get_cases : {A : Type 0} (xs ys : List A) (i : ℕ) (a : A) → slice_get (xs ++ ys) i ≡ Some a → (slice_get xs i ≡ Some a) ⊎ ((j : ℕ) × (slice_get ys j ≡ Some a))
+get_cases [] ys i a e = inr (i, e)
+get_cases (x ∷ xs) ys zero a e = inl e
+get_cases (x ∷ xs) ys (suc i) a e = get_cases xs ys i a e
+
+pub joined : {A : Type 0} (G : A → Type 0) (xs ys : List A) → ((i : ℕ) (a : A) → slice_get xs i ≡ Some a → G a) → ((i : ℕ) (a : A) → slice_get ys i ≡ Some a → G a) → (i : ℕ) (a : A) → slice_get (xs ++ ys) i ≡ Some a → G a
+joined {A} G xs ys f g i a e = go (get_cases xs ys i a e)
+  where
+    go : (slice_get xs i ≡ Some a) ⊎ ((j : ℕ) × (slice_get ys j ≡ Some a)) → G a
+    go (inl h) = f i a h
+    go (inr h) = g h.0 a h.1
+
+-- one item more
+pub get_end : {A : Type 0} (xs : List A) (a : A) → slice_get (xs ++ a ∷ []) (length xs) ≡ Some a
+get_end [] a = refl
+get_end (x ∷ xs) a = get_end xs a
+
+pub pushed : {A : Type 0} (G : A → Type 0) (xs : List A) (a : A) → ((i : ℕ) (b : A) → slice_get xs i ≡ Some b → G b) → G a → (i : ℕ) (b : A) → slice_get (xs ++ a ∷ []) i ≡ Some b → G b
+pushed {A} G xs a k g i b e = go (get_push xs a i b e)
+  where
+    go : (slice_get xs i ≡ Some b) ⊎ ((i ≡ length xs) × (a ≡ b)) → G b
+    go (inl q) = k i b q
+    go (inr q) = subst G q.1 g
+
+pub get_map : {A C : Type 0} (f : A → C) (xs : List A) (i : ℕ) (c : C) → slice_get (map f xs) i ≡ Some c → (a : A) × (slice_get xs i ≡ Some a) × (f a ≡ c)
+get_map f [] i c e = absurd (cc)
+get_map f (x ∷ xs) zero c e = (x, refl, cc)
+get_map f (x ∷ xs) (suc i) c e = get_map f xs i c e
+
+pub map_get : {A C : Type 0} (f : A → C) (xs : List A) (i : ℕ) (a : A) → slice_get xs i ≡ Some a → slice_get (map f xs) i ≡ Some (f a)
+map_get f [] i a e = absurd (cc)
+map_get f (x ∷ xs) zero a e = let s : x ≡ a = cc in ap (λ z. Some (f z)) s
+map_get f (x ∷ xs) (suc i) a e = map_get f xs i a e
+
+pub take_get : {A : Type 0} (n : ℕ) (xs : List A) (i : ℕ) (a : A) → slice_get (take n xs) i ≡ Some a → slice_get xs i ≡ Some a
+take_get zero xs i a e = absurd (cc)
+take_get (suc n) [] i a e = absurd (cc)
+take_get (suc n) (x ∷ xs) zero a e = e
+take_get (suc n) (x ∷ xs) (suc i) a e = take_get n xs i a e
+
+pub get-tabulate : {A : Type 0} (n : ℕ) (f : ℕ → A) (i : ℕ) → i < n → slice_get (tabulate n f) i ≡ Some (f i)
+get-tabulate zero f i l = absurd (omega arith)
+get-tabulate (suc n) f zero l = refl
+get-tabulate (suc n) f (suc i) l = get-tabulate n (λ i. f (suc i)) i (omega arith)
+
+pub length-tabulate : {A : Type 0} (n : ℕ) (f : ℕ → A) → length (tabulate n f) ≡ n
+length-tabulate zero f = refl
+length-tabulate (suc n) f = omega (arith, length-tabulate n (λ i. f (suc i)))
+
+-- an item of a list that leaves some out is one of the list
+pub kept_at : {A : Type 0} (out : Bool) (x : A) (kept xs : List A) (i : ℕ) (a : A) → slice_get (cond out kept (x ∷ kept)) i ≡ Some a → ((i : ℕ) → slice_get kept i ≡ Some a → (j : ℕ) × (slice_get xs j ≡ Some a)) → (j : ℕ) × (slice_get (x ∷ xs) j ≡ Some a)
+kept_at true x kept xs i a e r = let q = r i e in (suc q.0, q.1)
+kept_at false x kept xs zero a e r = (0, e)
+kept_at false x kept xs (suc i) a e r = let q = r i e in (suc q.0, q.1)
+
+pub some_of : {A : Type 0} (o : Option A) → is_some o ≡ true → (a : A) × (o ≡ Some a)
+some_of None e = absurd (cc)
+some_of (Some a) e = (a, refl)
 
 pub at_here : {A : Type 0} (d : A) (xs : List A) (x : ℕ) (a : A) → at d (put_at d xs x a) x ≡ a
 at_here d [] zero a = refl
@@ -30,29 +99,10 @@ at-replicate d zero x = refl
 at-replicate d (suc n) zero = refl
 at-replicate d (suc n) (suc x) = at-replicate d n x
 
-pub put_here : {A : Type 0} (f : ℕ → A) (x : ℕ) (a : A) → put f x a x ≡ a
-put_here f x a = cond-true (x == x) a (f x) (eq-eqb x x refl)
-
 pub put_there : {A : Type 0} (f : ℕ → A) (x : ℕ) (a : A) (y : ℕ) → (y ≡ x → ⊥) → put f x a y ≡ f y
-put_there f x a y e = cond-false (y == x) a (f y) (ne_eqb y x e)
+put_there f x a y e = put_other f x a y (ne_eqb y x e)
 
 -- TIERS
-
-pub tier_same : (t : Tier) → same_tier t t ≡ true
-tier_same Mid = refl
-tier_same Inv = refl
-tier_same Pay = refl
-
-pub tier_eq : (t v : Tier) → same_tier t v ≡ true → t ≡ v
-tier_eq Mid Mid e = refl
-tier_eq Mid Inv e = absurd (cc)
-tier_eq Mid Pay e = absurd (cc)
-tier_eq Inv Mid e = absurd (cc)
-tier_eq Inv Inv e = refl
-tier_eq Inv Pay e = absurd (cc)
-tier_eq Pay Mid e = absurd (cc)
-tier_eq Pay Inv e = absurd (cc)
-tier_eq Pay Pay e = refl
 
 pub tier_cases : (t v : Tier) → (t ≡ v) ⊎ (same_tier t v ≡ false)
 tier_cases Mid Mid = inl refl
@@ -70,6 +120,17 @@ tier_here f t a = cond-true (same_tier t t) a (f t) (tier_same t)
 
 pub tier_there : {A : Type 0} (f : Tier → A) (t : Tier) (a : A) (v : Tier) → same_tier v t ≡ false → put_tier f t a v ≡ f v
 tier_there f t a v e = cond-false (same_tier v t) a (f v) e
+
+-- of two functions of tiers that change at one tier
+pub both_tiers : {A C : Type 0} (P : Tier → A → C → Type 0) (f : Tier → A) (g : Tier → C) (t : Tier) (a : A) (b : C) → P t a b → ((v : Tier) → same_tier v t ≡ false → P v (f v) (g v)) → (v : Tier) → P v (put_tier f t a v) (put_tier g t b v)
+both_tiers {A} {C} P f g t a b here there v = go (tier_cases v t)
+  where
+    go : (v ≡ t) ⊎ (same_tier v t ≡ false) → P v (put_tier f t a v) (put_tier g t b v)
+    go (inl e) = subst (λ z. P z (put_tier f t a z) (put_tier g t b z)) (sym e) (subst (λ z. P t z (put_tier g t b t)) (sym (tier_here f t a)) (subst (P t a) (sym (tier_here g t b)) here))
+    go (inr e) = subst (λ z. P v z (put_tier g t b v)) (sym (tier_there f t a v e)) (subst (P v (f v)) (sym (tier_there g t b v e)) (there v e))
+
+pub by_tier : {A : Type 0} (P : Tier → A → Type 0) (f : Tier → A) (t : Tier) (a : A) → P t a → ((v : Tier) → same_tier v t ≡ false → P v (f v)) → (v : Tier) → P v (put_tier f t a v)
+by_tier P f t a here there v = both_tiers (λ v z y. P v z) f f t a a here there v
 
 pub of_here : {A : Type 0} (f : OfTiers A) (t : Tier) (a : A) → of_tier (with_tier f t a) t ≡ a
 of_here f Mid a = refl

@@ -2,6 +2,8 @@
 use Rattle.std.proofs.Common.{◌≡◌, ℕ, ◌<◌, true, List, [], ◌∷◌, ◌++◌, length, map, refl, sym, ap, ◌∙◌, subst, inl, inr, Option, Some, None, zero, suc, arith}
 use Rattle.std.specs.Prelude.{slice_get, ◌⊎◌, replicate}
 use Rattle.std.proofs.lemmas.Bool.{and_parts}
+use Rattle.std.proofs.lemmas.List.{map-append}
+use Rattle.std.proofs.lemmas.Option.{slice_get_within}
 use Rattle.aeg_base.specs.declared.names.Tier.{Tier}
 use Rattle.aeg_base.specs.declared.names.Tier.TheVariants.{Mid as MidTier, Inv, Pay}
 use Rattle.exec_model.specs.declared.job.Seg.{Seg}
@@ -12,10 +14,10 @@ use Rattle.round_model.specs.Tables.{last_of, Parked, Tables, Want, fresh_of, jo
 use Rattle.svc_api.specs.declared.action.Ending.{Ending}
 use Rattle.svc_api.specs.declared.action.Ending.TheVariants.{Call, Reply}
 use Rattle.tier_laws.proofs.Acts.{Act, Distinct, NoneOf, Numbered, acts_want, find_client, last-in, last-out, next-raises, none_not, num-high, num-low, parked_by, parks-in, parks-out, want_acts}
-use Rattle.tier_laws.proofs.Lists.{at-replicate}
-use Rattle.tier_laws.proofs.Legal.{Setting, acts_of, ends_of, job-length, length-tabulate, once-at, within_get}
+use Rattle.tier_laws.proofs.Lists.{at-replicate, get_cases, get_right, get_map, length-tabulate, map_get}
+use Rattle.tier_laws.proofs.Legal.{Setting, acts_of, ends_of, job-length, once-at}
 use Rattle.tier_laws.proofs.Rounds.{Bounded, Partway, ToldOne, WantOk, progress_by}
-use Rattle.tier_laws.proofs.Wants.{IsFresh, in_range_parts, concat-head, concat-push, distinct-apart, distinct-join, distinct-left, distinct-right, fresh-at, fresh-distinct, get_cases, get_map, is_fresh_parts, map-append, map_get, none-parts, none_from, none_parked, parked-skip, parked-stop, parked_at, parks-distinct, parks-none, parks_acts}
+use Rattle.tier_laws.proofs.Wants.{IsFresh, in_range_parts, concat-head, concat-push, distinct-apart, distinct-join, distinct-left, distinct-right, fresh-at, fresh-distinct, is_fresh_parts, none-parts, none_from, none_parked, parked-skip, parked-stop, parked_at, parks-distinct, parks-none, parks_acts}
 use Rattle.tier_laws.proofs.Maps.{Progress, Server, empty_server}
 
 abbrev pub in_progress : Option Parked → Option Progress
@@ -91,12 +93,12 @@ want_ok : {B : Type 0} (m : Service B) (T : Tables) (O : Server B) (es : List En
 want_ok {B} m T O es i w k e = go (get_cases (map resumed (head_of T.queue)) (map started (fresh_of m T [] es)) i w e)
   where
     in_queue : (i : ℕ) (p : Parked) → slice_get (head_of T.queue) i ≡ Some p → slice_get (concat T.queue) i ≡ Some p
-    in_queue i p f = subst (λ z. slice_get z i ≡ Some p) (sym (concat-head T.queue)) (get-left (head_of T.queue) (concat (tail_of T.queue)) i p f)
+    in_queue i p f = subst (λ z. slice_get z i ≡ Some p) (sym (concat-head T.queue)) (get_left (head_of T.queue) (concat (tail_of T.queue)) i p f)
       where
-        get-left : (xs ys : List Parked) (i : ℕ) (p : Parked) → slice_get xs i ≡ Some p → slice_get (xs ++ ys) i ≡ Some p
-        get-left [] ys i p e = absurd (cc)
-        get-left (x ∷ xs) ys zero p e = e
-        get-left (x ∷ xs) ys (suc i) p e = get-left xs ys i p e
+        get_left : (xs ys : List Parked) (i : ℕ) (p : Parked) → slice_get xs i ≡ Some p → slice_get (xs ++ ys) i ≡ Some p
+        get_left [] ys i p e = absurd (cc)
+        get_left (x ∷ xs) ys zero p e = e
+        get_left (x ∷ xs) ys (suc i) p e = get_left xs ys i p e
 
     old : (i : ℕ) (p : Parked) → slice_get (head_of T.queue) i ≡ Some p → WantOk m O (resumed p) (resumed p).call
     old i p f =
@@ -166,7 +168,7 @@ mirrors_kept {B} m T O es J order P k g r b = record {
 
     finished : (i : ℕ) (a : Act) → slice_get (acts_of m O T.next ws J order) i ≡ Some a → (P.last a.want.client ≡ a.want.seq) × (P.progress a.want.client ≡ progress_by a.want a.num a.ending) × ToldOne P a.want a.num a.ending
     finished i a e =
-        let l : i < length ws = within_get ws i a.want (acts_want T.next ws (ends_of m J order O.store) i a e).0 in
+        let l : i < length ws = slice_get_within ws i a.want (acts_want T.next ws (ends_of m J order O.store) i a e).0 in
         let o : times i order ≡ 1 = once-at (length J) i order (omega (arith, job-length O.served ws J g.job)) g.once in
         r.ended i a e (omega arith)
 
@@ -201,13 +203,9 @@ mirrors_kept {B} m T O es J order P k g r b = record {
 
     parked : (p : Parked) (i : ℕ) → (slice_get tail i ≡ Some p) ⊎ ((j : ℕ) × (slice_get new j ≡ Some p)) → (P.calls p.tier p.num ≡ Some p.text) × (p.seq ≡ last_of (last_after ws T.last) p.client)
     parked p i (inl e) =
-        let h = old (head_of T.queue) tail i p e in
+        let h = get_right (head_of T.queue) tail i p e in
         let q = k.parked h.0 p (subst (λ z. slice_get z h.0 ≡ Some p) (sym (concat-head T.queue)) h.1) in
         (r.kept.calls p.tier p.num p.text q.0, q.1 ∙ sym (last-out ws T.last p.client (away i p e)))
-      where
-        old : (xs ys : List Parked) (i : ℕ) (p : Parked) → slice_get ys i ≡ Some p → (j : ℕ) × (slice_get (xs ++ ys) j ≡ Some p)
-        old [] ys i p e = (i, e)
-        old (x ∷ xs) ys i p e = let r = old xs ys i p e in (suc r.0, r.1)
     parked p i (inr f) =
         let a = parks_acts T.next ws (ends_of m J order O.store) f.0 p f.1 in
         let q = parked_is a.1.want a.1.num a.1.ending p a.3 in

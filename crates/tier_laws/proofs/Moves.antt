@@ -1,17 +1,17 @@
 -- What a middle node does in an event is right by itself.
 use Rattle.std.proofs.Common.{◌≡◌, ℕ, ◌+◌, ◌*◌, ◌<◌, Bool, true, false, cond, List, [], ◌∷◌, ◌++◌, length, map, refl, sym, ap, ◌∙◌, subst, inl, inr, Option, Some, None}
 use Rattle.std.specs.Prelude.{slice_get, ◌⊎◌}
+use Rattle.std.proofs.lemmas.List.{append-nil, append_assoc}
 use Rattle.aeg_base.specs.declared.names.Ballot.{Ballot}
 use Rattle.aeg_base.specs.declared.names.Tier.{Tier}
 use Rattle.log_model.proofs.Basics.{Every, every-append}
 use Rattle.log_model.proofs.History.{DidVote}
-use Rattle.log_model.proofs.Invariant.{History, Rest, StateOk, TurnOk}
+use Rattle.log_model.proofs.Invariant.{History, StateOk, TurnOk}
 use Rattle.log_model.proofs.Origin.{Origins, Stood}
 use Rattle.log_model.proofs.Rows.{Known as Knows, idle_ok}
-use Rattle.log_model.proofs.Step.{grown, put_same}
 use Rattle.log_model.specs.Log.{LogState, Turn, idles, nobody}
 use Rattle.log_model.specs.Recover.{onto}
-use Rattle.log_model.specs.World.{packets_of, put}
+use Rattle.log_model.specs.World.{packets_of}
 use Rattle.log_model.specs.declared.fact.Fact.{Fact as LogFact}
 use Rattle.log_values.specs.declared.fact.Fact.{Fact}
 use Rattle.log_values.specs.declared.fact.Fact.TheVariants.{Held}
@@ -25,7 +25,7 @@ use Rattle.run_model.specs.World.{Config}
 use Rattle.svc_api.specs.declared.action.Ending.{Ending}
 use Rattle.svc_api.specs.declared.action.Ending.TheVariants.{Call, Reply}
 use Rattle.tier_laws.proofs.Apply.{apply_ok}
-use Rattle.tier_laws.proofs.Logs.{Complete}
+use Rattle.tier_laws.proofs.Logs.{Complete, state_more}
 use Rattle.tier_laws.proofs.Past.{DidRun, Grows, Known, MidOk, MidOther, SentOk, Past, RunOk, other-more}
 use Rattle.tier_laws.proofs.Stable.{MoreLog}
 use Rattle.tier_model.specs.Mid.{reply_to, call_to, Mid, Ready, apply_sends, apply_state, calls_to, due_round, in_log, is_due, ready, tells, with_log}
@@ -35,7 +35,7 @@ use Rattle.log_model.specs.declared.turn.LogIdle.TheVariants.{Nothing}
 use Rattle.log_values.specs.declared.fact.Fact.TheVariants.{Promised, Accepted, Learned}
 use Rattle.frames.specs.declared.turn.Turn.{Turn as Answer}
 use Rattle.tier_laws.specs.Said.{Laws}
-use Rattle.tier_laws.proofs.Soups.{mid_soup, back_soup, nil, assoc, mid_soup-append, back_soup-append, NoLog, no_mid, no_back, none_nil, none_append, none_each, mid_soup-log, back_soup-mid, every-log}
+use Rattle.tier_laws.proofs.Soups.{mid_soup, back_soup, mid_soup-append, back_soup-append, NoLog, no_mid, no_back, none_nil, none_append, none_each, mid_soup-log, back_soup-mid, every-log}
 use Rattle.tier_model.specs.Moves.{as_fact, log_packets, Move, Packet, held_in, log_facts}
 
 -- THE HELD FACTS OF A RECORD
@@ -48,11 +48,11 @@ helds (Learned p v ∷ fs) = helds fs
 helds (Held t n code ∷ fs) = record { tier = t; num = n; code = code } ∷ helds fs
 
 pub held_in-onto : (fs F : List Fact) → held_in (onto fs F) ≡ held_in F ++ helds fs
-held_in-onto [] F = sym (nil (held_in F))
+held_in-onto [] F = sym (append-nil (held_in F))
 held_in-onto (Promised b ∷ fs) F = held_in-onto fs (Promised b ∷ F)
 held_in-onto (Accepted p b v ∷ fs) F = held_in-onto fs (Accepted p b v ∷ F)
 held_in-onto (Learned p v ∷ fs) F = held_in-onto fs (Learned p v ∷ F)
-held_in-onto (Held t n code ∷ fs) F = held_in-onto fs (Held t n code ∷ F) ∙ assoc (held_in F) _ (helds fs)
+held_in-onto (Held t n code ∷ fs) F = held_in-onto fs (Held t n code ∷ F) ∙ append_assoc (held_in F) _ (helds fs)
 
 pub log_facts-onto : (fs F : List Fact) → log_facts (onto fs F) ≡ onto (log_facts fs) (log_facts F)
 log_facts-onto [] F = refl
@@ -143,7 +143,7 @@ plain c P h soup x σ rs v k l f n codes runs later = record {
 pub quiet : {B : Type 0} {a : Answer} (c : Config B) (P : Past B) (h : ℕ → List (LogFact AnyValue)) (soup : List Packet) (x : ℕ) (σ τ : Mid) (ks : List Packet) → Here c P h soup x σ → τ.log ≡ σ.log → NoLog ks
     → ((Q : Past B) → Grows P Q → MidOther c Q x σ → MidOther c Q x τ × Every (SentOk c Q) ks) → MoveOk c P h soup x [] (record { state = τ; facts = []; sends = ks; answer = a })
 quiet {B} {a} c P h soup x σ τ ks k l n later = plain c P h soup x σ [] (record { state = τ; facts = []; sends = ks; answer = a }) k l refl n (λ i k e. absurd (cc)) (λ i r e. absurd (cc))
-    (λ Q g kn e rs. let r = later Q g (other-more c P Q x σ g (e ∙ nil (P.codes x)) k.other) in record { other = r.0; sends = r.1 })
+    (λ Q g kn e rs. let r = later Q g (other-more c P Q x σ g (e ∙ append-nil (P.codes x)) k.other) in record { other = r.0; sends = r.1 })
 
 pub stays_ok : {B : Type 0} {a : Answer} (c : Config B) (P : Past B) (h : ℕ → List (LogFact AnyValue)) (soup : List Packet) (x : ℕ) (σ : Mid) → Here c P h soup x σ → MoveOk c P h soup x [] (record { state = σ; facts = []; sends = []; answer = a })
 stays_ok c P h soup x σ k = quiet c P h soup x σ σ [] k refl none_nil (λ Q g o. (o, tt))
@@ -177,22 +177,17 @@ log_move {B} c P h soup x σ t own k ok from fine = record {
   turn_ok = ok;
   good = λ p b w d. good p w (from.from p b w d);
   is_facts = log_facts-map t.facts;
-  is_sends = mid_soup-append (log_packets MidTier x t.sends) (apply_sends c.u x (with_log σ t.state) (due_round c.service σ t.state)) ∙ ap (λ z. mid_soup (log_packets MidTier x t.sends) ++ z) (no_mid _ (none_apply c.u x (with_log σ t.state) (due_round c.service σ t.state))) ∙ nil (mid_soup (log_packets MidTier x t.sends)) ∙ mid_soup-log x t.sends;
+  is_sends = mid_soup-append (log_packets MidTier x t.sends) (apply_sends c.u x (with_log σ t.state) (due_round c.service σ t.state)) ∙ ap (λ z. mid_soup (log_packets MidTier x t.sends) ++ z) (no_mid _ (none_apply c.u x (with_log σ t.state) (due_round c.service σ t.state))) ∙ append-nil (mid_soup (log_packets MidTier x t.sends)) ∙ mid_soup-log x t.sends;
   is_log = state_log (with_log σ t.state) (due_round c.service σ t.state);
   no_back = λ v. back_soup-append v (log_packets MidTier x t.sends) (apply_sends c.u x (with_log σ t.state) (due_round c.service σ t.state)) ∙ ap (λ z. z ++ back_soup v (apply_sends c.u x (with_log σ t.state) (due_round c.service σ t.state))) (back_soup-mid v x t.sends) ∙ no_back _ (none_apply c.u x (with_log σ t.state) (due_round c.service σ t.state)) v;
   codes = λ i q e. absurd (let f : slice_get [] i ≡ Some q = subst (λ z. slice_get z i ≡ Some q) (helds-map t.facts) e in cc);
   runs = λ i r e. absurd (cc);
   later = λ Q g kn e rs.
-      let o : MidOther c Q x σ = other-more c P Q x σ g (e ∙ ap (λ z. P.codes x ++ z) (helds-map t.facts) ∙ nil (P.codes x)) k.other in
-      let r = ready_later c Q x (with_log σ t.state) (due_round c.service σ t.state) kn (log_other c Q x σ t.state o) (record { at = λ p v f. g.log.at p v (learned p v f) }) (λ R f. due_ready c.service σ t.state R f) in
+      let o : MidOther c Q x σ = other-more c P Q x σ g (e ∙ ap (λ z. P.codes x ++ z) (helds-map t.facts) ∙ append-nil (P.codes x)) k.other in
+      let r = ready_later c Q x (with_log σ t.state) (due_round c.service σ t.state) kn (log_other c Q x σ t.state o) (record { at = λ p v f. g.log.at p v ((state_more c.u h (mid_soup soup) P.log x t ok k.complete).at p v f) }) (λ R f. due_ready c.service σ t.state R f) in
       record { other = r.0; sends = every-append (SentOk c Q) (log_packets MidTier x t.sends) _ (every-log c Q MidTier x t.sends) r.1 };
 }
   where
     good : (p : ℕ) (w : AnyValue) → Stood c.u h p w ⊎ ((own ≡ Some w) × (p ≡ length t.state.learned)) → MidOk c P p w
     good p w (inl s) = k.good s.0 s.2 p s.1 w s.3
     good p w (inr s) = subst (λ z. MidOk c P z w) (sym s.1) (fine w s.0)
-
-    learned : (p : ℕ) (v : AnyValue) → slice_get t.state.learned p ≡ Some v → slice_get P.log p ≡ Some v
-    learned p v e =
-        let r : Rest c.u (put h x (onto t.facts (h x))) (onto t.facts (h x)) (mid_soup soup) x t = ok.rest (put h x (onto t.facts (h x))) (put_same h x (onto t.facts (h x))) (grown h x t.facts ok.orderly) in
-        k.complete.at p v (r.learned p v (subst (λ z. slice_get z p ≡ Some v) r.state.learned e))

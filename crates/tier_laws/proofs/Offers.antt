@@ -1,7 +1,8 @@
 -- What a middle node offers of its own, and what a retry sends.
 use Rattle.std.proofs.Common.{◌≡◌, ℕ, ◌+◌, ◌*◌, ◌-◌, ◌<◌, ◌≤◌, Bool, true, false, cond, List, [], ◌∷◌, ◌++◌, length, refl, sym, ap, ◌∙◌, subst, inl, inr, Option, Some, None, zero, suc, arith}
-use Rattle.std.specs.Prelude.{slice_get, ◌⊎◌, ◌==◌, ◌&&◌, not, nat_lt, nat_le, take, drop}
-use Rattle.std.proofs.lemmas.Bool.{cond-true, cond_both, eq-eqb, cases_eq}
+use Rattle.std.specs.Prelude.{slice_get, ◌⊎◌, ◌&&◌, not, nat_lt, nat_le, take, drop}
+use Rattle.std.proofs.lemmas.Bool.{cond_both, cases_eq}
+use Rattle.std.proofs.lemmas.List.{append-nil}
 use Rattle.aeg_base.specs.declared.names.Tier.{Tier}
 use Rattle.log_model.proofs.Basics.{Every, every-append}
 use Rattle.log_model.proofs.Rows.{still}
@@ -19,15 +20,14 @@ use Rattle.round_model.specs.Tables.{pending_of, Parked, Tables, fresh_pending, 
 use Rattle.round_model.specs.Verdicts.{verdict}
 use Rattle.run_model.specs.World.{Config}
 use Rattle.server_model.specs.Server.{same_tier}
-use Rattle.tier_laws.proofs.Lists.{tier_same}
+use Rattle.tier_laws.proofs.Lists.{get_cases, take_get}
 use Rattle.tier_laws.proofs.Apply.{every-each}
 use Rattle.tier_laws.proofs.Moves.{Here, MoveOk, knows}
 use Rattle.tier_laws.proofs.Past.{BatchOk, FloorOk, Known, MidOk, MidOther, SentOk, Past, holds, other-more}
 use Rattle.tier_laws.proofs.Stable.{then_parts}
 use Rattle.tier_laws.proofs.Verdicts.{usable_ok, verdict_ok}
-use Rattle.tier_laws.proofs.Wants.{get_cases}
 use Rattle.aeg_base.specs.declared.names.Tier.TheVariants.{Mid as MidTier, Inv, Pay}
-use Rattle.tier_laws.proofs.Soups.{mid_soup, back_soup, nil, mid_soup-append, back_soup-append, NoLog, no_mid, no_back, none_nil, none_append, none_each, mid_soup-log, back_soup-mid, every-log}
+use Rattle.tier_laws.proofs.Soups.{mid_soup, back_soup, mid_soup-append, back_soup-append, NoLog, no_mid, no_back, none_nil, none_append, none_each, mid_soup-log, back_soup-mid, every-log}
 use Rattle.tier_model.specs.Mid.{Mid, calls_to}
 use Rattle.log_model.specs.declared.message.PaxMsg.TheVariants.{Ask}
 use Rattle.log_model.specs.declared.turn.Offering.{Offering}
@@ -40,6 +40,7 @@ use Rattle.log_model.proofs.Origin.{lead_from, offer_from}
 use Rattle.log_model.proofs.Invariant.{SendOk}
 use Rattle.round_model.specs.Answers.{highest}
 use Rattle.tier_laws.proofs.Moves.{log_move, stays_ok}
+use Rattle.tier_laws.proofs.Codes.{code_of-at}
 use Rattle.tier_model.specs.Mid.{in_log, call_to}
 use Rattle.tier_model.specs.Moves.{log_packets, idles}
 use Rattle.tier_model.specs.MidRows.{leads, offers, offers_as, own_cause, have_to, settle_at, usable_here, floor_here, open_calls, put_parked, by_number, again, calls_again, haves, haves_again, own_batch, own_value, retry, settle_to}
@@ -63,12 +64,6 @@ pending_get {B} m T pending (suc n) i e f = go (get_cases (fresh_pending m T pen
     go : (slice_get (fresh_pending m T pending n) i ≡ Some e) ⊎ ((j : ℕ) × (slice_get (if_fresh m T (pending_of pending (suc n))) j ≡ Some e)) → ((i : ℕ) → slice_get (fresh_pending m T pending n) i ≡ Some e → (y : ℕ) × (pending_of pending y ≡ Some e)) → (y : ℕ) × (pending_of pending y ≡ Some e)
     go (inl g) r = r i g
     go (inr g) r = (suc n, fresh_get m T (pending_of pending (suc n)) g.0 e g.1)
-
-take_get : {A : Type 0} (n : ℕ) (xs : List A) (i : ℕ) (a : A) → slice_get (take n xs) i ≡ Some a → slice_get xs i ≡ Some a
-take_get zero xs i a e = absurd (cc)
-take_get (suc n) [] i a e = absurd (cc)
-take_get (suc n) (x ∷ xs) zero a e = e
-take_get (suc n) (x ∷ xs) (suc i) a e = take_get n xs i a e
 
 batch_ok : {B : Type 0} (c : Config B) (P : Past B) (h : ℕ → List (LogFact AnyValue)) (soup : List Packet) (x : ℕ) (σ : Mid) (v : AnyValue) → Here c P h soup x σ → odd (open_at σ.log) ≡ false → own_batch c.service σ (half (open_at σ.log)) ≡ Some v → MidOk c P (open_at σ.log) v
 batch_ok {B} c P h soup x σ v k o e = go (nat_lt σ.applied (half (open_at σ.log))) (is_nil (fresh_pending c.service σ.tables σ.pending 16) && is_nil (concat σ.tables.queue)) e
@@ -143,20 +138,6 @@ pub every_from : {A : Type 0} (G : A → Type 0) (xs : List A) → ((i : ℕ) (a
 every_from G [] k = tt
 every_from G (x ∷ xs) k = (k 0 x refl, every_from G xs (λ i a e. k (suc i) a e))
 
-code_of-at : (cs : List Code) (i : ℕ) (k : Code) → slice_get cs i ≡ Some k → is_some (code_of cs k.tier k.num) ≡ true
-code_of-at [] i k e = absurd (cc)
-code_of-at (c ∷ cs) zero k e =
-    let s : c ≡ k = cc in
-    subst (λ (z : Code). is_some (code_of (c ∷ cs) z.tier z.num) ≡ true) s (ap is_some (cond-true (same_tier c.tier c.tier && (c.num == c.num)) (Some c.code) (code_of cs c.tier c.num) (both (same_tier c.tier c.tier) (c.num == c.num) (tier_same c.tier) (eq-eqb c.num c.num refl))))
-  where
-    both : (a b : Bool) → a ≡ true → b ≡ true → (a && b) ≡ true
-    both a b e f = rw (e, f) refl
-code_of-at (c ∷ cs) (suc i) k e = go (same_tier c.tier k.tier && (c.num == k.num)) (code_of-at cs i k e)
-  where
-    go : (b : Bool) → is_some (code_of cs k.tier k.num) ≡ true → is_some (cond b (Some c.code) (code_of cs k.tier k.num)) ≡ true
-    go true f = refl
-    go false f = f
-
 abbrev HaveOk : {B : Type 0} → Past B → ℕ → Code → Type 0
 HaveOk Q x k = (Q.server.served k.tier k.num ≡ Some k.code) × (holds Q k.tier k.num x ≡ true)
 
@@ -217,13 +198,13 @@ retry_ok {B} c P h soup x σ k = record {
   turn_ok = still c.u h (mid_soup soup) x σ.log σ.log (asks c.u x (open_at σ.log)) None (knows c P h soup x σ k) k.log (λ g same m. every-each (SendOk c.u g (mid_soup soup) x) (2 * c.u + 1) (is x) (λ y. (y, Ask (open_at σ.log))) (λ y. tt));
   good = λ p b w d. k.good x k.inside p b w d;
   is_facts = refl;
-  is_sends = mid_soup-append (log_packets MidTier x (asks c.u x (open_at σ.log))) (again c.u x σ) ∙ ap (λ z. mid_soup (log_packets MidTier x (asks c.u x (open_at σ.log))) ++ z) (no_mid _ (again_none c.u x σ)) ∙ nil (mid_soup (log_packets MidTier x (asks c.u x (open_at σ.log)))) ∙ mid_soup-log x (asks c.u x (open_at σ.log));
+  is_sends = mid_soup-append (log_packets MidTier x (asks c.u x (open_at σ.log))) (again c.u x σ) ∙ ap (λ z. mid_soup (log_packets MidTier x (asks c.u x (open_at σ.log))) ++ z) (no_mid _ (again_none c.u x σ)) ∙ append-nil (mid_soup (log_packets MidTier x (asks c.u x (open_at σ.log)))) ∙ mid_soup-log x (asks c.u x (open_at σ.log));
   is_log = refl;
   no_back = λ v. back_soup-append v (log_packets MidTier x (asks c.u x (open_at σ.log))) (again c.u x σ) ∙ ap (λ z. z ++ back_soup v (again c.u x σ)) (back_soup-mid v x (asks c.u x (open_at σ.log))) ∙ no_back _ (again_none c.u x σ) v;
   codes = λ i q e. absurd (cc);
   runs = λ i r e. absurd (cc);
   later = λ Q g kn e rs.
-      let o : MidOther c Q x σ = other-more c P Q x σ g (e ∙ nil (P.codes x)) k.other in
+      let o : MidOther c Q x σ = other-more c P Q x σ g (e ∙ append-nil (P.codes x)) k.other in
       record { other = o; sends = every-append (SentOk c Q) (log_packets MidTier x (asks c.u x (open_at σ.log))) (again c.u x σ) (every-log c Q MidTier x (asks c.u x (open_at σ.log))) (again_ok c Q x σ kn o) };
 }
 

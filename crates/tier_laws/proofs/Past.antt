@@ -27,29 +27,16 @@ use Rattle.round_model.specs.Verdicts.{Vote}
 use Rattle.run_model.specs.World.{Config}
 use Rattle.tier_laws.specs.Said.{Laws}
 use Rattle.tier_laws.proofs.Ledger.{Decision, answers-kept, tables-kept}
-use Rattle.tier_laws.proofs.Rounds.{Kept}
+use Rattle.tier_laws.proofs.Rounds.{kept-refl}
 use Rattle.tier_laws.proofs.Stable.{MoreLog, after-more, round-more}
-use Rattle.tier_laws.proofs.Maps.{Server}
 use Rattle.tier_model.specs.Mid.{Mid}
 use Rattle.tier_model.specs.Moves.{Packet, tier_of, index_of}
 
 pub more-refl : {V : Type 0} (xs : List V) → MoreLog xs xs
 more-refl xs = record { at = λ i v e. e }
 
-pub kept-refl : {B : Type 0} (O : Server B) → Kept O O
-kept-refl O = record { calls = λ t n text e. e; replies = λ c s text e. e; served = λ t n code e. e }
-
 pub grows-refl : {B : Type 0} (P : Past B) → Grows P P
 grows-refl P = record { held = λ x t n e. e; log = more-refl P.log; kept = kept-refl P.server; runs = more-refl P.runs; submitted = more-refl P.submitted }
-
-pub grows-trans : {B : Type 0} (P Q R : Past B) → Grows P Q → Grows Q R → Grows P R
-grows-trans P Q R a b = record {
-  held = λ x t n e. b.held x t n (a.held x t n e);
-  log = record { at = λ i v e. b.log.at i v (a.log.at i v e) };
-  kept = record { calls = λ t n text e. b.kept.calls t n text (a.kept.calls t n text e); replies = λ c s text e. b.kept.replies c s text (a.kept.replies c s text e); served = λ t n code e. b.kept.served t n code (a.kept.served t n code e) };
-  runs = record { at = λ i v e. b.runs.at i v (a.runs.at i v e) };
-  submitted = record { at = λ i v e. b.submitted.at i v (a.submitted.at i v e) };
-}
 
 -- FACTS
 

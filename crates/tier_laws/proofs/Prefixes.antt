@@ -30,7 +30,8 @@ use Rattle.run_model.proofs.Appending.{run-append}
 use Rattle.tier_laws.proofs.Logs.{meets_good}
 use Rattle.tier_laws.proofs.Past.{BackOk, FloorOk, ManyHold, VerdictOk}
 use Rattle.tier_laws.proofs.Soups.{back_soup}
-use Rattle.tier_laws.proofs.Told.{held_for, sent, some_code}
+use Rattle.tier_laws.proofs.Told.{held_for, sent}
+use Rattle.tier_laws.proofs.Lists.{some_of}
 
 -- the nodes' codes are held, by prefixes of the events
 record HeldAt {B : Type 0} (c : Config B) (es : List TraceEvent) (w : World B) : Type 0 where
@@ -111,7 +112,7 @@ held_now : {B : Type 0} (c : Config B) (es : List TraceEvent) → c.u < 128 → 
 held_now c es few laws = held_from c es [] start few refl (record { inv = start_ok c laws; hold = λ x t n code l e. absurd (let f : None ≡ Some code = sym (ap (λ cs. code_of cs t n) (start_codes c laws x)) ∙ e in cc) })
 
 many_holders : {B : Type 0} (c : Config B) (es : List TraceEvent) (k : HeldAt c es (world c es)) (t : Tier) (n : ℕ) → ManyHold c (past c (world c es) k.inv.codes) t n → ManyHolders c es t n
-many_holders c es k t n many = ((λ x. is_some (code_of (k.inv.codes x) t n)), many, λ x l e. let a = some_code (code_of (k.inv.codes x) t n) e in k.hold x t n a.0 l a.1)
+many_holders c es k t n many = ((λ x. is_some (code_of (k.inv.codes x) t n)), many, λ x l e. let a = some_of (code_of (k.inv.codes x) t n) e in k.hold x t n a.0 l a.1)
 
 -- WHO HOLDS WHAT IS USED, TOLD OR SETTLED
 

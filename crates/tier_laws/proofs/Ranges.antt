@@ -1,7 +1,7 @@
 -- The stores and jobs of rounds are in range: at most 16 segments, each of a request.
-use Rattle.std.proofs.Common.{◌≡◌, ℕ, ◌+◌, ◌<◌, ◌≤◌, Bool, true, false, cond, List, [], ◌∷◌, ◌++◌, length, map, refl, sym, ap, ◌∙◌, subst, inl, inr, Option, Some, None, zero, suc, arith}
+use Rattle.std.proofs.Common.{◌≡◌, ℕ, ◌+◌, ◌<◌, ◌≤◌, Bool, true, false, cond, List, [], ◌∷◌, length, map, refl, sym, ap, ◌∙◌, subst, inl, inr, Option, Some, None, zero, suc, arith}
 use Rattle.std.specs.Prelude.{slice_get, ◌⊎◌, ◌==◌, ◌||◌}
-use Rattle.std.proofs.lemmas.Bool.{cond-false, eq-eqb, ne_eqb, cases_eq}
+use Rattle.std.proofs.lemmas.Bool.{cond-false, ne_eqb}
 use Rattle.std.proofs.lemmas.Option.{cond_some}
 use Rattle.aeg_base.specs.Store.{Store}
 use Rattle.aeg_base.proofs.StoreLaws.{value_at-empty}
@@ -9,6 +9,7 @@ use Rattle.svc_api.specs.Requests.{IsRequest}
 use Rattle.svc_api.specs.declared.action.Ending.{Ending}
 use Rattle.exec_model.specs.declared.job.Seg.{Seg}
 use Rattle.log_model.specs.Log.{count_below}
+use Rattle.log_model.proofs.Basics.{count-one}
 use Rattle.log_values.specs.declared.any_value.AnyValue.{AnyValue}
 use Rattle.log_values.specs.declared.mid_value.Verdict.{Verdict}
 use Rattle.log_values.specs.declared.entry.Entry.{Entry}
@@ -20,9 +21,9 @@ use Rattle.tier_laws.specs.Said.{IsStore, IsJob, Laws}
 use Rattle.tier_laws.proofs.Stable.{then_parts, round_parts, RoundParts}
 use Rattle.tier_laws.proofs.Acts.{acts_want, NoneOf, Distinct}
 use Rattle.tier_laws.proofs.Legal.{job_at, job-length}
-use Rattle.tier_laws.proofs.Wants.{get_cases, get_map, concat-head, concat-push, parks_acts, fresh-at, is_fresh_parts, IsFresh, in_range_parts, InRange}
+use Rattle.tier_laws.proofs.Wants.{concat-head, concat-push, parks_acts, fresh-at, is_fresh_parts, IsFresh, in_range_parts, InRange}
 use Rattle.tier_laws.proofs.Mirrors.{wants_distinct_of, settled_one, parked_is, no_parked}
-use Rattle.tier_laws.proofs.Ledger.{get-left}
+use Rattle.tier_laws.proofs.Lists.{get_cases, get_left, get_right, get_map}
 
 abbrev IsAsked : ℕ → ℕ → Type 0
 IsAsked client seq = IsRequest (record { client = client; seq = seq })
@@ -41,29 +42,6 @@ pub record RoundIn (R : Round) : Type 0 where
 has_client : List Want → ℕ → Bool
 has_client [] c = false
 has_client (w ∷ ws) c = (w.client == c) || has_client ws c
-
-count-one : (n a : ℕ) (f : ℕ → Bool) → a < n → f a ≡ false → count_below n (λ c. (a == c) || f c) ≡ suc (count_below n f)
-count-one zero a f l e = absurd (omega arith)
-count-one (suc n) a f l e = go (cases_eq a n) (count-one n a f)
-  where
-    other : (a == n) ≡ false → ◌≡◌ {A = ℕ} (cond ((a == n) || f n) 1 0) (cond (f n) 1 0)
-    other g = rw g refl
-
-    here : (a == n) ≡ true → ◌≡◌ {A = ℕ} (cond ((a == n) || f n) 1 0) 1
-    here g = rw g refl
-
-    same : (m : ℕ) → m ≤ a → count_below m (λ c. (a == c) || f c) ≡ count_below m f
-    same zero l = refl
-    same (suc m) l =
-        let g : (a == m) ≡ false = ne_eqb a m (λ h. omega arith) in
-        let h : ◌≡◌ {A = ℕ} (cond ((a == m) || f m) 1 0) (cond (f m) 1 0) = rw g refl in
-        omega (arith, h, same m (omega arith))
-
-    go : (a ≡ n) ⊎ (a ≡ n → ⊥) → (a < n → f a ≡ false → count_below n (λ c. (a == c) || f c) ≡ suc (count_below n f)) → cond ((a == n) || f n) 1 0 + count_below n (λ c. (a == c) || f c) ≡ suc (cond (f n) 1 0 + count_below n f)
-    go (inl g) rec =
-        let z : ◌≡◌ {A = ℕ} (cond (f n) 1 0) 0 = cond-false {A = ℕ} (f n) 1 0 (subst (λ z. f z ≡ false) g e) in
-        omega (arith, here (eq-eqb a n g), same n (omega arith), z)
-    go (inr g) rec = omega (arith, other (ne_eqb a n g), rec (omega arith) e)
 
 none_has : (ws : List Want) (c : ℕ) → NoneOf c ws → has_client ws c ≡ false
 unfolding has_client
@@ -107,7 +85,7 @@ wants_asked {B} m T es k i w e = go (get_cases (map resumed (head_of T.queue)) (
     go : (slice_get (map resumed (head_of T.queue)) i ≡ Some w) ⊎ ((j : ℕ) × (slice_get (map started (fresh_of m T [] es)) j ≡ Some w)) → IsAsked w.client w.seq
     go (inl f) =
         let a = get_map resumed (head_of T.queue) i w f in
-        subst (λ (z : Want). IsAsked z.client z.seq) a.2 (k.asked i a.0 (subst (λ z. slice_get z i ≡ Some a.0) (sym (concat-head T.queue)) (get-left (head_of T.queue) (concat (tail_of T.queue)) i a.0 a.1)))
+        subst (λ (z : Want). IsAsked z.client z.seq) a.2 (k.asked i a.0 (subst (λ z. slice_get z i ≡ Some a.0) (sym (concat-head T.queue)) (get_left (head_of T.queue) (concat (tail_of T.queue)) i a.0 a.1)))
     go (inr r) =
         let a = get_map started (fresh_of m T [] es) r.0 w r.1 in
         let f : IsFresh m T a.0 = is_fresh_parts m T a.0 (fresh-at m T [] es r.0 a.0 a.1).0 in
@@ -140,12 +118,8 @@ settled_in {B} m T es store ends k s = record {
   one = settled_one m T es ends k.one;
 }
   where
-    right : (xs ys : List Parked) (i : ℕ) (p : Parked) → slice_get ys i ≡ Some p → (j : ℕ) × (slice_get (xs ++ ys) j ≡ Some p)
-    right [] ys i p e = (i, e)
-    right (x ∷ xs) ys i p e = let r = right xs ys i p e in (suc r.0, r.1)
-
     asked : (i : ℕ) (p : Parked) → (slice_get (concat (tail_of T.queue)) i ≡ Some p) ⊎ ((j : ℕ) × (slice_get (parks T.next (wants m T es) ends) j ≡ Some p)) → IsAsked p.client p.seq
-    asked i p (inl e) = let r = right (head_of T.queue) (concat (tail_of T.queue)) i p e in k.asked r.0 p (subst (λ z. slice_get z r.0 ≡ Some p) (sym (concat-head T.queue)) r.1)
+    asked i p (inl e) = let r = get_right (head_of T.queue) (concat (tail_of T.queue)) i p e in k.asked r.0 p (subst (λ z. slice_get z r.0 ≡ Some p) (sym (concat-head T.queue)) r.1)
     asked i p (inr f) =
         let a = parks_acts T.next (wants m T es) ends f.0 p f.1 in
         let q = parked_is a.1.want a.1.num a.1.ending p a.3 in

@@ -80,6 +80,9 @@ pub record Kept {B : Type 0} (O P : Server B) : Type 0 where
   pub replies : (c s : ℕ) (text : List ℕ) → O.replies c s ≡ Some text → P.replies c s ≡ Some text
   pub served : (t : Tier) (n code : ℕ) → O.served t n ≡ Some code → P.served t n ≡ Some code
 
+pub kept-refl : {B : Type 0} (O : Server B) → Kept O O
+kept-refl O = record { calls = λ t n text e. e; replies = λ c s text e. e; served = λ t n code e. e }
+
 pub told-kept : {B : Type 0} (O P : Server B) (w : Want) (k : ℕ) (e : Ending) → Kept O P → ToldOne O w k e → ToldOne P w k e
 told-kept O P w k (Reply text) g t = g.replies w.client w.seq text t
 told-kept O P w k (Call t stage text) g h = g.calls t k text h

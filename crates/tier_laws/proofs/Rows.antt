@@ -1,7 +1,8 @@
 -- The rows of a middle node beside the log.
 use Rattle.std.proofs.Common.{◌≡◌, ℕ, ◌+◌, ◌*◌, Bool, true, false, cond, List, [], ◌∷◌, ◌++◌, refl, sym, ap, ◌∙◌, subst, inl, inr, Option, Some, None, zero, suc}
 use Rattle.std.specs.Prelude.{slice_get, ◌⊎◌, ◌==◌, ◌&&◌, ◌||◌, not, nat_lt}
-use Rattle.std.proofs.lemmas.Bool.{cond-true, cond_both, and_parts, eqb-true, eq-eqb, cases_eq}
+use Rattle.std.proofs.lemmas.Bool.{cond_both, and_parts, eqb-true, cases_eq}
+use Rattle.std.proofs.lemmas.List.{append-nil}
 use Rattle.aeg_base.specs.declared.names.Tier.{Tier}
 use Rattle.log_model.proofs.Basics.{Every}
 use Rattle.log_model.specs.Log.{is, open_at}
@@ -15,15 +16,15 @@ use Rattle.round_model.specs.Service.{Service}
 use Rattle.round_model.specs.Tables.{last_of, kept_of, pending_of, job_of, wants}
 use Rattle.round_model.specs.Verdicts.{Vote, vote_of}
 use Rattle.run_model.specs.World.{Config, the_run}
-use Rattle.server_model.specs.Server.{same_tier}
-use Rattle.tier_laws.proofs.Lists.{at_here, at_there, tier_same}
+use Rattle.tier_laws.proofs.Lists.{at_here, at_there, pushed}
 use Rattle.tier_laws.proofs.Apply.{every-each}
 use Rattle.tier_laws.proofs.Moves.{Here, Later, MoveOk, none_apply, plain, prefix, quiet, ready_later, stays_ok}
 use Rattle.tier_laws.proofs.Past.{DidRun, Grows, Known, MidOther, SentOk, Past, RunOk, Submitted, holds, other-more, run-more, submitted-more}
 use Rattle.tier_laws.proofs.Stable.{then_parts}
 use Rattle.tier_laws.proofs.Verdicts.{run_right}
 use Rattle.frames.specs.declared.turn.Idle.TheVariants as why
-use Rattle.tier_laws.proofs.Soups.{nil, NoLog, none_nil, none_each}
+use Rattle.tier_laws.proofs.Soups.{NoLog, none_nil, none_each}
+use Rattle.tier_laws.proofs.Codes.{code_of-push}
 use Rattle.tier_model.specs.Mid.{Mid, Ready, applies, ready}
 use Rattle.exec_model.specs.Jobs.{run_job}
 use Rattle.tier_model.specs.MidRows.{holds as with_answers, have_to, token_to, Running, running, usable_here, has_seq, haves, on_answer, on_have, on_request, on_token, pends, runs, runs_or_not, takes_answer, tallied, tells_again, to_run, with_own, work, work_run}
@@ -63,23 +64,6 @@ request_ok {B} c P h soup x σ y s body k sub =
 
 -- TOKENS
 
-pub push_at : {A : Type 0} (xs : List A) (a : A) (i : ℕ) (b : A) → slice_get (xs ++ a ∷ []) i ≡ Some b → ((j : ℕ) × (slice_get xs j ≡ Some b)) ⊎ (a ≡ b)
-push_at [] a zero b e = inr (cc)
-push_at [] a (suc i) b e = absurd (cc)
-push_at (x ∷ xs) a zero b e = inl (0, e)
-push_at {A} (x ∷ xs) a (suc i) b e = go (push_at xs a i b e)
-  where
-    go : ((j : ℕ) × (slice_get xs j ≡ Some b)) ⊎ (a ≡ b) → ((j : ℕ) × (slice_get (x ∷ xs) j ≡ Some b)) ⊎ (a ≡ b)
-    go (inl q) = inl (suc q.0, q.1)
-    go (inr q) = inr q
-
-pub pushed : {A : Type 0} (G : A → Type 0) (xs : List A) (a : A) → ((i : ℕ) (b : A) → slice_get xs i ≡ Some b → G b) → G a → (i : ℕ) (b : A) → slice_get (xs ++ a ∷ []) i ≡ Some b → G b
-pushed {A} G xs a k g i b e = go (push_at xs a i b e)
-  where
-    go : ((j : ℕ) × (slice_get xs j ≡ Some b)) ⊎ (a ≡ b) → G b
-    go (inl q) = k q.0 b q.1
-    go (inr q) = subst G q g
-
 tallied_other : {B : Type 0} (c : Config B) (Q : Past B) (x : ℕ) (σ : Mid) (v : Vote) → DidRun Q v → MidOther c Q x σ → MidOther c Q x (tallied σ v)
 tallied_other c Q x σ v r o = record { is_after = o.is_after; tables = o.tables; pending = o.pending; spec = o.spec; held = o.held; noted = o.noted; tally = pushed (DidRun Q) σ.tally v o.tally r }
 
@@ -93,17 +77,6 @@ token_ok c P h soup x σ v k r =
 
 have_none : (u x : ℕ) (t : Tier) (n code : ℕ) → NoLog (haves u x t n code)
 have_none u x t n code = none_each (2 * u + 1) (is x) (have_to x t n code) (λ y. record { all = λ v. refl })
-
-code_of-push : (cs : List Code) (t : Tier) (n code : ℕ) → is_some (code_of (cs ++ record { tier = t; num = n; code = code } ∷ []) t n) ≡ true
-code_of-push [] t n code = ap is_some (cond-true (same_tier t t && (n == n)) (Some code) None (both (same_tier t t) (n == n) (tier_same t) (eq-eqb n n refl)))
-  where
-    both : (a b : Bool) → a ≡ true → b ≡ true → (a && b) ≡ true
-    both a b e f = rw (e, f) refl
-code_of-push (c ∷ cs) t n code = go (same_tier c.tier t && (c.num == n)) (code_of-push cs t n code)
-  where
-    go : (b : Bool) → is_some (code_of (cs ++ record { tier = t; num = n; code = code } ∷ []) t n) ≡ true → is_some (cond b (Some c.code) (code_of (cs ++ record { tier = t; num = n; code = code } ∷ []) t n)) ≡ true
-    go true e = refl
-    go false e = e
 
 -- an answer is taken: its fact is written
 takes_ok : {B : Type 0} (c : Config B) (P : Past B) (h : ℕ → List (LogFact AnyValue)) (soup : List Packet) (x : ℕ) (σ : Mid) (noted : List Noted) (t : Tier) (n code : ℕ) → Here c P h soup x σ → P.server.served t n ≡ Some code
@@ -139,24 +112,17 @@ have_ok c P h soup x σ from t n code k s f =
 
 -- WORK
 
-with_own_at : (vs : List Vote) (v : Vote) (i : ℕ) (w : Vote) → slice_get (with_own vs v) i ≡ Some w → ((j : ℕ) × (slice_get vs j ≡ Some w)) ⊎ (v ≡ w)
-with_own_at vs v i w e = go (is_some (vote_of vs v.round v.from)) e
-  where
-    go : (b : Bool) → slice_get (cond b vs (vs ++ v ∷ [])) i ≡ Some w → ((j : ℕ) × (slice_get vs j ≡ Some w)) ⊎ (v ≡ w)
-    go true f = inl (i, f)
-    go false f = push_at vs v i w f
+-- its own vote is among them
+with_own_each : (G : Vote → Type 0) (vs : List Vote) (v : Vote) → ((i : ℕ) (w : Vote) → slice_get vs i ≡ Some w → G w) → G v → (i : ℕ) (w : Vote) → slice_get (with_own vs v) i ≡ Some w → G w
+with_own_each G vs v old own = cond_both (is_some (vote_of vs v.round v.from)) vs (vs ++ v ∷ []) (λ z. (i : ℕ) (w : Vote) → slice_get z i ≡ Some w → G w) (λ e. old) (λ e. pushed G vs v old own)
 
 runs_ok : {B : Type 0} (c : Config B) (P : Past B) (h : ℕ → List (LogFact AnyValue)) (soup : List Packet) (x : ℕ) (σ : Mid) (r : Running) → Here c P h soup x σ → r.vote.from ≡ x → RunOk c P r.vote → MoveOk c P h soup x (r.vote ∷ []) (runs c.u x σ r)
 runs_ok {B} c P h soup x σ r k from ok = plain c P h soup x σ (r.vote ∷ []) (runs c.u x σ r) k refl refl (none_each (2 * c.u + 1) (is x) (token_to x r.vote) (λ y. record { all = λ t. refl }))
-    (λ i q e. absurd (cc)) one later
+    (λ i q e. absurd (cc)) (pushed (RunOk c P) [] r.vote (λ i w e. absurd (cc)) ok) later
   where
-    one : (i : ℕ) (w : Vote) → slice_get (r.vote ∷ []) i ≡ Some w → RunOk c P w
-    one zero w e = let f : r.vote ≡ w = cc in subst (RunOk c P) f ok
-    one (suc i) w e = absurd (cc)
-
     later : (Q : Past B) → Grows P Q → Known c Q → Q.codes x ≡ P.codes x ++ [] → ((i : ℕ) (w : Vote) → slice_get (r.vote ∷ []) i ≡ Some w → DidRun Q w) → Later c Q x (runs c.u x σ r)
     later Q g kn e rs =
-        let o : MidOther c Q x σ = other-more c P Q x σ g (e ∙ nil (P.codes x)) k.other in
+        let o : MidOther c Q x σ = other-more c P Q x σ g (e ∙ append-nil (P.codes x)) k.other in
         let mine : DidRun Q r.vote = rs 0 r.vote refl in
         record {
           other = record {
@@ -166,14 +132,10 @@ runs_ok {B} c P h soup x σ r k from ok = plain c P h soup x σ (r.vote ∷ []) 
             held = o.held;
             noted = o.noted;
             spec = λ w f. let s : r.vote ≡ w = cc in subst (DidRun Q) s mine;
-            tally = λ i w f. tally i w mine o.tally (with_own_at σ.tally r.vote i w f);
+            tally = with_own_each (DidRun Q) σ.tally r.vote o.tally mine;
           };
           sends = every-each (SentOk c Q) (2 * c.u + 1) (is x) (token_to x r.vote) (λ y. subst (λ z. DidRun Q (record { round = r.vote.round; from = z; token = r.vote.token; order = r.vote.order })) from mine);
         }
-      where
-        tally : (i : ℕ) (w : Vote) → DidRun Q r.vote → ((i : ℕ) (w : Vote) → slice_get σ.tally i ≡ Some w → DidRun Q w) → ((j : ℕ) × (slice_get σ.tally j ≡ Some w)) ⊎ (r.vote ≡ w) → DidRun Q w
-        tally i w mine o (inl q) = o q.0 w q.1
-        tally i w mine o (inr q) = subst (DidRun Q) q mine
 
 ran_from : {B : Type 0} (u : ℕ) (m : Service B) (x : ℕ) (σ : Mid) (schedule : List ℕ) (r : Running) → to_run u m x σ schedule ≡ Some r → r.vote.from ≡ x
 ran_from {B} u m x σ schedule r e = go (is_some σ.spec) e
@@ -192,7 +154,7 @@ ready_state : {B : Type 0} (c : Config B) (P : Past B) (h : ℕ → List (LogFac
 ready_state c P h soup x σ None k f = stays_ok c P h soup x σ k
 ready_state {B} c P h soup x σ (Some R) k f = plain c P h soup x σ [] (applies c.u c.service x σ (Some R)) k refl refl (none_apply c.u x σ (Some R)) (λ i q e. absurd (cc)) (λ i r e. absurd (cc))
     (λ Q g kn e rs.
-    let o : MidOther c Q x σ = other-more c P Q x σ g (e ∙ nil (P.codes x)) k.other in
+    let o : MidOther c Q x σ = other-more c P Q x σ g (e ∙ append-nil (P.codes x)) k.other in
     let r = ready_later c Q x σ (Some R) kn o (record { at = λ p v f. g.log.at p v ((prefix c P h soup x σ k).at p v f) }) (λ S g. f ∙ g) in
     record { other = r.0; sends = r.1 })
 

@@ -1,5 +1,5 @@
 -- The one server's lists show what its look-up functions have, and no step of a history that these take is refused.
-use Rattle.std.proofs.Common.{◌≡◌, ℕ, ◌+◌, ◌<◌, ◌≤◌, Bool, true, false, cond, List, [], ◌∷◌, ◌++◌, length, refl, sym, ap, ◌∙◌, subst, inl, inr, Option, Some, None, zero, suc, arith}
+use Rattle.std.proofs.Common.{◌≡◌, ℕ, ◌+◌, ◌<◌, ◌≤◌, Bool, true, false, cond, List, [], ◌∷◌, ◌++◌, length, refl, sym, ap, ◌∙◌, subst, inl, inr, Option, Some, None, suc, arith}
 use Rattle.std.specs.Prelude.{slice_get, ◌⊎◌, ◌==◌, ◌&&◌, not, nat_lt, slice_index, slice_index_or, slice_set, IsSome}
 use Rattle.std.proofs.lemmas.Bool.{cond-true, cond-false, eq-eqb, eqb-true, ne_eqb, ltb-true, cases_lt, cases_eq}
 use Rattle.std.proofs.lemmas.List.{get_or-set_same, get_or-set_other, length-set, get_or-replicate}
@@ -24,8 +24,9 @@ use Rattle.round_model.specs.Service.{Service, row_of, run}
 use Rattle.run_model.specs.Histories.{put, HistoryStep}
 use Rattle.tier_laws.proofs.Maps.{Progress, Server, Result, put_number, replied, called, ran, next_seg, coded, serves, resumes, resume, start_at, step_as, step, empty_server, result_or, IsDone, server_from, LegalFrom, Legal}
 use Rattle.tier_laws.proofs.Maps.Result.{Refused, Done}
-use Rattle.tier_laws.proofs.Lists.{put_here, put_there, tier_same, tier_eq, tier_cases}
+use Rattle.tier_laws.proofs.Lists.{put_here, put_there, tier_same, tier_eq, tier_cases, get_end, get_left}
 use Rattle.tier_laws.proofs.Rounds.{number_cases, number_here}
+use Rattle.tier_laws.proofs.Codes.{same_number}
 
 abbrev as_progress : Option Progress → Option Waiting
 as_progress None = None
@@ -90,11 +91,8 @@ found-put {A} xs f t n a same none v k = found-push xs t n a v k ∙ ap (λ z. o
         subst (λ z. or_last (f z k) (cond (same_tier t z && (n == k)) (Some a) None) ≡ put_number f t n (Some a) z k) (sym e)
         (subst (λ z. or_last (f t z) (cond (same_tier t t && (n == z)) (Some a) None) ≡ put_number f t n (Some a) t z) (sym g) here)
       where
-        both : (a b : Bool) → a ≡ true → b ≡ true → (a && b) ≡ true
-        both a b e f = rw (e, f) refl
-
         here : or_last (f t n) (cond (same_tier t t && (n == n)) (Some a) None) ≡ put_number f t n (Some a) t n
-        here = ap (λ z. or_last z (cond (same_tier t t && (n == n)) (Some a) None)) none ∙ cond-true (same_tier t t && (n == n)) (Some a) None (both (same_tier t t) (n == n) (tier_same t) (eq-eqb n n refl)) ∙ sym (number_here f t n (Some a))
+        here = ap (λ z. or_last z (cond (same_tier t t && (n == n)) (Some a) None)) none ∙ cond-true (same_tier t t && (n == n)) (Some a) None (same_number t n) ∙ sym (number_here f t n (Some a))
     go (inl e) (inr g) = there (same_tier t v && (n == k)) (f v k) (apart_num g) ∙ sym (kept (number_cases f t n (Some a) v k))
       where
         kept : ((v ≡ t) × (k ≡ n)) ⊎ (put_number f t n (Some a) v k ≡ f v k) → put_number f t n (Some a) v k ≡ f v k
@@ -105,15 +103,6 @@ found-put {A} xs f t n a same none v k = found-push xs t n a v k ∙ ap (λ z. o
         kept : ((v ≡ t) × (k ≡ n)) ⊎ (put_number f t n (Some a) v k ≡ f v k) → put_number f t n (Some a) v k ≡ f v k
         kept (inl p) = absurd (let q : same_tier t t ≡ false = subst (λ z. same_tier z t ≡ false) p.0 e in let h = tier_same t in cc)
         kept (inr p) = p
-
-get-more : {A : Type 0} (xs ys : List A) (i : ℕ) (a : A) → slice_get xs i ≡ Some a → slice_get (xs ++ ys) i ≡ Some a
-get-more [] ys i a e = absurd (cc)
-get-more (x ∷ xs) ys zero a e = e
-get-more (x ∷ xs) ys (suc i) a e = get-more xs ys i a e
-
-get-new : {A : Type 0} (xs : List A) (a : A) → slice_get (xs ++ a ∷ []) (length xs) ≡ Some a
-get-new [] a = refl
-get-new (x ∷ xs) a = get-new xs a
 
 -- BY CLIENT
 
@@ -156,13 +145,13 @@ replied_shows {B} m O s who store text l k = record {
     staged c g e (inr f) = k.staged c g (sym (put_there O.progress who.client None c f) ∙ e)
 
     old : (c n : ℕ) (t : List ℕ) → O.replies c n ≡ Some t → (i : ℕ) × (slice_get (s.replies ++ (who, text) ∷ []) i ≡ Some (record { client = c; seq = n }, t))
-    old c n t e = let r = k.replies c n t e in (r.0, get-more s.replies ((who, text) ∷ []) r.0 (record { client = c; seq = n }, t) r.1)
+    old c n t e = let r = k.replies c n t e in (r.0, get_left s.replies ((who, text) ∷ []) r.0 (record { client = c; seq = n }, t) r.1)
 
     replies : (c n : ℕ) (t : List ℕ) → put O.replies who.client (put (O.replies who.client) who.seq (Some text)) c n ≡ Some t → (c ≡ who.client) ⊎ (c ≡ who.client → ⊥) → (n ≡ who.seq) ⊎ (n ≡ who.seq → ⊥) → (i : ℕ) × (slice_get (s.replies ++ (who, text) ∷ []) i ≡ Some (record { client = c; seq = n }, t))
     replies c n t e (inl f) (inl g) =
         let here : put O.replies who.client (put (O.replies who.client) who.seq (Some text)) c n ≡ Some text = ap (λ z. put O.replies who.client (put (O.replies who.client) who.seq (Some text)) z n) f ∙ ap (λ (h : ℕ → Option (List ℕ)). h n) (put_here O.replies who.client (put (O.replies who.client) who.seq (Some text))) ∙ ap (put (O.replies who.client) who.seq (Some text)) g ∙ put_here (O.replies who.client) who.seq (Some text) in
         let same : text ≡ t = cc in
-        (length s.replies, get-new s.replies (who, text) ∙ (λ i. Some (record { client = sym f i; seq = sym g i }, same i)))
+        (length s.replies, get_end s.replies (who, text) ∙ (λ i. Some (record { client = sym f i; seq = sym g i }, same i)))
     replies c n t e (inl f) (inr g) =
         old c n t (subst (λ z. O.replies z n ≡ Some t) (sym f) (sym (put_there (O.replies who.client) who.seq (Some text) n g) ∙ sym (ap (λ (h : ℕ → Option (List ℕ)). h n) (put_here O.replies who.client (put (O.replies who.client) who.seq (Some text)))) ∙ sym (ap (λ z. put O.replies who.client (put (O.replies who.client) who.seq (Some text)) z n) f) ∙ e))
     replies c n t e (inr f) g = old c n t (sym (ap (λ (h : ℕ → Option (List ℕ)). h n) (put_there O.replies who.client (put (O.replies who.client) who.seq (Some text)) c f)) ∙ e)
@@ -304,6 +293,16 @@ serve_inv m O s n b none k = record { store = k.store; last = k.last; progress =
 serve_pay : {B : Type 0} (m : Service B) (O : Server B) (s : real.Server B) (n : ℕ) (b : Served B) → O.served Pay n ≡ None → Shows m O s → Shows m (coded O Pay n b) (real.with_backend s Pay n b)
 serve_pay m O s n b none k = record { store = k.store; last = k.last; progress = k.progress; outside = k.outside; calls = k.calls; served = found-put s.served O.served Pay n b.code k.served none; inventory = k.inventory; payment = refl; replies = k.replies; staged = k.staged; lasts = k.lasts; progresses = k.progresses }
 
+served_shows : {B : Type 0} (m : Service B) (O P : Server B) (s : real.Server B) (t : Tier) (n : ℕ) (body text : List ℕ) → Shows m O s → O.calls t n ≡ Some text → O.served t n ≡ None → coded O t n (m.meaning.serve t (O.backs t) text) ≡ P → real.backend_of s t ≡ O.backs t
+    → Shows m (coded O t n (m.meaning.serve t (real.backend_of s t) text)) (real.with_backend s t n (m.meaning.serve t (real.backend_of s t) text)) → Stepped m P (real.step m.meaning s (Serve t n) body)
+served_shows m O P s t n body text k e g same state shows = record {
+  new = real.with_backend s t n (m.meaning.serve t (real.backend_of s t) text);
+  told = Answered t n (m.meaning.serve t (real.backend_of s t) text).code;
+  goes = ap (λ z. real.serves m.meaning s t n z (found_in s.served t n)) (k.calls t n ∙ e) ∙ ap (real.serves m.meaning s t n (Some text)) (k.served t n ∙ g);
+  shows = subst (λ z. Shows m z (real.with_backend s t n (m.meaning.serve t (real.backend_of s t) text))) same
+      (subst (λ y. Shows m (coded O t n (m.meaning.serve t y text)) (real.with_backend s t n (m.meaning.serve t (real.backend_of s t) text))) state shows);
+}
+
 serve_shows : {B : Type 0} (m : Service B) (O P : Server B) (s : real.Server B) (t : Tier) (n : ℕ) (body : List ℕ) → Shows m O s → serves m O t n (O.calls t n) (O.served t n) ≡ Done P → Stepped m P (real.step m.meaning s (Serve t n) body)
 serve_shows m O P s Mid n body k f = absurd (cc)
 serve_shows {B} m O P s Inv n body k f = go (O.calls Inv n) refl (O.served Inv n) refl f
@@ -311,29 +310,13 @@ serve_shows {B} m O P s Inv n body k f = go (O.calls Inv n) refl (O.served Inv n
     go : (a : Option (List ℕ)) → O.calls Inv n ≡ a → (b : Option ℕ) → O.served Inv n ≡ b → serves m O Inv n a b ≡ Done P → Stepped m P (real.step m.meaning s (Serve Inv n) body)
     go None e b g h = absurd (cc)
     go (Some text) e (Some code) g h = absurd (cc)
-    go (Some text) e None g h =
-        let same : coded O Inv n (m.meaning.serve Inv (O.backs Inv) text) ≡ P = cc in
-        record {
-          new = real.with_backend s Inv n (m.meaning.serve Inv s.inventory text);
-          told = Answered Inv n (m.meaning.serve Inv s.inventory text).code;
-          goes = ap (λ z. real.serves m.meaning s Inv n z (found_in s.served Inv n)) (k.calls Inv n ∙ e) ∙ ap (real.serves m.meaning s Inv n (Some text)) (k.served Inv n ∙ g);
-          shows = subst (λ z. Shows m z (real.with_backend s Inv n (m.meaning.serve Inv s.inventory text))) same
-              (subst (λ y. Shows m (coded O Inv n (m.meaning.serve Inv y text)) (real.with_backend s Inv n (m.meaning.serve Inv s.inventory text))) k.inventory (serve_inv m O s n (m.meaning.serve Inv s.inventory text) g k));
-        }
+    go (Some text) e None g h = served_shows m O P s Inv n body text k e g (cc) k.inventory (serve_inv m O s n (m.meaning.serve Inv s.inventory text) g k)
 serve_shows {B} m O P s Pay n body k f = go (O.calls Pay n) refl (O.served Pay n) refl f
   where
     go : (a : Option (List ℕ)) → O.calls Pay n ≡ a → (b : Option ℕ) → O.served Pay n ≡ b → serves m O Pay n a b ≡ Done P → Stepped m P (real.step m.meaning s (Serve Pay n) body)
     go None e b g h = absurd (cc)
     go (Some text) e (Some code) g h = absurd (cc)
-    go (Some text) e None g h =
-        let same : coded O Pay n (m.meaning.serve Pay (O.backs Pay) text) ≡ P = cc in
-        record {
-          new = real.with_backend s Pay n (m.meaning.serve Pay s.payment text);
-          told = Answered Pay n (m.meaning.serve Pay s.payment text).code;
-          goes = ap (λ z. real.serves m.meaning s Pay n z (found_in s.served Pay n)) (k.calls Pay n ∙ e) ∙ ap (real.serves m.meaning s Pay n (Some text)) (k.served Pay n ∙ g);
-          shows = subst (λ z. Shows m z (real.with_backend s Pay n (m.meaning.serve Pay s.payment text))) same
-              (subst (λ y. Shows m (coded O Pay n (m.meaning.serve Pay y text)) (real.with_backend s Pay n (m.meaning.serve Pay s.payment text))) k.payment (serve_pay m O s n (m.meaning.serve Pay s.payment text) g k));
-        }
+    go (Some text) e None g h = served_shows m O P s Pay n body text k e g (cc) k.payment (serve_pay m O s n (m.meaning.serve Pay s.payment text) g k)
 
 -- the law that each call names a stage of its request
 abbrev pub Again : {B : Type 0} → Service B → Type 0

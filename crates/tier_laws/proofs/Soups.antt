@@ -1,6 +1,7 @@
 -- The packets of the logs among all packets.
 use Rattle.std.proofs.Common.{◌≡◌, ℕ, Bool, false, List, [], ◌∷◌, ◌++◌, refl, sym, ap, ◌∙◌, zero, suc}
 use Rattle.std.proofs.lemmas.Bool.{cond_both}
+use Rattle.std.proofs.lemmas.List.{append_assoc}
 use Rattle.aeg_base.specs.declared.names.Tier.{Tier}
 use Rattle.aeg_base.specs.declared.names.Tier.TheVariants.{Mid as MidTier, Inv, Pay}
 use Rattle.server_model.specs.Server.{same_tier}
@@ -23,17 +24,9 @@ back_soup MidTier ks = []
 back_soup Inv ks = log_soup Inv ks
 back_soup Pay ks = log_soup Pay ks
 
-pub nil : {A : Type 0} (xs : List A) → xs ++ [] ≡ xs
-nil [] = refl
-nil (x ∷ xs) = ap (λ z. x ∷ z) (nil xs)
-
-pub assoc : {A : Type 0} (xs ys zs : List A) → (xs ++ ys) ++ zs ≡ xs ++ (ys ++ zs)
-assoc [] ys zs = refl
-assoc (x ∷ xs) ys zs = ap (λ z. x ∷ z) (assoc xs ys zs)
-
 pub log_soup-append : (t : Tier) (xs ys : List Packet) → log_soup t (xs ++ ys) ≡ log_soup t xs ++ log_soup t ys
 log_soup-append t [] ys = refl
-log_soup-append t (k ∷ xs) ys = ap (λ z. log_part t k.from k.to k.message ++ z) (log_soup-append t xs ys) ∙ sym (assoc (log_part t k.from k.to k.message) (log_soup t xs) (log_soup t ys))
+log_soup-append t (k ∷ xs) ys = ap (λ z. log_part t k.from k.to k.message ++ z) (log_soup-append t xs ys) ∙ sym (append_assoc (log_part t k.from k.to k.message) (log_soup t xs) (log_soup t ys))
 
 pub mid_soup-append : (xs ys : List Packet) → mid_soup (xs ++ ys) ≡ mid_soup xs ++ mid_soup ys
 mid_soup-append xs ys = log_soup-append MidTier xs ys

@@ -1,5 +1,5 @@
 -- What the laws say, from the invariant.
-use Rattle.std.proofs.Common.{◌≡◌, ℕ, ◌+◌, ◌*◌, ◌<◌, Bool, true, false, cond, List, [], ◌∷◌, ◌++◌, refl, sym, ap, ◌∙◌, subst, inl, inr, Option, Some, None, arith}
+use Rattle.std.proofs.Common.{◌≡◌, ℕ, ◌+◌, ◌*◌, ◌<◌, true, false, List, refl, sym, ap, ◌∙◌, subst, Some, arith}
 use Rattle.std.specs.Prelude.{slice_get}
 use Rattle.std.proofs.lemmas.Slice.Eq.{bytes_eq-Decides}
 use Rattle.aeg_base.specs.declared.names.ReqId.{ReqId}
@@ -12,11 +12,9 @@ use Rattle.log_model.proofs.Basics.{every-get}
 use Rattle.log_model.proofs.Invariant.{PacketOk}
 use Rattle.log_model.specs.declared.message.PaxMsg.TheVariants.{Learn}
 use Rattle.log_model.specs.Chosen.{Meets}
-use Rattle.log_model.specs.Recover.{newest, learned_in, onto}
-use Rattle.log_model.proofs.Step.{put_same, grown}
-use Rattle.log_model.specs.World.{Packet as LogPacket, Mode, put}
+use Rattle.log_model.specs.Recover.{newest, learned_in}
+use Rattle.log_model.specs.World.{Packet as LogPacket, Mode}
 use Rattle.log_model.specs.World.Mode.{Down, Gone, Up}
-use Rattle.log_model.specs.declared.fact.Fact.{Fact as LogFact}
 use Rattle.log_values.specs.declared.fact.Fact.{Fact}
 use Rattle.log_values.specs.declared.any_value.AnyValue.{AnyValue}
 use Rattle.log_values.specs.declared.any_value.AnyValue.TheVariants.{Mid as OfMid}
@@ -27,7 +25,6 @@ use Rattle.frames.specs.declared.message.Msg.{Msg}
 use Rattle.frames.specs.declared.message.Msg.TheVariants as msgs
 use Rattle.round_model.specs.After.{Round, round, after}
 use Rattle.round_model.specs.Answers.{Code, code_of}
-use Rattle.round_model.specs.Lists.{is_some}
 use Rattle.round_model.specs.Tables.{Number, Want}
 use Rattle.run_model.specs.World.{Config, World}
 use Rattle.run_model.specs.Runs.{is_in, log_soup, served_of}
@@ -35,8 +32,8 @@ use Rattle.tier_model.specs.Back.{Back}
 use Rattle.tier_model.specs.Mid.{Mid}
 use Rattle.tier_model.specs.Moves.{tier_of, index_of, Packet, log_facts, held_in}
 use Rattle.tier_laws.specs.Said.{HasReply, HasCall, HasAnswer, chosen_log, MidLearned, BackLearned, HasLearned, StandsFor, DiskStandsFor, learned_from, MidApplied, BackServes, Caused, is_gone, FewGone, Durable}
-use Rattle.tier_laws.proofs.Apply.{code_at, half-odd}
-use Rattle.tier_laws.proofs.Core.{BackMode, BackPending, Inv as WorldOk, MidMode, MidPending, past}
+use Rattle.tier_laws.proofs.Apply.{half-odd}
+use Rattle.tier_laws.proofs.Core.{BackMode, Inv as WorldOk, MidMode, past}
 use Rattle.tier_laws.proofs.Events.{log_place, back_place}
 use Rattle.tier_laws.proofs.Grow.{served_same}
 use Rattle.tier_laws.proofs.MidSteps.{values}
@@ -45,6 +42,11 @@ use Rattle.tier_laws.proofs.Shows.{Shown, shown}
 use Rattle.tier_laws.proofs.Soups.{mid_soup, back_soup}
 use Rattle.tier_laws.proofs.Verdicts.{count-gap}
 use Rattle.tier_laws.proofs.Maps.{server, empty_server}
+use Rattle.tier_laws.proofs.NodeSteps.{disk_of}
+use Rattle.tier_laws.proofs.Logs.{learned_more, turn_more}
+use Rattle.tier_laws.proofs.Lists.{some_of}
+use Rattle.tier_laws.proofs.Stable.{MoreLog}
+use Rattle.tier_laws.proofs.Codes.{code_of-left, code_at}
 use Rattle.server_model.specs.Server as real
 use Rattle.server_model.specs.Server.{same_tier}
 
@@ -120,46 +122,24 @@ learn_told {B} c w t place k p v i b e f = by t b
     by Pay b = back_told c w Pay place k.from k.to p v i refl b g
 
 -- what a disk has learned was chosen
-mid_disk : {B : Type 0} (c : Config B) (w : World B) (i : WorldOk c w) (x p : ℕ) (v : AnyValue) (records : List (List Fact)) (m : Mode Mid) → x < 2 * c.u + 1 → MidMode c (past c w i.codes) i.h (mid_soup w.soup) x (w.mids x) m → StandsFor (w.mids x) m records → slice_get (learned_from c.u records) p ≡ Some v → slice_get w.log p ≡ Some v
-mid_disk {B} c w i x p v R m l k s e = by m k s
+mid_disk : {B : Type 0} (c : Config B) (w : World B) (i : WorldOk c w) (x : ℕ) (records : List (List Fact)) (m : Mode Mid) → x < 2 * c.u + 1 → MidMode c (past c w i.codes) i.h (mid_soup w.soup) x (w.mids x) m → StandsFor (w.mids x) m records → MoreLog (learned_from c.u records) w.log
+mid_disk c w i x R m l = disk_of (λ n m. MidMode c (past c w i.codes) i.h (mid_soup w.soup) x n m) (λ Q. MoreLog (learned_from c.u Q) w.log) (w.mids x) m R (λ σ k. own k.is_log) (λ k. own k.is_log)
+    (λ k n Q e. let q = k.pending n Q e in subst (λ z. MoreLog (learned_in z) w.log) (sym q.is_log) (turn_more c.u i.h (mid_soup w.soup) w.log x q.turn q.ok i.done.mid))
   where
-    from_facts : (F : List (LogFact AnyValue)) → ((p : ℕ) (v : AnyValue) → slice_get (learned_in F) p ≡ Some v → Meets c.u (mid_soup w.soup) p v) → log_facts (newest R) ≡ F → slice_get w.log p ≡ Some v
-    from_facts F g q = i.done.mid.at p v (g p v (subst (λ z. slice_get (learned_in z) p ≡ Some v) q e))
+    own : log_facts (newest (w.mids x).records) ≡ i.h x → MoreLog (learned_from c.u (w.mids x).records) w.log
+    own e = subst (λ z. MoreLog (learned_in z) w.log) (sym e) (learned_more c.u i.h (mid_soup w.soup) w.log x l i.core.mid_log.history i.done.mid)
 
-    own : (Q : List (List Fact)) → Q ≡ R → log_facts (newest Q) ≡ i.h x → slice_get w.log p ≡ Some v
-    own Q q f = from_facts (i.h x) (λ p v e. i.core.mid_log.history.learned x l p v e) (ap (λ z. log_facts (newest z)) (sym q) ∙ f)
-
-    left : MidPending c (past c w i.codes) i.h (mid_soup w.soup) x R → slice_get w.log p ≡ Some v
-    left q = from_facts (onto q.turn.facts (i.h x)) (λ p v e. (q.ok.rest (put i.h x (onto q.turn.facts (i.h x))) (put_same i.h x (onto q.turn.facts (i.h x))) (grown i.h x q.turn.facts q.ok.orderly)).learned p v e) q.is_log
-
-    by : (m : Mode Mid) → MidMode c (past c w i.codes) i.h (mid_soup w.soup) x (w.mids x) m → StandsFor (w.mids x) m R → slice_get w.log p ≡ Some v
-    by (Up σ) k s = own (w.mids x).records s k.is_log
-    by Down k (inl s) = own (w.mids x).records s k.is_log
-    by Down k (inr s) = left (k.pending s.0 R s.1)
-    by Gone k s = absurd s
-
-back_disk : {B : Type 0} (c : Config B) (w : World B) (i : WorldOk c w) (t : Tier) (x p : ℕ) (v : AnyValue) (records : List (List Fact)) (m : Mode (Back B)) → x < 2 * c.u + 1 → BackMode c (past c w i.codes) t (i.k t) (back_soup t w.soup) x (w.backs t x) m → StandsFor (w.backs t x) m records → slice_get (learned_from c.u records) p ≡ Some v → slice_get (w.logs t) p ≡ Some v
-back_disk {B} c w i t x p v R m l k s e = by m k s
+back_disk : {B : Type 0} (c : Config B) (w : World B) (i : WorldOk c w) (t : Tier) (x : ℕ) (records : List (List Fact)) (m : Mode (Back B)) → x < 2 * c.u + 1 → BackMode c (past c w i.codes) t (i.k t) (back_soup t w.soup) x (w.backs t x) m → StandsFor (w.backs t x) m records → MoreLog (learned_from c.u records) (w.logs t)
+back_disk c w i t x R m l = disk_of (λ n m. BackMode c (past c w i.codes) t (i.k t) (back_soup t w.soup) x n m) (λ Q. MoreLog (learned_from c.u Q) (w.logs t)) (w.backs t x) m R (λ σ k. own k.is_log) (λ k. own k.is_log)
+    (λ k n Q e. let q = k.pending n Q e in subst (λ z. MoreLog (learned_in z) (w.logs t)) (sym q.is_log) (turn_more c.u (i.k t) (back_soup t w.soup) (w.logs t) x q.turn q.ok (i.done.back t)))
   where
-    from_facts : (F : List (LogFact AnyValue)) → ((p : ℕ) (v : AnyValue) → slice_get (learned_in F) p ≡ Some v → Meets c.u (back_soup t w.soup) p v) → log_facts (newest R) ≡ F → slice_get (w.logs t) p ≡ Some v
-    from_facts F g q = (i.done.back t).at p v (g p v (subst (λ z. slice_get (learned_in z) p ≡ Some v) q e))
-
-    own : (Q : List (List Fact)) → Q ≡ R → log_facts (newest Q) ≡ i.k t x → slice_get (w.logs t) p ≡ Some v
-    own Q q f = from_facts (i.k t x) (λ p v e. (i.core.back_log t).history.learned x l p v e) (ap (λ z. log_facts (newest z)) (sym q) ∙ f)
-
-    left : BackPending c (past c w i.codes) t (i.k t) (back_soup t w.soup) x R → slice_get (w.logs t) p ≡ Some v
-    left q = from_facts (onto q.turn.facts (i.k t x)) (λ p v e. (q.ok.rest (put (i.k t) x (onto q.turn.facts (i.k t x))) (put_same (i.k t) x (onto q.turn.facts (i.k t x))) (grown (i.k t) x q.turn.facts q.ok.orderly)).learned p v e) q.is_log
-
-    by : (m : Mode (Back B)) → BackMode c (past c w i.codes) t (i.k t) (back_soup t w.soup) x (w.backs t x) m → StandsFor (w.backs t x) m R → slice_get (w.logs t) p ≡ Some v
-    by (Up σ) k s = own (w.backs t x).records s k.is_log
-    by Down k (inl s) = own (w.backs t x).records s k.is_log
-    by Down k (inr s) = left (k.pending s.0 R s.1)
-    by Gone k s = absurd s
+    own : log_facts (newest (w.backs t x).records) ≡ i.k t x → MoreLog (learned_from c.u (w.backs t x).records) (w.logs t)
+    own e = subst (λ z. MoreLog (learned_in z) (w.logs t)) (sym e) (learned_more c.u (i.k t) (back_soup t w.soup) (w.logs t) x l (i.core.back_log t).history (i.done.back t))
 
 pub disk_learned : {B : Type 0} (c : Config B) (w : World B) (t : Tier) (x p : ℕ) (v : AnyValue) (records : List (List Fact)) → WorldOk c w → x < 2 * c.u + 1 → DiskStandsFor w t x records → slice_get (learned_from c.u records) p ≡ Some v → slice_get (chosen_log w t) p ≡ Some v
-disk_learned c w MidTier x p v R i l s e = mid_disk c w i x p v R (w.mids x).mode l (i.core.mids x l) s e
-disk_learned c w Inv x p v R i l s e = back_disk c w i Inv x p v R (w.backs Inv x).mode l (i.core.backs Inv x l) s e
-disk_learned c w Pay x p v R i l s e = back_disk c w i Pay x p v R (w.backs Pay x).mode l (i.core.backs Pay x l) s e
+disk_learned c w MidTier x p v R i l s e = (mid_disk c w i x R (w.mids x).mode l (i.core.mids x l) s).at p v e
+disk_learned c w Inv x p v R i l s e = (back_disk c w i Inv x R (w.backs Inv x).mode l (i.core.backs Inv x l) s).at p v e
+disk_learned c w Pay x p v R i l s e = (back_disk c w i Pay x R (w.backs Pay x).mode l (i.core.backs Pay x l) s).at p v e
 
 -- STATES
 
@@ -199,35 +179,21 @@ caused c w r v i e =
 
 -- DURABILITY
 
-pub some_code : {A : Type 0} (o : Option A) → is_some o ≡ true → (a : A) × (o ≡ Some a)
-some_code None e = absurd (cc)
-some_code (Some a) e = (a, refl)
-
 code_right : {B : Type 0} (c : Config B) (w : World B) (i : WorldOk c w) (x : ℕ) (t : Tier) (n code : ℕ) → code_of (i.codes x) t n ≡ Some code → (server c.service w.hist).served t n ≡ Some code
 code_right c w i x t n code e =
     let q = code_at (i.codes x) t n code e in
     let s = i.core.right x q.0 q.1 q.2 in
     subst (λ z. (server c.service w.hist).served z n ≡ Some code) q.3 (subst (λ z. (server c.service w.hist).served q.1.tier z ≡ Some code) q.4 (s ∙ ap Some q.5))
 
-code-left : (cs ds : List Code) (t : Tier) (n code : ℕ) → code_of cs t n ≡ Some code → code_of (cs ++ ds) t n ≡ Some code
-code-left [] ds t n code e = absurd (cc)
-code-left (c ∷ cs) ds t n code e = go _ e (code-left cs ds t n code)
-  where
-    go : (b : Bool) → cond b (Some c.code) (code_of cs t n) ≡ Some code → (code_of cs t n ≡ Some code → code_of (cs ++ ds) t n ≡ Some code) → cond b (Some c.code) (code_of (cs ++ ds) t n) ≡ Some code
-    go true f r = f
-    go false f r = r f
-
 pub held_for : {B : Type 0} (c : Config B) (w : World B) (i : WorldOk c w) (x : ℕ) (t : Tier) (n code : ℕ) (m : Mode Mid) → MidMode c (past c w i.codes) i.h (mid_soup w.soup) x (w.mids x) m → code_of (i.codes x) t n ≡ Some code
     → (R : List (List Fact)) → StandsFor (w.mids x) m R → code_of (held_in (newest R)) t n ≡ Some code
-held_for c w i x t n code (Up σ) k e R s = subst (λ z. code_of (held_in (newest z)) t n ≡ Some code) s (ap (λ z. code_of z t n) k.is_held ∙ e)
-held_for c w i x t n code Down k e R (inl s) = subst (λ z. code_of (held_in (newest z)) t n ≡ Some code) s (ap (λ z. code_of z t n) k.is_held ∙ e)
-held_for c w i x t n code Down k e R (inr s) = let p = k.pending s.0 R s.1 in ap (λ z. code_of z t n) p.is_held ∙ code-left (i.codes x) p.codes t n code e
-held_for c w i x t n code Gone k e R s = absurd s
+held_for c w i x t n code m k e R s = disk_of (λ n m. MidMode c (past c w i.codes) i.h (mid_soup w.soup) x n m) (λ Q. code_of (held_in (newest Q)) t n ≡ Some code) (w.mids x) m R (λ σ k. ap (λ z. code_of z t n) k.is_held ∙ e) (λ k. ap (λ z. code_of z t n) k.is_held ∙ e)
+    (λ k p Q f. let q = k.pending p Q f in ap (λ z. code_of z t n) q.is_held ∙ code_of-left (i.codes x) q.codes t n code e) k s
 
 pub durable : {B : Type 0} (c : Config B) (w : World B) (t : Tier) (n : ℕ) (i : WorldOk c w) → ManyHold c (past c w i.codes) t n → FewGone c w → Durable c w t n
 durable {B} c w t n i many few =
     let z = count-gap (2 * c.u + 1) (λ x. is_gone (w.mids x).mode) (holds (past c w i.codes) t n) (omega arith) in
-    let a = some_code (code_of (i.codes z.0) t n) z.2 in
+    let a = some_of (code_of (i.codes z.0) t n) z.2 in
     record {
       node = z.0;
       inside = z.1;

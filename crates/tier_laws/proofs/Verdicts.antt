@@ -16,7 +16,7 @@ use Rattle.round_model.specs.Tables.{Codes as Answers, Number, Want, answered, a
 use Rattle.round_model.specs.Verdicts.{Vote, has_token, is_backed, same_token, verdict, verdict_by, vote_of}
 use Rattle.run_model.specs.World.{Config}
 use Rattle.server_model.specs.Server.{same_tier}
-use Rattle.tier_laws.proofs.Lists.{tier_eq}
+use Rattle.tier_laws.proofs.Lists.{tier_eq, some_of}
 use Rattle.tier_laws.proofs.Apply.{held_right}
 use Rattle.tier_laws.proofs.Past.{DidRun, Known, ManyHold, MidOther, Past, RunOk, VerdictOk, holds}
 use Rattle.tier_laws.proofs.Stable.{MoreAnswers, MoreLog, batch-more, job-more, round_made, then_parts, then_some}
@@ -77,10 +77,6 @@ vote_at (w ∷ vs) r y v e = go ((w.round == r) && (w.from == y)) refl e (vote_a
     go : (b : Bool) → ((w.round == r) && (w.from == y)) ≡ b → cond b (Some w) (vote_of vs r y) ≡ Some v → (vote_of vs r y ≡ Some v → (i : ℕ) × (slice_get vs i ≡ Some v) × (v.round ≡ r) × (v.from ≡ y)) → (i : ℕ) × (slice_get (w ∷ vs) i ≡ Some v) × (v.round ≡ r) × (v.from ≡ y)
     go true f e k = let p = and_parts (w.round == r) (w.from == y) f in let s : w ≡ v = cc in (0, e, ap (λ (z : Vote). z.round) (sym s) ∙ eqb-true w.round r p.0, ap (λ (z : Vote). z.from) (sym s) ∙ eqb-true w.from y p.1)
     go false f e k = let q = k e in (suc q.0, q.1, q.2, q.3)
-
-some_of : {A : Type 0} (o : Option A) → is_some o ≡ true → (a : A) × (o ≡ Some a)
-some_of None e = absurd (cc)
-some_of (Some a) e = (a, refl)
 
 has_some : (o : List ℕ) (q : Option Vote) → has_token o q ≡ true → (v : Vote) × (q ≡ Some v) × (same_token v.token o ≡ true)
 has_some o None e = absurd (cc)

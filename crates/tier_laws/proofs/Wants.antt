@@ -2,6 +2,7 @@
 use Rattle.std.proofs.Common.{◌≡◌, ℕ, ◌≤◌, Bool, true, false, cond, List, [], ◌∷◌, ◌++◌, map, refl, sym, ap, ◌∙◌, subst, inl, inr, Option, Some, None, zero, suc}
 use Rattle.std.specs.Prelude.{nat_le, slice_get, ◌⊎◌, ◌==◌, ◌&&◌, ◌||◌, not}
 use Rattle.std.proofs.lemmas.Bool.{leb-true, eq-eqb, eqb-true, ne_eqb, cond-true, cond-false, cases_eq, and_parts}
+use Rattle.std.proofs.lemmas.List.{append-nil, append_assoc}
 use Rattle.log_values.specs.declared.entry.Entry.{Entry}
 use Rattle.round_model.specs.Lists.{concat, head_of, is_some, mem, tail_of}
 use Rattle.round_model.specs.Service.{Service, is_request}
@@ -10,25 +11,7 @@ use Rattle.round_model.specs.Tables.{in_range, last_of, who_of, Parked, Tables, 
 use Rattle.svc_api.specs.declared.action.Ending.{Ending}
 use Rattle.svc_api.specs.declared.action.Ending.TheVariants.{Call, Reply}
 use Rattle.tier_laws.proofs.Acts.{Act, Distinct, NoneOf, acts, none_not, parked_by}
-
-pub get_cases : {A : Type 0} (xs ys : List A) (i : ℕ) (a : A) → slice_get (xs ++ ys) i ≡ Some a → (slice_get xs i ≡ Some a) ⊎ ((j : ℕ) × (slice_get ys j ≡ Some a))
-get_cases [] ys i a e = inr (i, e)
-get_cases (x ∷ xs) ys zero a e = inl e
-get_cases (x ∷ xs) ys (suc i) a e = get_cases xs ys i a e
-
-pub get_map : {A C : Type 0} (f : A → C) (xs : List A) (i : ℕ) (c : C) → slice_get (map f xs) i ≡ Some c → (a : A) × (slice_get xs i ≡ Some a) × (f a ≡ c)
-get_map f [] i c e = absurd (cc)
-get_map f (x ∷ xs) zero c e = (x, refl, cc)
-get_map f (x ∷ xs) (suc i) c e = get_map f xs i c e
-
-pub map_get : {A C : Type 0} (f : A → C) (xs : List A) (i : ℕ) (a : A) → slice_get xs i ≡ Some a → slice_get (map f xs) i ≡ Some (f a)
-map_get f [] i a e = absurd (cc)
-map_get f (x ∷ xs) zero a e = let s : x ≡ a = cc in ap (λ z. Some (f z)) s
-map_get f (x ∷ xs) (suc i) a e = map_get f xs i a e
-
-pub map-append : {A C : Type 0} (f : A → C) (xs ys : List A) → map f (xs ++ ys) ≡ map f xs ++ map f ys
-map-append f [] ys = refl
-map-append f (x ∷ xs) ys = ap (λ z. f x ∷ z) (map-append f xs ys)
+use Rattle.tier_laws.proofs.Lists.{map_get}
 
 pub none-parts : (c : ℕ) (xs ys : List Want) → NoneOf c (xs ++ ys) → NoneOf c xs × NoneOf c ys
 none-parts c [] ys n = (tt, n)
@@ -126,16 +109,8 @@ concat-head [] = refl
 concat-head (g ∷ gs) = refl
 
 pub concat-push : (q : List (List Parked)) (g : List Parked) → concat (q ++ g ∷ []) ≡ concat q ++ g
-concat-push [] g = nil g
-  where
-    nil : (xs : List Parked) → xs ++ [] ≡ xs
-    nil [] = refl
-    nil (x ∷ xs) = ap (λ z. x ∷ z) (nil xs)
-concat-push (h ∷ q) g = ap (λ z. h ++ z) (concat-push q g) ∙ assoc h (concat q) g
-  where
-    assoc : (xs ys zs : List Parked) → xs ++ (ys ++ zs) ≡ (xs ++ ys) ++ zs
-    assoc [] ys zs = refl
-    assoc (x ∷ xs) ys zs = ap (λ q. x ∷ q) (assoc xs ys zs)
+concat-push [] g = append-nil g
+concat-push (h ∷ q) g = ap (λ z. h ++ z) (concat-push q g) ∙ sym (append_assoc h (concat q) g)
 
 -- FRESH
 

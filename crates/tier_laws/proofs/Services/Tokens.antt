@@ -26,10 +26,11 @@ use Rattle.round_model.specs.Lists.{tabulate}
 use Rattle.round_model.specs.Service.{Service, segment, serial, serial_end, times, all_below, each_once, is_order, finish}
 use Rattle.tier_laws.specs.Said.{IsStore, IsJob}
 use Rattle.aeg_base.proofs.ChangeLaws.{all_among, key_parts, same_itself}
-use Rattle.tier_laws.proofs.Legal.{once-at, length-tabulate}
+use Rattle.tier_laws.proofs.Legal.{once-at}
 use Rattle.tier_laws.proofs.Services.Pigeons.{has, IsOnce, Tells, no_longer}
 use Rattle.tier_laws.proofs.Services.Serial.{Agrees, segment_is, serial_is}
 use Rattle.tier_laws.proofs.Services.Stores.{AreProper, AreBounded, bounded, one_store_in, one_end_in, serial_in, all_wrote, few_keys, kept_value}
+use Rattle.tier_laws.proofs.Lists.{length-tabulate}
 
 -- THE KEYS RISE
 

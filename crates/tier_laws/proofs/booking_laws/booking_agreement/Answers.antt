@@ -1,24 +1,17 @@
-use Rattle.std.proofs.Common.{◌≤◌, List}
 use Rattle.run_model.specs.Runs.{world}
-use Rattle.run_model.specs.declared.trace.TraceEvent.{TraceEvent}
-use Rattle.tier_laws.specs.Services.{Setup, booking_run}
-use Rattle.tier_laws.proofs.Core.{Inv}
-use Rattle.tier_laws.proofs.Few.{inv}
-use Rattle.tier_laws.proofs.Services.{booking_laws}
+use Rattle.tier_laws.specs.Services.{booking_run}
+use Rattle.tier_laws.proofs.Few.{booking_inv}
 use Rattle.tier_laws.proofs.Told.{chosen_here, learned, learn_told, disk_learned}
 use Rattle.tier_laws.proofs.booking_laws.booking_agreement.Goals as goal
 
-held : (a : Setup) (es : List TraceEvent) → a.u ≤ 2 → Inv (booking_run a) (world (booking_run a) es)
-held a es l = inv (booking_run a) es l booking_laws
-
 pub returns-clause-chosen : goal.returns-clause-chosen
-returns-clause-chosen x a es t p v l m = chosen_here (booking_run a) (world (booking_run a) es) t p v (held a es l) m
+returns-clause-chosen x a es t p v l m = chosen_here (booking_run a) (world (booking_run a) es) t p v (booking_inv a es l) m
 
 pub returns-clause-learned : goal.returns-clause-learned
-returns-clause-learned z a es t x p v l n e = learned (booking_run a) (world (booking_run a) es) t x p v (held a es l) n e
+returns-clause-learned z a es t x p v l n e = learned (booking_run a) (world (booking_run a) es) t x p v (booking_inv a es l) n e
 
 pub returns-clause-told : goal.returns-clause-told
-returns-clause-told z a es t i p k v l b e f = learn_told (booking_run a) (world (booking_run a) es) t i k p v (held a es l) b e f
+returns-clause-told z a es t i p k v l b e f = learn_told (booking_run a) (world (booking_run a) es) t i k p v (booking_inv a es l) b e f
 
 pub returns-clause-on_disk : goal.returns-clause-on_disk
-returns-clause-on_disk z a es t x p v records l n s e = disk_learned (booking_run a) (world (booking_run a) es) t x p v records (held a es l) n s e
+returns-clause-on_disk z a es t x p v records l n s e = disk_learned (booking_run a) (world (booking_run a) es) t x p v records (booking_inv a es l) n s e
