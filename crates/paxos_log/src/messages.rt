@@ -7,6 +7,7 @@ use aeg_base::{Memory, Value};
 use log_model::PaxMsg;
 
 /// Adds the message to each of so many nodes but the one that is skipped, by ascending index.
+#[inline(always)]
 pub fn send_each<V: Value>(
     sends: &mut Vec<(u8, PaxMsg<V>)>,
     nodes: u8,

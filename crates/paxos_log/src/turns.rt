@@ -37,7 +37,7 @@ pub fn turn<V: Value>(
 pub fn one<T: Drop>(alloc: Global, item: T) -> Result<Vec<T>, Memory>
     ensures { IfOk result (λ list. list.items ≡ item ∷ []) }
 {
-    let mut list = Vec::new(alloc);
+    let mut list = Vec::with_capacity(alloc, 1)?;
     list.push(item)?;
     Ok(list)
 }

@@ -80,7 +80,7 @@ fn offered<V: Value>(
 {
     let nodes = 2 * u + 1;
     let facts = one(alloc, Fact::Accepted(p, b, v.copy()?))?;
-    let mut sends = Vec::new(alloc);
+    let mut sends = Vec::with_capacity(alloc, 2 * usize::from(nodes))?;
     send_each(
         &mut sends,
         nodes,

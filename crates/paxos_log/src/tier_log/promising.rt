@@ -104,7 +104,8 @@ fn asked<V: Value>(alloc: Global, u: u8, me: u8, b: Ballot, p: Pos) -> Result<Lo
     ensures { IfOk result (λ out. out ≡ lead_out u me b p) }
 {
     let facts = one(alloc, Fact::Promised(b))?;
-    let mut sends = Vec::new(alloc);
-    send_each(&mut sends, 2 * u + 1, Some(me), &PaxMsg::Prepare(b, p))?;
+    let nodes = 2 * u + 1;
+    let mut sends = Vec::with_capacity(alloc, usize::from(nodes))?;
+    send_each(&mut sends, nodes, Some(me), &PaxMsg::Prepare(b, p))?;
     Ok(turn(facts, sends, None))
 }
