@@ -1,12 +1,12 @@
 -- The grammar of all messages.
-use Rattle.std.proofs.Common.{◌≡◌, ℕ, ◌<◌, ◌≤◌, ◌^◌, Bool, true, false, cond, eqb, inl, inr, List, [], ◌∷◌, ◌++◌, Option, Some, None, refl, sym, ap, subst, ◌∙◌, arith}
-use Rattle.std.specs.Prelude.{nat_le, nat_lt, ◌&&◌, ◌||◌}
+use Rattle.std.proofs.Common.{◌≡◌, ℕ, ◌<◌, ◌^◌, true, cond, eqb, inl, inr, List, [], ◌∷◌, ◌++◌, Some, None, refl, ap, subst, arith}
+use Rattle.std.specs.Prelude.{nat_lt}
 use Rattle.std.specs.Int.{w16, w32, to_be_bytes}
 use Rattle.aeg_base.specs.declared.limits.TheConstants.{ROUNDS}
 use Rattle.aeg_base.specs.declared.names.Tier.{Tier}
 use Rattle.svc_api.specs.Plan.{IsBackend}
 use Rattle.aeg_wire.specs.Fields.{Read, byte_at, number_at, text, text_at}
-use Rattle.aeg_wire.specs.Formats.{made, kept, both}
+use Rattle.aeg_wire.specs.Formats.{made, both}
 use Rattle.aeg_wire.proofs.Grammar.{IsBytes, Takes, IsGrammar, made_some, refit, kept_grammar, both_grammar}
 use Rattle.aeg_wire.proofs.Numbers.{one_byte, two_bytes, text_grammar}
 use Rattle.log_model.specs.declared.message.PaxMsg.{PaxMsg}
@@ -20,7 +20,7 @@ use Rattle.log_values.proofs.Leads.{chosen, none_is_some}
 use Rattle.log_values.proofs.BoolTests.{lt_true, lt_is}
 use Rattle.frames.specs.declared.message.Msg.{Msg}
 use Rattle.frames.specs.declared.message.Msg.TheVariants as msgs
-use Rattle.frames.specs.LogMessages.{log_kind, log_body, log_body_at, FitsLog}
+use Rattle.frames.specs.LogMessages.{log_kind, log_body_at}
 use Rattle.frames.specs.Messages.{kind_of, body, FitsMsg, is_of_log, round_at, other_body_at, body_at}
 use Rattle.frames.proofs.KindCase.{kind_case}
 use Rattle.frames.proofs.LogGrammar.{log_takes, log_again}

@@ -1,11 +1,9 @@
 -- Bodies are within the limit.
-use Rattle.std.proofs.Common.{◌≡◌, ℕ, ◌+◌, ◌*◌, ◌<◌, ◌≤◌, List, [], ◌∷◌, ◌++◌, length, Option, Some, None, refl, ap, arith}
+use Rattle.std.proofs.Common.{◌≡◌, ℕ, ◌+◌, ◌*◌, ◌≤◌, List, [], ◌∷◌, length, Some, None, refl, ap, arith}
 use Rattle.std.specs.List.{flat_map, AllByRecursion}
 use Rattle.std.proofs.lemmas.List.{length-append}
 use Rattle.std.proofs.lemmas.List.Concat.{flat_map-cons}
-use Rattle.std.specs.Int.{w16, w32, to_be_bytes}
 use Rattle.aeg_base.specs.declared.names.Key.{Key}
-use Rattle.aeg_base.specs.declared.names.Ballot.{Ballot}
 use Rattle.aeg_base.specs.declared.names.Tier.{Tier}
 use Rattle.svc_api.specs.declared.action.Ending.{Ending}
 use Rattle.svc_api.specs.declared.action.Ending.TheVariants as ends
@@ -19,12 +17,11 @@ use Rattle.log_values.specs.declared.any_value.AnyValue.TheVariants as values
 use Rattle.log_values.specs.declared.mid_value.MidValue.TheVariants as mids
 use Rattle.log_values.specs.declared.mid_value.Verdict.TheVariants as verdicts
 use Rattle.log_values.specs.declared.back_value.BackValue.TheVariants as backs
-use Rattle.log_values.specs.Fields.{ballot}
 use Rattle.log_values.specs.Outcomes.{pair, ending, outcome, FitsOutcome, commit, order_text, IsCommit}
 use Rattle.log_values.specs.Values.{entry, FitsEntry, any_value, FitsAny}
 use Rattle.frames.specs.declared.message.Msg.{Msg}
 use Rattle.frames.specs.declared.message.Msg.TheVariants as msgs
-use Rattle.frames.specs.LogMessages.{report, log_body, FitsLog}
+use Rattle.frames.specs.LogMessages.{log_body, FitsLog}
 use Rattle.frames.specs.Messages.{body, FitsMsg}
 
 pairs_length : (ps : List (Key × ℕ)) → length (flat_map pair ps) ≡ 13 * length ps

@@ -1,6 +1,6 @@
 -- The grammar of frames.
-use Rattle.std.proofs.Common.{◌≡◌, ℕ, ◌<◌, ◌≤◌, ◌^◌, Bool, true, false, cond, eqb, ltb, leb, inl, inr, List, [], ◌∷◌, ◌++◌, length, Option, Some, None, Result, Ok, Err, refl, sym, ap, subst, ◌∙◌, append_assoc, arith}
-use Rattle.std.specs.Prelude.{nat_le, nat_lt, not, ◌&&◌}
+use Rattle.std.proofs.Common.{◌≡◌, ℕ, ◌<◌, ◌≤◌, ◌^◌, Bool, true, false, cond, eqb, ltb, inl, inr, List, [], ◌∷◌, ◌++◌, length, Option, Some, None, Result, Ok, Err, refl, sym, ap, subst, ◌∙◌, arith}
+use Rattle.std.specs.Prelude.{nat_le, not, ◌&&◌}
 use Rattle.std.specs.Int.{w16, to_be_bytes}
 use Rattle.std.proofs.lemmas.Bool.{eqb-true, ltb-false}
 use Rattle.std.proofs.lemmas.List.{append-nil, length-append}
@@ -11,14 +11,14 @@ use Rattle.aeg_base.specs.declared.names.End.TheVariants.{Node, Client}
 use Rattle.aeg_base.specs.declared.names.Tier.{Tier}
 use Rattle.aeg_base.specs.declared.names.Tier.TheVariants.{Mid, Inv, Pay}
 use Rattle.aeg_wire.specs.Fields.{Read, byte_at, number_at}
-use Rattle.aeg_wire.specs.Formats.{made, both}
+use Rattle.aeg_wire.specs.Formats.{both}
 use Rattle.aeg_wire.proofs.Grammar.{IsBytes, Takes, IsGrammar, some_is, made_grammar, both_grammar, distinct}
 use Rattle.aeg_wire.proofs.Numbers.{one_byte, two_bytes}
 use Rattle.log_values.specs.declared.format.TheConstants.{FRAME_VERSION, LAST_KIND, LAST_INDEX}
 use Rattle.log_values.specs.Fields.{tier_number}
 use Rattle.log_values.specs.Reading.{whole}
 use Rattle.log_values.proofs.Leads.{chosen, none_is_some}
-use Rattle.log_values.proofs.BoolTests.{within, is_within, le_true, lt_true, lt_is}
+use Rattle.log_values.proofs.BoolTests.{within, is_within}
 use Rattle.log_model.specs.declared.message.PaxMsg.{PaxMsg}
 use Rattle.log_model.specs.declared.message.PaxMsg.TheVariants.{Prepare, Promise, Accept, Accepted, Ask, Learn, Behind}
 use Rattle.log_values.specs.declared.any_value.AnyValue.{AnyValue}
@@ -32,7 +32,7 @@ use Rattle.frames.specs.declared.header.Refused.{Refused}
 use Rattle.frames.specs.declared.header.Refused.TheVariants as refused
 use Rattle.frames.specs.declared.message.Msg.{Msg}
 use Rattle.frames.specs.Headers.{node_of, end_number, end_index, sender_of, is_sent_by, lead_at, from_sender, judged}
-use Rattle.frames.specs.Messages.{kind_of, body, body_at, FitsMsg}
+use Rattle.frames.specs.Messages.{kind_of, body, body_at}
 use Rattle.frames.specs.Frames.{tier_of, IsEnd, FitsFrame, frame, header_for, with_body, framed, framed_by, frame_of, refused_by, refusal, IsFrame, Decodes, GivesOrMemory}
 use Rattle.frames.proofs.BodyGrammar.{body_takes, body_again}
 use Rattle.frames.proofs.BodyLengths.{body_length}

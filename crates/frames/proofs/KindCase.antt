@@ -1,5 +1,5 @@
 -- A message of one kind, by the field that its body is.
-use Rattle.std.proofs.Common.{◌≡◌, ℕ, eqb, true, List, Option, Some, sym, subst, ◌∙◌}
+use Rattle.std.proofs.Common.{◌≡◌, ℕ, eqb, true, List, Some, sym, subst, ◌∙◌}
 use Rattle.std.proofs.lemmas.Bool.{eqb-true}
 use Rattle.aeg_wire.specs.Fields.{Read}
 use Rattle.aeg_wire.specs.Formats.{made}

@@ -1,13 +1,13 @@
 -- The grammar of a log's messages.
-use Rattle.std.proofs.Common.{◌≡◌, ℕ, ◌<◌, ◌≤◌, ◌^◌, Bool, true, false, cond, eqb, ltb, inl, inr, List, [], ◌∷◌, ◌++◌, Option, Some, None, refl, sym, ap, subst, ◌∙◌, arith}
-use Rattle.std.specs.Prelude.{nat_le, nat_lt}
+use Rattle.std.proofs.Common.{◌≡◌, ℕ, ◌<◌, ◌≤◌, ◌^◌, true, cond, eqb, ltb, inl, inr, List, [], ◌∷◌, ◌++◌, Option, Some, None, refl, ap, subst, ◌∙◌, arith}
+use Rattle.std.specs.Prelude.{nat_le}
 use Rattle.std.specs.Int.{w16, to_be_bytes}
 use Rattle.std.proofs.lemmas.Bool.{eqb-true}
 use Rattle.aeg_base.specs.declared.limits.TheConstants.{POSITIONS}
 use Rattle.aeg_base.specs.declared.names.Ballot.{Ballot}
 use Rattle.aeg_base.specs.declared.names.Tier.{Tier}
-use Rattle.aeg_wire.specs.Fields.{Read, ◌>>=◌, byte_at, number_at}
-use Rattle.aeg_wire.specs.Formats.{made, kept, both}
+use Rattle.aeg_wire.specs.Fields.{Read, byte_at, number_at}
+use Rattle.aeg_wire.specs.Formats.{made, both}
 use Rattle.aeg_wire.proofs.Grammar.{IsBytes, Takes, Takes-then, IsGrammar, some_is, bind_some, made_some, refit, kept_grammar, both_grammar}
 use Rattle.aeg_wire.proofs.Numbers.{one_byte, two_bytes}
 use Rattle.log_model.specs.declared.message.PaxMsg.{PaxMsg}
