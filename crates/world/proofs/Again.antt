@@ -1,5 +1,6 @@
 -- The frames of a list of messages, where one that is the message before again is a copy of the packet before.
 use Rattle.std.proofs.Common.{◌≡◌, ℕ, ◌+◌, ◌-◌, ◌<◌, List, [], ◌∷◌, ◌++◌, map, take, length, refl, sym, ap, ◌∙◌, arith, append_assoc, Some, zero, suc}
+use Rattle.world.proofs.Lists.{last_at}
 use Rattle.std.specs.Prelude.{slice_get, IfOk}
 use Rattle.std.specs.declared.result.Result.{Result}
 use Rattle.std.specs.declared.result.Result.TheVariants.{Ok, Err}
@@ -26,10 +27,6 @@ take_last (y ∷ ys) (suc j) x e = ap (λ z. y ∷ z) (take_last ys j x e)
 sealed_last : (t : Tier) (x : ℕ) (sends : List Send) (s : Send) → map sealed (log_packets t x (sends ++ s ∷ [])) ≡ map sealed (log_packets t x sends) ++ sealed (log_packet t x s) ∷ []
 sealed_last t x [] s = refl
 sealed_last t x (r ∷ rs) s = ap (λ z. sealed (log_packet t x r) ∷ z) (sealed_last t x rs s)
-
-last_at : {A : Type 0} (xs : List A) (y : A) → slice_get (xs ++ y ∷ []) (length xs) ≡ Some y
-last_at [] y = refl
-last_at (x ∷ xs) y = last_at xs y
 
 last_is : {A : Type 0} (xs : List A) (y : A) → slice_get (xs ++ y ∷ []) (length (xs ++ y ∷ []) - 1) ≡ Some y
 last_is xs y =

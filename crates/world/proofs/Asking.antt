@@ -1,5 +1,7 @@
 -- Clients that ask: what their requests make of the world.
 use Rattle.std.proofs.Common.{◌≡◌, ℕ, ◌+◌, ◌*◌, ◌<◌, ◌≤◌, Bool, true, false, cond, List, [], ◌∷◌, ◌++◌, length, refl, sym, ap, ◌∙◌, subst, inl, inr, append-nil, arith, get_or, Option, Some, None, Result, Ok, Err, zero, suc}
+use Rattle.std.proofs.lemmas.List.{map-append}
+use Rattle.world.proofs.Lists.{get_last}
 use Rattle.std.specs.Prelude.{slice_get, slice_set, map, option_map, nat_lt, nat_le, not, ◌&&◌, ◌⊎◌}
 use Rattle.std.proofs.lemmas.Bool.{cond-true, and_from, lt-ltb, le-leb}
 use Rattle.aeg_base.specs.declared.limits.TheConstants.{PACKETS}
@@ -40,19 +42,13 @@ use Rattle.world.proofs.Grown.{grown_disks}
 use Rattle.world.proofs.Events.{Leads, Ended, ends}
 
 -- each of so many
-last_get : {A : Type 0} (xs : List A) (x : A) (j : ℕ) (b : A) → slice_get (xs ++ x ∷ []) j ≡ Some b → (slice_get xs j ≡ Some b) ⊎ (x ≡ b)
-last_get [] x zero b g = inr (cc)
-last_get [] x (suc j) b g = absurd (cc)
-last_get (y ∷ xs) x zero b g = inl g
-last_get (y ∷ xs) x (suc j) b g = last_get xs x j b g
-
 each_all : {A : Type 0} (P : A → Type 0) (n : ℕ) (f : ℕ → A) → ((x : ℕ) → x < n → P (f x)) → (i : ℕ) (a : A) → slice_get (each n nobody f) i ≡ Some a → P a
 each_all P zero f h i a e = absurd (cc)
-each_all {A} P (suc n) f h i a e = go (last_get (each n nobody f) (f n) i a e) (λ g. each_all P n f (λ x l. h x (omega arith)) i a g)
+each_all {A} P (suc n) f h i a e = go (get_last (each n nobody f) (f n) i a e) (λ g. each_all P n f (λ x l. h x (omega arith)) i a g)
   where
-    go : (slice_get (each n nobody f) i ≡ Some a) ⊎ (f n ≡ a) → (slice_get (each n nobody f) i ≡ Some a → P a) → P a
+    go : (slice_get (each n nobody f) i ≡ Some a) ⊎ ((i ≡ length (each n nobody f)) × (f n ≡ a)) → (slice_get (each n nobody f) i ≡ Some a → P a) → P a
     go (inl g) rec = rec g
-    go (inr g) rec = subst P g (h n (omega arith))
+    go (inr g) rec = subst P g.1 (h n (omega arith))
 
 -- a request that a client can send
 pub record CanAsk (y seq : ℕ) (text : List ℕ) : Type 0 where
@@ -127,10 +123,6 @@ again_leads u depth w nodes y text k a = record {
 }
 
 -- one packet more
-map-append : {A B : Type 0} (f : A → B) (xs ys : List A) → map f (xs ++ ys) ≡ map f xs ++ map f ys
-map-append f [] ys = refl
-map-append f (x ∷ xs) ys = ap (λ z. f x ∷ z) (map-append f xs ys)
-
 pub sealed_more : (n : ℕ) (f : ℕ → Packet) → map sealed (each (n + 1) nobody f) ≡ map sealed (each n nobody f) ++ sealed (f n) ∷ []
 sealed_more n f = let e : n + 1 ≡ suc n = omega arith in ap (λ z. map sealed (each z nobody f)) e ∙ map-append sealed (each n nobody f) (f n ∷ [])
 

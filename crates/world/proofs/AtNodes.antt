@@ -1,5 +1,7 @@
 -- A call at a node of a list is one at the list.
-use Rattle.std.proofs.Common.{◌≡◌, ℕ, ◌<◌, true, List, [], ◌∷◌, length, refl, sym, ap, ◌∙◌, subst, arith, Option, Some, None, zero, suc, get_or}
+use Rattle.std.proofs.Common.{◌≡◌, ℕ, ◌<◌, true, List, [], ◌∷◌, length, refl, sym, ap, ◌∙◌, subst, Some, zero, suc, get_or}
+use Rattle.world.proofs.Lists.{passes}
+use Rattle.std.proofs.lemmas.Option.{slice_get_within, slice_get-get_or, get_or_from_slice_get}
 use Rattle.std.specs.Prelude.{slice_get, slice_set}
 use Rattle.std.specs.declared.result.Result.{Result}
 use Rattle.aeg_base.specs.declared.names.End.{End}
@@ -16,37 +18,20 @@ use Rattle.world.specs.Parts.{MidView, BackView, MidMoves, BackMoves, MidRestart
 use Rattle.world.specs.declared.nodes.all_nodes.Nodes.{Nodes}
 use Rattle.world.specs.NodeLists.{mid_up, back_up, MidsMove, BacksMove, NodesMove, MidsRestart, BacksRestart, NodeRestarts}
 
-pub some_below : {A : Type 0} (xs : List A) (x : ℕ) (v : A) → slice_get xs x ≡ Some v → x < length xs
-some_below [] x v e = absurd (cc)
-some_below (y ∷ xs) zero v e = omega arith
-some_below (y ∷ xs) (suc x) v e = omega (arith, some_below xs x v e)
-
 pub some_at : {A : Type 0} (xs : List A) (x : ℕ) (v : A) → x < length xs → v ≡ get_or xs x v → slice_get xs x ≡ Some v
-some_at [] x v l e = absurd (omega arith)
-some_at (y ∷ xs) zero v l e = ap Some (sym e)
-some_at (y ∷ xs) (suc x) v l e = some_at xs x v (omega arith) e
+some_at xs x v l e = slice_get-get_or xs x v l ∙ ap Some (sym e)
 
 -- the item that is read there
 pub read_is : {A : Type 0} (xs : List A) (x : ℕ) (v m : A) → v ≡ get_or xs x v → slice_get xs x ≡ Some m → v ≡ m
-read_is [] x v m e f = absurd (cc)
-read_is (y ∷ xs) zero v m e f = let g : y ≡ m = cc in e ∙ g
-read_is (y ∷ xs) (suc x) v m e f = read_is xs x v m e f
+read_is xs x v m e f = e ∙ get_or_from_slice_get xs x m v f
 
 -- MIDDLE NODES
 
 pub mid_below : (ms : List MidView) (x : ℕ) → mid_up (slice_get ms x) ≡ true → x < length ms
-mid_below ms x e = go (slice_get ms x) refl e
-  where
-    go : (o : Option MidView) → slice_get ms x ≡ o → mid_up o ≡ true → x < length ms
-    go None f e = absurd (cc)
-    go (Some m) f e = some_below ms x m f
+mid_below ms x e = let m = passes mid_up (slice_get ms x) refl e in slice_get_within ms x m.0 m.1
 
 pub mid_is_up : (ms : List MidView) (x : ℕ) (v : MidView) → v ≡ get_or ms x v → mid_up (slice_get ms x) ≡ true → is_up v.part ≡ true
-mid_is_up ms x v r e = go (slice_get ms x) refl e
-  where
-    go : (o : Option MidView) → slice_get ms x ≡ o → mid_up o ≡ true → is_up v.part ≡ true
-    go None f e = absurd (cc)
-    go (Some m) f e = subst (λ z. is_up z.part ≡ true) (sym (read_is ms x v m r f)) e
+mid_is_up ms x v r e = let m = passes mid_up (slice_get ms x) refl e in subst (λ z. is_up z.part ≡ true) (sym (read_is ms x v m.0 r m.1)) m.2
 
 pub mid_reads_up : (ms : List MidView) (x : ℕ) (v : MidView) → x < length ms → v ≡ get_or ms x v → is_up v.part ≡ mid_up (slice_get ms x)
 mid_reads_up ms x v l r = sym (ap mid_up (some_at ms x v l r))
@@ -61,18 +46,10 @@ mid_restarts_at ms x v n a b result r h m e = (n, refl, subst (λ z. MidRestarts
 -- BACKEND NODES
 
 pub back_below : (bs : List BackView) (x : ℕ) → back_up (slice_get bs x) ≡ true → x < length bs
-back_below bs x e = go (slice_get bs x) refl e
-  where
-    go : (o : Option BackView) → slice_get bs x ≡ o → back_up o ≡ true → x < length bs
-    go None f e = absurd (cc)
-    go (Some m) f e = some_below bs x m f
+back_below bs x e = let m = passes back_up (slice_get bs x) refl e in slice_get_within bs x m.0 m.1
 
 pub back_is_up : (bs : List BackView) (x : ℕ) (v : BackView) → v ≡ get_or bs x v → back_up (slice_get bs x) ≡ true → is_up v.part ≡ true
-back_is_up bs x v r e = go (slice_get bs x) refl e
-  where
-    go : (o : Option BackView) → slice_get bs x ≡ o → back_up o ≡ true → is_up v.part ≡ true
-    go None f e = absurd (cc)
-    go (Some m) f e = subst (λ z. is_up z.part ≡ true) (sym (read_is bs x v m r f)) e
+back_is_up bs x v r e = let m = passes back_up (slice_get bs x) refl e in subst (λ z. is_up z.part ≡ true) (sym (read_is bs x v m.0 r m.1)) m.2
 
 pub back_reads_up : (bs : List BackView) (x : ℕ) (v : BackView) → x < length bs → v ≡ get_or bs x v → is_up v.part ≡ back_up (slice_get bs x)
 back_reads_up bs x v l r = sym (ap back_up (some_at bs x v l r))

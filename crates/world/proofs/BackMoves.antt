@@ -1,5 +1,5 @@
 -- The rows of a backend node while nothing is run are those of its log, which no value reaches.
-use Rattle.std.proofs.Common.{◌≡◌, ℕ, ◌+◌, ◌*◌, ◌<◌, ◌≤◌, Bool, true, false, cond, List, [], ◌∷◌, ◌++◌, length, map, replicate, refl, sym, ap, ◌∙◌, subst, arith, Option, Some, None, Result, Ok, Err, zero, suc}
+use Rattle.std.proofs.Common.{◌≡◌, ℕ, ◌+◌, ◌*◌, ◌<◌, ◌≤◌, Bool, true, false, cond, List, [], ◌∷◌, ◌++◌, length, map, replicate, refl, sym, ap, ◌∙◌, subst, arith, Option, Some, None, Result, Ok, Err, zero, suc, append-nil}
 use Rattle.std.specs.Prelude.{slice_get, nat_lt, nat_le, ◌==◌, ◌&&◌, not, IfSome}
 use Rattle.std.specs.List.{AllByRecursion}
 use Rattle.std.proofs.lemmas.Bool.{cond-true, cond-false, cond_both}
@@ -41,7 +41,7 @@ use Rattle.world.specs.Parts.{CanStand, AllReach, StandIn, NodePart, as_back, Ma
 use Rattle.world.specs.LogNodes.{LogView, IsRanged, log_itself, log_move, Turns}
 use Rattle.world.proofs.Sending.{all_reach, sends_fit, are_fit}
 use Rattle.world.proofs.Few.{IsFew, log_room, asks_room}
-use Rattle.world.proofs.MidMoves.{nothing_more, on_ok, none_fit, none_reach, none_room, wrote_none}
+use Rattle.world.proofs.MidMoves.{on_ok, none_fit, none_reach, none_room, wrote_none}
 use Rattle.world.proofs.Writing.{turn_stands, nothing_stands, written_opens}
 use Rattle.world.proofs.MidOffers.{asks_in}
 
@@ -78,7 +78,7 @@ in_log_is : (u : ℕ) (t : Tier) (x : ℕ) (log : LogState AnyValue) (turn : Tur
 in_log_is u t x log turn e =
     ap (λ v. record { state = value_state booking_service t (with_log (as_back u t log) turn.state) v; facts = map as_fact turn.facts; sends = log_packets t x turn.sends ++ value_tells u booking_service t x (with_log (as_back u t log) turn.state) v; answer = log_answer turn.idle })
     (nothing_new log turn.state e)
-    ∙ ap (λ ks. record { state = as_back u t turn.state; facts = map as_fact turn.facts; sends = ks; answer = log_answer turn.idle }) (nothing_more (log_packets t x turn.sends))
+    ∙ ap (λ ks. record { state = as_back u t turn.state; facts = map as_fact turn.facts; sends = ks; answer = log_answer turn.idle }) (append-nil (log_packets t x turn.sends))
 
 -- FROM THE LOG'S MOVES TO THE NODE'S
 
@@ -112,7 +112,7 @@ back_turns old new now a b before after t move result v is l small k few f = sub
 pub back_quiet : (now : BackView) (a : DiskState) (out : List (End × List ℕ)) (move : Back Amounts → Move (Back Amounts)) (answer : Answer) → ((log : LogState AnyValue) → now.part.mode ≡ Up log → move (as_back now.faults now.tier log) ≡ record { state = as_back now.faults now.tier log; facts = []; sends = []; answer = answer })
     → BackMoves now now a a out out move (Ok answer)
 back_quiet now a out move answer f = record {
-  row = λ log e. subst (λ z. Makes (as_back now.faults now.tier) now.part now.part out out z (Ok answer)) (sym (f log e)) (refl, (log, e, refl), refl, refl, sym (nothing_more out), none_fit, refl);
+  row = λ log e. subst (λ z. Makes (as_back now.faults now.tier) now.part now.part out out z (Ok answer)) (sym (f log e)) (refl, (log, e, refl), refl, refl, sym (append-nil out), none_fit, refl);
   disk = λ log e. subst (λ (z : Move (Back Amounts)). Wrote a a now.part.place now.part.place z.facts (Ok answer)) (sym (f log e)) (wrote_none a now.part.place answer);
   later = same_later a a refl;
   reach = λ log e. subst (λ (z : Move (Back Amounts)). AllReach now.faults z.sends) (sym (f log e)) (none_reach now.faults);
@@ -200,7 +200,7 @@ offers_none n now a out w v b range f e = subst (λ (z : BackView). BackMoves z 
 -- ASKING AGAIN
 
 retry_is : (u : ℕ) (t : Tier) (x : ℕ) (log : LogState AnyValue) → retry u t x (as_back u t log) ≡ says (as_back u t log) (log_packets t x (asks u x (open_at log)))
-retry_is u t x log = ap (λ z. says (as_back u t log) z) (nothing_more (log_packets t x (asks u x (open_at log))))
+retry_is u t x log = ap (λ z. says (as_back u t log) z) (append-nil (log_packets t x (asks u x (open_at log))))
 
 pub retries : (n : LogView) (now : BackView) (a : DiskState) (before after : List (End × List ℕ)) → back_view n ≡ now → n.me < 2 * n.faults + 1 → n.faults ≤ 2 → IsRanged n
     → ((log : LogState AnyValue) → n.part.mode ≡ Up log → after ≡ before ++ map sealed (log_packets n.tier n.me (asks n.faults n.me (open_at log)))) → BackMoves now now a a before after (λ σ. retry now.faults now.tier now.me σ) (Ok Did)

@@ -1,5 +1,6 @@
 -- A run before its first event.
-use Rattle.std.proofs.Common.{◌≡◌, ℕ, ◌+◌, ◌*◌, ◌≤◌, List, [], ◌∷◌, ◌++◌, refl, sym, ap, ◌∙◌, subst, inl, inr, length, arith, Some, None, zero, suc}
+use Rattle.std.proofs.Common.{◌≡◌, ℕ, ◌+◌, ◌*◌, ◌≤◌, List, [], ◌∷◌, refl, sym, ap, ◌∙◌, subst, inl, inr, length, arith, Some, None, zero, suc, length-append, add-one}
+use Rattle.world.proofs.Lists.{get_last}
 use Rattle.std.specs.Prelude.{slice_get, ◌⊎◌}
 use Rattle.aeg_base.specs.declared.names.Tier.{Tier}
 use Rattle.aeg_base.specs.declared.names.Tier.TheVariants as tiers
@@ -20,23 +21,9 @@ use Rattle.world.specs.Watching.{new_watch}
 use Rattle.world.specs.Standing.{open_of_mid, IsNode, IsMid, IsBack, IsClientEnd, AreAll, Shows}
 use Rattle.world.proofs.Wiping.{none_stand, blank_within}
 
-length_last : {A : Type 0} (xs : List A) (x : A) → length (xs ++ x ∷ []) ≡ suc (length xs)
-length_last [] x = refl
-length_last (y ∷ xs) x = ap suc (length_last xs x)
-
 each_size : {A : Type 0} (n : ℕ) (f : ℕ → A) → length (each n nobody f) ≡ n
 each_size zero f = refl
-each_size (suc n) f = length_last (each n nobody f) (f n) ∙ ap suc (each_size n f)
-
-get_last : {A : Type 0} (xs : List A) (x : A) (j : ℕ) (b : A) → slice_get (xs ++ x ∷ []) j ≡ Some b → (slice_get xs j ≡ Some b) ⊎ ((j ≡ length xs) × (x ≡ b))
-get_last [] x zero b g = inr (refl, cc)
-get_last [] x (suc j) b g = absurd (cc)
-get_last (y ∷ xs) x zero b g = inl g
-get_last {A} (y ∷ xs) x (suc j) b g = go (get_last xs x j b g)
-  where
-    go : (slice_get xs j ≡ Some b) ⊎ ((j ≡ length xs) × (x ≡ b)) → (slice_get xs j ≡ Some b) ⊎ ((suc j ≡ suc (length xs)) × (x ≡ b))
-    go (inl e) = inl e
-    go (inr e) = inr (ap suc e.0, e.1)
+each_size (suc n) f = length-append (each n nobody f) (f n ∷ []) ∙ add-one (length (each n nobody f)) ∙ ap suc (each_size n f)
 
 each_at : {A : Type 0} (n : ℕ) (f : ℕ → A) (i : ℕ) (a : A) → slice_get (each n nobody f) i ≡ Some a → a ≡ f i
 each_at zero f i a e = absurd (cc)

@@ -1,5 +1,7 @@
 -- A call at a node, as its steps make it; and what it asks.
-use Rattle.std.proofs.Common.{◌≡◌, ℕ, ◌+◌, ◌*◌, ◌<◌, ◌≤◌, Bool, true, false, List, [], ◌∷◌, refl, sym, ap, ◌∙◌, subst, length, arith, slice_index_or, Option, Some, None, zero, suc}
+use Rattle.std.proofs.Common.{◌≡◌, ℕ, ◌+◌, ◌*◌, ◌<◌, ◌≤◌, Bool, true, false, List, [], ◌∷◌, refl, sym, ap, ◌∙◌, subst, length, arith, slice_index_or, Option, Some, zero, suc}
+use Rattle.world.proofs.Lists.{passes}
+use Rattle.std.proofs.lemmas.Option.{slice_get_within}
 use Rattle.std.specs.Prelude.{slice_get, slice_set, map}
 use Rattle.std.proofs.lemmas.List.{length-map, length-set}
 use Rattle.std.specs.declared.result.Result.{Result}
@@ -27,7 +29,6 @@ use Rattle.world.specs.Parts.{NodePart, MidView, BackView, MayWrite, is_up}
 use Rattle.world.specs.NodeLists.{mid_up, back_up, up_in, size_of, MidsMove, BacksMove, MoveIn, NodesMove, MayWriteIn}
 use Rattle.world.specs.Standing.{IsNode, AreNodes}
 use Rattle.world.proofs.Moving.{up_has, armed_content}
-use Rattle.world.proofs.AtNodes.{some_below}
 use Rattle.world.proofs.Doing.{up_state}
 use Rattle.world.proofs.Present.{some_get}
 
@@ -88,18 +89,16 @@ a_disk = record { tells = false; bytes = []; kept = []; ranges = []; past = []; 
 -- THE NODE STAYS ONE OF ITS TIER
 
 mids_have : (old new : List MidView) (x : ℕ) (a b : DiskState) (before after : List (End × List ℕ)) (move : MidView → Mid → Move Mid) (result : Result Answer Fault) → mid_up (slice_get old x) ≡ true → MidsMove old new x a b before after move result → x < length new
-mids_have old new x a b before after move result up k = go (slice_get old x) refl up
-  where
-    go : (o : Option MidView) → slice_get old x ≡ o → mid_up o ≡ true → x < length new
-    go None e f = absurd (cc)
-    go (Some m) e f = let r = k m e in omega (arith, some_below old x m e, ap length r.1, length-set old x r.0)
+mids_have old new x a b before after move result up k =
+    let m = passes mid_up (slice_get old x) refl up in
+    let r = k m.0 m.1 in
+    omega (arith, slice_get_within old x m.0 m.1, ap length r.1, length-set old x r.0)
 
 backs_have : (old new : List BackView) (x : ℕ) (a b : DiskState) (before after : List (End × List ℕ)) (move : BackView → Back Amounts → Move (Back Amounts)) (result : Result Answer Fault) → back_up (slice_get old x) ≡ true → BacksMove old new x a b before after move result → x < length new
-backs_have old new x a b before after move result up k = go (slice_get old x) refl up
-  where
-    go : (o : Option BackView) → slice_get old x ≡ o → back_up o ≡ true → x < length new
-    go None e f = absurd (cc)
-    go (Some m) e f = let r = k m e in omega (arith, some_below old x m e, ap length r.1, length-set old x r.0)
+backs_have old new x a b before after move result up k =
+    let m = passes back_up (slice_get old x) refl up in
+    let r = k m.0 m.1 in
+    omega (arith, slice_get_within old x m.0 m.1, ap length r.1, length-set old x r.0)
 
 pub move_has : (old new : Nodes) (t : Tier) (x : ℕ) (a b : DiskState) (before after : List (End × List ℕ)) (mid : MidView → Mid → Move Mid) (back : BackView → Back Amounts → Move (Back Amounts)) (result : Result Answer Fault) → up_in old t x ≡ true → MoveIn old new t x a b before after mid back result → x < size_of new t
 move_has old new tiers.Mid x a b before after mid back result up k = mids_have old.mids.items new.mids.items x a b before after mid result up k.0

@@ -3,6 +3,7 @@ use Rattle.std.proofs.Common.{◌≡◌, ℕ, ◌+◌, ◌*◌, ◌<◌, ◌≤�
 use Rattle.std.specs.Prelude.{map, nat_lt, slice_get, slice_set}
 use Rattle.std.proofs.lemmas.Bool.{cond-true, cond-false, lt-ltb, or_right}
 use Rattle.std.proofs.lemmas.List.{length-set}
+use Rattle.svc_api.specs.Plan.{IsBackend}
 use Rattle.aeg_base.specs.declared.names.Tier.{Tier}
 use Rattle.aeg_base.specs.declared.names.Tier.TheVariants.{Mid as MidTier, Inv, Pay}
 use Rattle.aeg_base.specs.declared.names.NodeId.{NodeId}
@@ -10,7 +11,7 @@ use Rattle.aeg_base.specs.declared.names.End.{End}
 use Rattle.aeg_disk.specs.Disk.{DiskState}
 use Rattle.fact_journal.specs.Calls.{is_past}
 use Rattle.server_model.specs.Backends.{Amounts}
-use Rattle.log_model.specs.World.{Mode, Device, is_fine}
+use Rattle.log_model.specs.World.{Mode, Node as NodeOf, Device, is_fine, put}
 use Rattle.log_model.specs.World.Mode.{Up}
 use Rattle.log_model.specs.declared.turn.LogIdle.{LogIdle}
 use Rattle.log_values.specs.declared.fact.Fact.{Fact}
@@ -31,13 +32,14 @@ use Rattle.run_model.specs.BookingRuns.{config, BookingWorld}
 use Rattle.world.specs.declared.parts.arming.StopAt.{StopAt}
 use Rattle.world.specs.Arming.{CanStop, asked_of, fared_by}
 use Rattle.world.specs.Calling.{Called}
-use Rattle.world.specs.Disks.{AreDisks, first_of}
-use Rattle.world.specs.Parts.{MidView, BackView, sealed}
-use Rattle.world.specs.NodeLists.{up_in, MoveIn}
+use Rattle.world.specs.Disks.{IsDiskOf, AreDisks, first_of}
+use Rattle.world.specs.Parts.{MidView, BackView, sealed, AreFit, AllReach}
+use Rattle.world.specs.NodeLists.{backs_of, up_in, MoveIn}
 use Rattle.world.specs.Telling.{told_command_turn, told_command, told_frame_turn, told_frame, told_fault, HadMemory}
 use Rattle.world.specs.Standing.{journal_of, IsMid, IsBack, AreAll, AreNodes}
 use Rattle.world.proofs.Moving.{CameOut, Faring}
-use Rattle.world.proofs.Doing.{Done, KeepsMids, KeepsInvs, KeepsPays, set_disk, else_disk, mid_done, inv_done, pay_done, mid_quiet, back_quiet}
+use Rattle.world.proofs.Backends.{KeepsElse, backs_all, backs_disks, backs_up, backs_move}
+use Rattle.world.proofs.Doing.{Done, set_disk, else_disk, mid_done, back_done, mid_quiet, back_quiet}
 use Rattle.world.proofs.AtNodes.{set_same}
 use Rattle.world.proofs.Events.{Leads}
 
@@ -51,12 +53,12 @@ at_back_is : (u depth : ℕ) (w : BookingWorld) (t : Tier) (x : ℕ) (d : List (
     → at_back (config u depth) w t x d row ≡ worlds.with_back w t x (moved (w.backs t x) (d (w.backs t x).records (row σ).facts) (row σ)) (sent (d (w.backs t x).records (row σ).facts) (row σ))
 at_back_is u depth w t x d row σ l e = cond-true (nat_lt x (2 * u + 1)) (worlds.back_up w t x d row (w.backs t x).mode) w (lt-ltb x (2 * u + 1) l) ∙ ap (worlds.back_up w t x d row) e
 
-mid_leads : (u depth : ℕ) (w : BookingWorld) (old new : Nodes) (x : ℕ) (disk disk_after : DiskState) (after : List (End × List ℕ)) (d : List (List Fact) → List Fact → Device) (asked fared : Fared) (met : Bool) (row : Mid → Move Mid) (result : Result Answer Fault) → x < 2 * u + 1 → AreNodes u depth w old
-    → (h : Done (2 * u + 1) x u (IsMid u depth) w.mids new.mids.items disk disk_after after d asked fared met row result) → KeepsInvs old new × KeepsPays old new
-    → Leads u depth w (at_mid (config u depth) w x d row no_run) new (sent (d (w.mids x).records (row h.state).facts) (row h.state))
-mid_leads u depth w old new x disk disk_after after d asked fared met row result l k h e = subst (λ z. Leads u depth w z new (sent (d (w.mids x).records (row h.state).facts) (row h.state))) (sym (at_mid_is u depth w x d row h.state l h.up)) (record {
+-- A NODE IN ITS PLACE
+
+pub mid_put : (u depth : ℕ) (w : BookingWorld) (old new : Nodes) (x : ℕ) (node : NodeOf Mid Fact) (ks : List Packet) → AreNodes u depth w old → AreAll (2 * u + 1) (IsMid u depth) (put w.mids x node) new.mids.items → KeepsElse MidTier old new → AreFit ks → AllReach u ks → Leads u depth w (worlds.with_mid w x node ks []) new ks
+mid_put u depth w old new x node ks k h e fit reach = record {
   are = record {
-    mids = h.all;
+    mids = h;
     invs = subst (AreAll (2 * u + 1) (IsBack u Inv) (w.backs Inv)) (sym e.0) k.invs;
     pays = subst (AreAll (2 * u + 1) (IsBack u Pay) (w.backs Pay)) (sym e.1) k.pays;
   };
@@ -64,70 +66,50 @@ mid_leads u depth w old new x disk disk_after after d asked fared met row result
   log = refl;
   logs = refl;
   hist = refl;
-  fit = h.fit;
-  reach = h.reach;
-})
+  fit = fit;
+  reach = reach;
+}
 
-mid_disks : (u depth : ℕ) (w : BookingWorld) (x : ℕ) (new : List MidView) (disks : List DiskState) (disk disk_after : DiskState) (after : List (End × List ℕ)) (d : List (List Fact) → List Fact → Device) (asked fared : Fared) (met : Bool) (row : Mid → Move Mid) (result : Result Answer Fault) → u ≤ 2 → x < 2 * u + 1 → AreDisks w disks
-    → Done (2 * u + 1) x u (IsMid u depth) w.mids new disk disk_after after d asked fared met row result → AreDisks (at_mid (config u depth) w x d row no_run) (slice_set disks (first_of MidTier + x) disk_after)
-mid_disks u depth w x new disks disk disk_after after d asked fared met row result few l k h = subst (λ z. AreDisks z (slice_set disks (first_of MidTier + x) disk_after)) (sym (at_mid_is u depth w x d row h.state l h.up)) (record {
-  all = length-set disks (first_of MidTier + x) disk_after ∙ k.all;
-  mids = set_disk w.mids 0 x (moved (w.mids x) (d (w.mids x).records (row h.state).facts) (row h.state)) disks disk_after k.mids h.on;
-  invs = else_disk (w.backs Inv) 5 (first_of MidTier + x) disks disk_after (λ y m e. omega (arith, few, l, m, e)) k.invs;
-  pays = else_disk (w.backs Pay) 10 (first_of MidTier + x) disks disk_after (λ y m e. omega (arith, few, l, m, e)) k.pays;
-})
+backs_put : (u depth : ℕ) (w : BookingWorld) (old new : Nodes) (t : Tier) (x : ℕ) (node : NodeOf (Back Amounts) Fact) (ks : List Packet) → IsBackend t → AreNodes u depth w old → AreAll (2 * u + 1) (IsBack u t) (put (w.backs t) x node) (backs_of new t) → KeepsElse t old new → AreNodes u depth (worlds.with_back w t x node ks) new
+backs_put u depth w old new MidTier x node ks r k h e = absurd r
+backs_put u depth w old new Inv x node ks r k h e = record {
+  mids = subst (AreAll (2 * u + 1) (IsMid u depth) w.mids) (sym e.0) k.mids;
+  invs = h;
+  pays = subst (AreAll (2 * u + 1) (IsBack u Pay) (w.backs Pay)) (sym e.1) k.pays;
+}
+backs_put u depth w old new Pay x node ks r k h e = record {
+  mids = subst (AreAll (2 * u + 1) (IsMid u depth) w.mids) (sym e.0) k.mids;
+  invs = subst (AreAll (2 * u + 1) (IsBack u Inv) (w.backs Inv)) (sym e.1) k.invs;
+  pays = h;
+}
 
-inv_leads : (u depth : ℕ) (w : BookingWorld) (old new : Nodes) (x : ℕ) (disk disk_after : DiskState) (after : List (End × List ℕ)) (d : List (List Fact) → List Fact → Device) (asked fared : Fared) (met : Bool) (row : Back Amounts → Move (Back Amounts)) (result : Result Answer Fault) → x < 2 * u + 1 → AreNodes u depth w old
-    → (h : Done (2 * u + 1) x u (IsBack u Inv) (w.backs Inv) new.invs.items disk disk_after after d asked fared met row result) → KeepsMids old new × KeepsPays old new
-    → Leads u depth w (at_back (config u depth) w Inv x d row) new (sent (d (w.backs Inv x).records (row h.state).facts) (row h.state))
-inv_leads u depth w old new x disk disk_after after d asked fared met row result l k h e = subst (λ z. Leads u depth w z new (sent (d (w.backs Inv x).records (row h.state).facts) (row h.state))) (sym (at_back_is u depth w Inv x d row h.state l h.up)) (record {
-  are = record {
-    mids = subst (AreAll (2 * u + 1) (IsMid u depth) w.mids) (sym e.0) k.mids;
-    invs = h.all;
-    pays = subst (AreAll (2 * u + 1) (IsBack u Pay) (w.backs Pay)) (sym e.1) k.pays;
-  };
-  soup = refl;
-  log = refl;
-  logs = refl;
-  hist = refl;
-  fit = h.fit;
-  reach = h.reach;
-})
+pub back_put : (u depth : ℕ) (w : BookingWorld) (old new : Nodes) (t : Tier) (x : ℕ) (node : NodeOf (Back Amounts) Fact) (ks : List Packet) → IsBackend t → AreNodes u depth w old → AreAll (2 * u + 1) (IsBack u t) (put (w.backs t) x node) (backs_of new t) → KeepsElse t old new → AreFit ks → AllReach u ks → Leads u depth w (worlds.with_back w t x node ks) new ks
+back_put u depth w old new t x node ks r k h e fit reach = record { are = backs_put u depth w old new t x node ks r k h e; soup = refl; log = refl; logs = refl; hist = refl; fit = fit; reach = reach }
 
-inv_disks : (u depth : ℕ) (w : BookingWorld) (x : ℕ) (new : List BackView) (disks : List DiskState) (disk disk_after : DiskState) (after : List (End × List ℕ)) (d : List (List Fact) → List Fact → Device) (asked fared : Fared) (met : Bool) (row : Back Amounts → Move (Back Amounts)) (result : Result Answer Fault) → u ≤ 2 → x < 2 * u + 1 → AreDisks w disks
-    → Done (2 * u + 1) x u (IsBack u Inv) (w.backs Inv) new disk disk_after after d asked fared met row result → AreDisks (at_back (config u depth) w Inv x d row) (slice_set disks (first_of Inv + x) disk_after)
-inv_disks u depth w x new disks disk disk_after after d asked fared met row result few l k h = subst (λ z. AreDisks z (slice_set disks (first_of Inv + x) disk_after)) (sym (at_back_is u depth w Inv x d row h.state l h.up)) (record {
-  all = length-set disks (first_of Inv + x) disk_after ∙ k.all;
-  mids = else_disk w.mids 0 (first_of Inv + x) disks disk_after (λ y m e. omega (arith, few, l, m, e)) k.mids;
-  invs = set_disk (w.backs Inv) 5 x (moved (w.backs Inv x) (d (w.backs Inv x).records (row h.state).facts) (row h.state)) disks disk_after k.invs h.on;
-  pays = else_disk (w.backs Pay) 10 (first_of Inv + x) disks disk_after (λ y m e. omega (arith, few, l, m, e)) k.pays;
-})
+-- its disk
 
-pay_leads : (u depth : ℕ) (w : BookingWorld) (old new : Nodes) (x : ℕ) (disk disk_after : DiskState) (after : List (End × List ℕ)) (d : List (List Fact) → List Fact → Device) (asked fared : Fared) (met : Bool) (row : Back Amounts → Move (Back Amounts)) (result : Result Answer Fault) → x < 2 * u + 1 → AreNodes u depth w old
-    → (h : Done (2 * u + 1) x u (IsBack u Pay) (w.backs Pay) new.pays.items disk disk_after after d asked fared met row result) → KeepsMids old new × KeepsInvs old new
-    → Leads u depth w (at_back (config u depth) w Pay x d row) new (sent (d (w.backs Pay x).records (row h.state).facts) (row h.state))
-pay_leads u depth w old new x disk disk_after after d asked fared met row result l k h e = subst (λ z. Leads u depth w z new (sent (d (w.backs Pay x).records (row h.state).facts) (row h.state))) (sym (at_back_is u depth w Pay x d row h.state l h.up)) (record {
-  are = record {
-    mids = subst (AreAll (2 * u + 1) (IsMid u depth) w.mids) (sym e.0) k.mids;
-    invs = subst (AreAll (2 * u + 1) (IsBack u Inv) (w.backs Inv)) (sym e.1) k.invs;
-    pays = h.all;
-  };
-  soup = refl;
-  log = refl;
-  logs = refl;
-  hist = refl;
-  fit = h.fit;
-  reach = h.reach;
-})
+pub mid_disk_put : (w : BookingWorld) (x : ℕ) (node : NodeOf Mid Fact) (ks : List Packet) (disks : List DiskState) (disk : DiskState) → x < 5 → AreDisks w disks → IsDiskOf node disk → AreDisks (worlds.with_mid w x node ks []) (slice_set disks (first_of MidTier + x) disk)
+mid_disk_put w x node ks disks disk l k h = record {
+  all = length-set disks (first_of MidTier + x) disk ∙ k.all;
+  mids = set_disk w.mids 0 x node disks disk k.mids h;
+  invs = else_disk (w.backs Inv) 5 (first_of MidTier + x) disks disk (λ y m e. omega (arith, l, m, e)) k.invs;
+  pays = else_disk (w.backs Pay) 10 (first_of MidTier + x) disks disk (λ y m e. omega (arith, l, m, e)) k.pays;
+}
 
-pay_disks : (u depth : ℕ) (w : BookingWorld) (x : ℕ) (new : List BackView) (disks : List DiskState) (disk disk_after : DiskState) (after : List (End × List ℕ)) (d : List (List Fact) → List Fact → Device) (asked fared : Fared) (met : Bool) (row : Back Amounts → Move (Back Amounts)) (result : Result Answer Fault) → u ≤ 2 → x < 2 * u + 1 → AreDisks w disks
-    → Done (2 * u + 1) x u (IsBack u Pay) (w.backs Pay) new disk disk_after after d asked fared met row result → AreDisks (at_back (config u depth) w Pay x d row) (slice_set disks (first_of Pay + x) disk_after)
-pay_disks u depth w x new disks disk disk_after after d asked fared met row result few l k h = subst (λ z. AreDisks z (slice_set disks (first_of Pay + x) disk_after)) (sym (at_back_is u depth w Pay x d row h.state l h.up)) (record {
-  all = length-set disks (first_of Pay + x) disk_after ∙ k.all;
-  mids = else_disk w.mids 0 (first_of Pay + x) disks disk_after (λ y m e. omega (arith, few, l, m, e)) k.mids;
-  invs = else_disk (w.backs Inv) 5 (first_of Pay + x) disks disk_after (λ y m e. omega (arith, few, l, m, e)) k.invs;
-  pays = set_disk (w.backs Pay) 10 x (moved (w.backs Pay x) (d (w.backs Pay x).records (row h.state).facts) (row h.state)) disks disk_after k.pays h.on;
-})
+pub back_disk_put : (w : BookingWorld) (t : Tier) (x : ℕ) (node : NodeOf (Back Amounts) Fact) (ks : List Packet) (disks : List DiskState) (disk : DiskState) → IsBackend t → x < 5 → AreDisks w disks → IsDiskOf node disk → AreDisks (worlds.with_back w t x node ks) (slice_set disks (first_of t + x) disk)
+back_disk_put w MidTier x node ks disks disk r l k h = absurd r
+back_disk_put w Inv x node ks disks disk r l k h = record {
+  all = length-set disks (first_of Inv + x) disk ∙ k.all;
+  mids = else_disk w.mids 0 (first_of Inv + x) disks disk (λ y m e. omega (arith, l, m, e)) k.mids;
+  invs = set_disk (w.backs Inv) 5 x node disks disk k.invs h;
+  pays = else_disk (w.backs Pay) 10 (first_of Inv + x) disks disk (λ y m e. omega (arith, l, m, e)) k.pays;
+}
+back_disk_put w Pay x node ks disks disk r l k h = record {
+  all = length-set disks (first_of Pay + x) disk ∙ k.all;
+  mids = else_disk w.mids 0 (first_of Pay + x) disks disk (λ y m e. omega (arith, l, m, e)) k.mids;
+  invs = else_disk (w.backs Inv) 5 (first_of Pay + x) disks disk (λ y m e. omega (arith, l, m, e)) k.invs;
+  pays = set_disk (w.backs Pay) 10 x node disks disk k.pays h;
+}
 
 -- WHAT IS PRINTED
 
@@ -216,15 +198,17 @@ back_clients : (u depth : ℕ) (w : BookingWorld) (t : Tier) (x : ℕ) (d : List
 back_clients u depth w t x d row σ l e = ap (λ (z : BookingWorld). z.clients) (at_back_is u depth w t x d row σ l e)
 
 mid_command : (u depth : ℕ) (w : BookingWorld) (old new : Nodes) (x : ℕ) (disks : List DiskState) (disk disk_after : DiskState) (after : List (End × List ℕ)) (d : List (List Fact) → List Fact → Device) (asked fared : Fared) (met : Bool) (row : Mid → Move Mid) (result : Result Answer Fault) (text : Mode Mid → List ℕ) (told : List ℕ) → UpAt u depth w old MidTier x disks disk
-    → Done (2 * u + 1) x u (IsMid u depth) w.mids new.mids.items disk disk_after after d asked fared met row result → KeepsInvs old new × KeepsPays old new
+    → Done (2 * u + 1) x u (IsMid u depth) w.mids new.mids.items disk disk_after after d asked fared met row result → KeepsElse MidTier old new
     → ((σ : Mid) → CameOut result met (is_well (d (w.mids x).records (row σ).facts) (row σ).facts) fared (is_past (journal_of (w.mids x).records) (row σ).facts) (row σ) → text (Up σ) ≡ told)
     → Commanded u depth w (at_mid (config u depth) w x d row no_run) new (slice_set disks (first_of MidTier + x) disk_after) after (text (w.mids x).mode) told × Faring asked fared disk disk_after
 mid_command u depth w old new x disks disk disk_after after d asked fared met row result text told k h e tells = (
   record {
     packets = sent (d (w.mids x).records (row h.state).facts) (row h.state);
     sends = h.sends;
-    leads = mid_leads u depth w old new x disk disk_after after d asked fared met row result k.there k.nodes_are h e;
-    on = mid_disks u depth w x new.mids.items disks disk disk_after after d asked fared met row result k.few k.there k.disks_are h;
+    leads = subst (λ z. Leads u depth w z new (sent (d (w.mids x).records (row h.state).facts) (row h.state))) (sym (at_mid_is u depth w x d row h.state k.there h.up))
+        (mid_put u depth w old new x _ _ k.nodes_are h.all e h.fit h.reach);
+    on = subst (λ z. AreDisks z (slice_set disks (first_of MidTier + x) disk_after)) (sym (at_mid_is u depth w x d row h.state k.there h.up))
+        (mid_disk_put w x _ _ disks disk_after (let few = k.few in let l = k.there in omega (arith, few, l)) k.disks_are h.on);
     clients = mid_clients u depth w x d row h.state k.there h.up;
     text_is = ap text h.up ∙ tells h.state h.out;
   },
@@ -254,80 +238,44 @@ mid_still u depth w old new x disks disk after call back row result text told k 
     let r = mid_command u depth w old new x disks disk disk after unwritten Fine Fine false row result text told k h move.1 tells in
     subst (λ z. Commanded u depth w (at_mid (config u depth) w x unwritten row no_run) new z after (text (w.mids x).mode) told) (sym (set_same disks (first_of MidTier + x) disk k.disk_is)) r.0
 
-inv_command : (u depth : ℕ) (w : BookingWorld) (old new : Nodes) (x : ℕ) (disks : List DiskState) (disk disk_after : DiskState) (after : List (End × List ℕ)) (d : List (List Fact) → List Fact → Device) (asked fared : Fared) (met : Bool) (row : Back Amounts → Move (Back Amounts)) (result : Result Answer Fault) (text : Mode (Back Amounts) → List ℕ) (told : List ℕ) → UpAt u depth w old Inv x disks disk
-    → Done (2 * u + 1) x u (IsBack u Inv) (w.backs Inv) new.invs.items disk disk_after after d asked fared met row result → KeepsMids old new × KeepsPays old new
-    → ((σ : (Back Amounts)) → CameOut result met (is_well (d (w.backs Inv x).records (row σ).facts) (row σ).facts) fared (is_past (journal_of (w.backs Inv x).records) (row σ).facts) (row σ) → text (Up σ) ≡ told)
-    → Commanded u depth w (at_back (config u depth) w Inv x d row) new (slice_set disks (first_of Inv + x) disk_after) after (text (w.backs Inv x).mode) told × Faring asked fared disk disk_after
-inv_command u depth w old new x disks disk disk_after after d asked fared met row result text told k h e tells = (
+back_command : (u depth : ℕ) (w : BookingWorld) (old new : Nodes) (t : Tier) (x : ℕ) (disks : List DiskState) (disk disk_after : DiskState) (after : List (End × List ℕ)) (d : List (List Fact) → List Fact → Device) (asked fared : Fared) (met : Bool) (row : Back Amounts → Move (Back Amounts)) (result : Result Answer Fault) (text : Mode (Back Amounts) → List ℕ) (told : List ℕ) → IsBackend t → UpAt u depth w old t x disks disk
+    → Done (2 * u + 1) x u (IsBack u t) (w.backs t) (backs_of new t) disk disk_after after d asked fared met row result → KeepsElse t old new
+    → ((σ : Back Amounts) → CameOut result met (is_well (d (w.backs t x).records (row σ).facts) (row σ).facts) fared (is_past (journal_of (w.backs t x).records) (row σ).facts) (row σ) → text (Up σ) ≡ told)
+    → Commanded u depth w (at_back (config u depth) w t x d row) new (slice_set disks (first_of t + x) disk_after) after (text (w.backs t x).mode) told × Faring asked fared disk disk_after
+back_command u depth w old new t x disks disk disk_after after d asked fared met row result text told r k h e tells = (
   record {
-    packets = sent (d (w.backs Inv x).records (row h.state).facts) (row h.state);
+    packets = sent (d (w.backs t x).records (row h.state).facts) (row h.state);
     sends = h.sends;
-    leads = inv_leads u depth w old new x disk disk_after after d asked fared met row result k.there k.nodes_are h e;
-    on = inv_disks u depth w x new.invs.items disks disk disk_after after d asked fared met row result k.few k.there k.disks_are h;
-    clients = back_clients u depth w Inv x d row h.state k.there h.up;
+    leads = subst (λ z. Leads u depth w z new (sent (d (w.backs t x).records (row h.state).facts) (row h.state))) (sym (at_back_is u depth w t x d row h.state k.there h.up))
+        (back_put u depth w old new t x _ _ r k.nodes_are h.all e h.fit h.reach);
+    on = subst (λ z. AreDisks z (slice_set disks (first_of t + x) disk_after)) (sym (at_back_is u depth w t x d row h.state k.there h.up))
+        (back_disk_put w t x _ _ disks disk_after r (let few = k.few in let l = k.there in omega (arith, few, l)) k.disks_are h.on);
+    clients = back_clients u depth w t x d row h.state k.there h.up;
     text_is = ap text h.up ∙ tells h.state h.out;
   },
   h.how,
 )
 
 -- a call during which the disk may stop
-pub inv_by : (u depth : ℕ) (w : BookingWorld) (old new : Nodes) (x : ℕ) (stop : Option StopAt) (disks : List DiskState) (disk disk_after : DiskState) (after : List (End × List ℕ)) (call : MidView → Mid → Move Mid) (back : BackView → Back Amounts → Move (Back Amounts)) (row : Back Amounts → Move (Back Amounts)) (result : Result Answer Fault) (met : Bool) (text : Mode (Back Amounts) → List ℕ) (told : List ℕ)
-    → UpAt u depth w old Inv x disks disk → CanStop stop → HadMemory result → ((b : BackView) → b.faults ≡ u → b.tier ≡ Inv → b.me ≡ x → back b ≡ row) → Called old new Inv x stop disk disk_after [] after call back result met
-    → ((σ : (Back Amounts)) → CameOut result met (is_well (fate (config u depth) (fared_by stop met result) (w.backs Inv x).records (row σ).facts) (row σ).facts) (fared_by stop met result) (is_past (journal_of (w.backs Inv x).records) (row σ).facts) (row σ) → text (Up σ) ≡ told)
-    → Commanded u depth w (at_back (config u depth) w Inv x (fate (config u depth) (fared_by stop met result)) row) new (slice_set disks (first_of Inv + x) disk_after) after (text (w.backs Inv x).mode) told × Faring (asked_of stop) (fared_by stop met result) disk disk_after
-inv_by u depth w old new x stop disks disk disk_after after call back row result met text told k stops memory same c tells =
+pub back_by : (u depth : ℕ) (w : BookingWorld) (old new : Nodes) (t : Tier) (x : ℕ) (stop : Option StopAt) (disks : List DiskState) (disk disk_after : DiskState) (after : List (End × List ℕ)) (call : MidView → Mid → Move Mid) (back : BackView → Back Amounts → Move (Back Amounts)) (row : Back Amounts → Move (Back Amounts)) (result : Result Answer Fault) (met : Bool) (text : Mode (Back Amounts) → List ℕ) (told : List ℕ) → IsBackend t
+    → UpAt u depth w old t x disks disk → CanStop stop → HadMemory result → ((b : BackView) → b.faults ≡ u → b.tier ≡ t → b.me ≡ x → back b ≡ row) → Called old new t x stop disk disk_after [] after call back result met
+    → ((σ : Back Amounts) → CameOut result met (is_well (fate (config u depth) (fared_by stop met result) (w.backs t x).records (row σ).facts) (row σ).facts) (fared_by stop met result) (is_past (journal_of (w.backs t x).records) (row σ).facts) (row σ) → text (Up σ) ≡ told)
+    → Commanded u depth w (at_back (config u depth) w t x (fate (config u depth) (fared_by stop met result)) row) new (slice_set disks (first_of t + x) disk_after) after (text (w.backs t x).mode) told × Faring (asked_of stop) (fared_by stop met result) disk disk_after
+back_by u depth w old new t x stop disks disk disk_after after call back row result met text told r k stops memory same c tells =
     let few = k.few in
     let l = k.there in
-    let h = inv_done u depth x (w.backs Inv) old new stop disk disk_after after call back row result met k.nodes_are.invs k.up (k.disks_are.invs x disk (omega (arith, few, l)) k.disk_is) stops memory same c in
-    inv_command u depth w old new x disks disk disk_after after (fate (config u depth) (fared_by stop met result)) (asked_of stop) (fared_by stop met result) met row result text told k h.0 h.1 tells
+    let h = back_done u depth t x (w.backs t) old new stop disk disk_after after call back row result met r (backs_all u depth w old t r k.nodes_are) (sym (backs_up old t x r) ∙ k.up) (backs_disks w disks t r k.disks_are x disk (omega (arith, few, l)) k.disk_is) stops memory same c in
+    back_command u depth w old new t x disks disk disk_after after (fate (config u depth) (fared_by stop met result)) (asked_of stop) (fared_by stop met result) met row result text told r k h.0 h.1 tells
 
 -- a call that writes nothing
-pub inv_still : (u depth : ℕ) (w : BookingWorld) (old new : Nodes) (x : ℕ) (disks : List DiskState) (disk : DiskState) (after : List (End × List ℕ)) (call : MidView → Mid → Move Mid) (back : BackView → Back Amounts → Move (Back Amounts)) (row : Back Amounts → Move (Back Amounts)) (result : Result Answer Fault) (text : Mode (Back Amounts) → List ℕ) (told : List ℕ)
-    → UpAt u depth w old Inv x disks disk → HadMemory result → ((b : BackView) → b.faults ≡ u → b.tier ≡ Inv → b.me ≡ x → back b ≡ row) → ((σ : (Back Amounts)) → (row σ).facts ≡ []) → MoveIn old new Inv x disk disk [] after call back result
-    → ((σ : (Back Amounts)) → CameOut result false (is_well (unwritten (w.backs Inv x).records (row σ).facts) (row σ).facts) Fine (is_past (journal_of (w.backs Inv x).records) (row σ).facts) (row σ) → text (Up σ) ≡ told)
-    → Commanded u depth w (at_back (config u depth) w Inv x unwritten row) new disks after (text (w.backs Inv x).mode) told
-inv_still u depth w old new x disks disk after call back row result text told k memory same silent move tells =
+pub back_still : (u depth : ℕ) (w : BookingWorld) (old new : Nodes) (t : Tier) (x : ℕ) (disks : List DiskState) (disk : DiskState) (after : List (End × List ℕ)) (call : MidView → Mid → Move Mid) (back : BackView → Back Amounts → Move (Back Amounts)) (row : Back Amounts → Move (Back Amounts)) (result : Result Answer Fault) (text : Mode (Back Amounts) → List ℕ) (told : List ℕ) → IsBackend t
+    → UpAt u depth w old t x disks disk → HadMemory result → ((b : BackView) → b.faults ≡ u → b.tier ≡ t → b.me ≡ x → back b ≡ row) → ((σ : Back Amounts) → (row σ).facts ≡ []) → MoveIn old new t x disk disk [] after call back result
+    → ((σ : Back Amounts) → CameOut result false (is_well (unwritten (w.backs t x).records (row σ).facts) (row σ).facts) Fine (is_past (journal_of (w.backs t x).records) (row σ).facts) (row σ) → text (Up σ) ≡ told)
+    → Commanded u depth w (at_back (config u depth) w t x unwritten row) new disks after (text (w.backs t x).mode) told
+back_still u depth w old new t x disks disk after call back row result text told r k memory same silent move tells =
     let few = k.few in
     let l = k.there in
-    let h = back_quiet u depth Inv x (w.backs Inv) old.invs.items new.invs.items disk after back row result k.nodes_are.invs k.up (k.disks_are.invs x disk (omega (arith, few, l)) k.disk_is) memory same silent move.0 in
-    let r = inv_command u depth w old new x disks disk disk after unwritten Fine Fine false row result text told k h move.1 tells in
-    subst (λ z. Commanded u depth w (at_back (config u depth) w Inv x unwritten row) new z after (text (w.backs Inv x).mode) told) (sym (set_same disks (first_of Inv + x) disk k.disk_is)) r.0
-
-pay_command : (u depth : ℕ) (w : BookingWorld) (old new : Nodes) (x : ℕ) (disks : List DiskState) (disk disk_after : DiskState) (after : List (End × List ℕ)) (d : List (List Fact) → List Fact → Device) (asked fared : Fared) (met : Bool) (row : Back Amounts → Move (Back Amounts)) (result : Result Answer Fault) (text : Mode (Back Amounts) → List ℕ) (told : List ℕ) → UpAt u depth w old Pay x disks disk
-    → Done (2 * u + 1) x u (IsBack u Pay) (w.backs Pay) new.pays.items disk disk_after after d asked fared met row result → KeepsMids old new × KeepsInvs old new
-    → ((σ : (Back Amounts)) → CameOut result met (is_well (d (w.backs Pay x).records (row σ).facts) (row σ).facts) fared (is_past (journal_of (w.backs Pay x).records) (row σ).facts) (row σ) → text (Up σ) ≡ told)
-    → Commanded u depth w (at_back (config u depth) w Pay x d row) new (slice_set disks (first_of Pay + x) disk_after) after (text (w.backs Pay x).mode) told × Faring asked fared disk disk_after
-pay_command u depth w old new x disks disk disk_after after d asked fared met row result text told k h e tells = (
-  record {
-    packets = sent (d (w.backs Pay x).records (row h.state).facts) (row h.state);
-    sends = h.sends;
-    leads = pay_leads u depth w old new x disk disk_after after d asked fared met row result k.there k.nodes_are h e;
-    on = pay_disks u depth w x new.pays.items disks disk disk_after after d asked fared met row result k.few k.there k.disks_are h;
-    clients = back_clients u depth w Pay x d row h.state k.there h.up;
-    text_is = ap text h.up ∙ tells h.state h.out;
-  },
-  h.how,
-)
-
--- a call during which the disk may stop
-pub pay_by : (u depth : ℕ) (w : BookingWorld) (old new : Nodes) (x : ℕ) (stop : Option StopAt) (disks : List DiskState) (disk disk_after : DiskState) (after : List (End × List ℕ)) (call : MidView → Mid → Move Mid) (back : BackView → Back Amounts → Move (Back Amounts)) (row : Back Amounts → Move (Back Amounts)) (result : Result Answer Fault) (met : Bool) (text : Mode (Back Amounts) → List ℕ) (told : List ℕ)
-    → UpAt u depth w old Pay x disks disk → CanStop stop → HadMemory result → ((b : BackView) → b.faults ≡ u → b.tier ≡ Pay → b.me ≡ x → back b ≡ row) → Called old new Pay x stop disk disk_after [] after call back result met
-    → ((σ : (Back Amounts)) → CameOut result met (is_well (fate (config u depth) (fared_by stop met result) (w.backs Pay x).records (row σ).facts) (row σ).facts) (fared_by stop met result) (is_past (journal_of (w.backs Pay x).records) (row σ).facts) (row σ) → text (Up σ) ≡ told)
-    → Commanded u depth w (at_back (config u depth) w Pay x (fate (config u depth) (fared_by stop met result)) row) new (slice_set disks (first_of Pay + x) disk_after) after (text (w.backs Pay x).mode) told × Faring (asked_of stop) (fared_by stop met result) disk disk_after
-pay_by u depth w old new x stop disks disk disk_after after call back row result met text told k stops memory same c tells =
-    let few = k.few in
-    let l = k.there in
-    let h = pay_done u depth x (w.backs Pay) old new stop disk disk_after after call back row result met k.nodes_are.pays k.up (k.disks_are.pays x disk (omega (arith, few, l)) k.disk_is) stops memory same c in
-    pay_command u depth w old new x disks disk disk_after after (fate (config u depth) (fared_by stop met result)) (asked_of stop) (fared_by stop met result) met row result text told k h.0 h.1 tells
-
--- a call that writes nothing
-pub pay_still : (u depth : ℕ) (w : BookingWorld) (old new : Nodes) (x : ℕ) (disks : List DiskState) (disk : DiskState) (after : List (End × List ℕ)) (call : MidView → Mid → Move Mid) (back : BackView → Back Amounts → Move (Back Amounts)) (row : Back Amounts → Move (Back Amounts)) (result : Result Answer Fault) (text : Mode (Back Amounts) → List ℕ) (told : List ℕ)
-    → UpAt u depth w old Pay x disks disk → HadMemory result → ((b : BackView) → b.faults ≡ u → b.tier ≡ Pay → b.me ≡ x → back b ≡ row) → ((σ : (Back Amounts)) → (row σ).facts ≡ []) → MoveIn old new Pay x disk disk [] after call back result
-    → ((σ : (Back Amounts)) → CameOut result false (is_well (unwritten (w.backs Pay x).records (row σ).facts) (row σ).facts) Fine (is_past (journal_of (w.backs Pay x).records) (row σ).facts) (row σ) → text (Up σ) ≡ told)
-    → Commanded u depth w (at_back (config u depth) w Pay x unwritten row) new disks after (text (w.backs Pay x).mode) told
-pay_still u depth w old new x disks disk after call back row result text told k memory same silent move tells =
-    let few = k.few in
-    let l = k.there in
-    let h = back_quiet u depth Pay x (w.backs Pay) old.pays.items new.pays.items disk after back row result k.nodes_are.pays k.up (k.disks_are.pays x disk (omega (arith, few, l)) k.disk_is) memory same silent move.0 in
-    let r = pay_command u depth w old new x disks disk disk after unwritten Fine Fine false row result text told k h move.1 tells in
-    subst (λ z. Commanded u depth w (at_back (config u depth) w Pay x unwritten row) new z after (text (w.backs Pay x).mode) told) (sym (set_same disks (first_of Pay + x) disk k.disk_is)) r.0
+    let m = backs_move t old new x disk disk [] after call back result r move in
+    let h = back_quiet u depth t x (w.backs t) (backs_of old t) (backs_of new t) disk after back row result (backs_all u depth w old t r k.nodes_are) (sym (backs_up old t x r) ∙ k.up) (backs_disks w disks t r k.disks_are x disk (omega (arith, few, l)) k.disk_is) memory same silent m.0 in
+    let done = back_command u depth w old new t x disks disk disk after unwritten Fine Fine false row result text told r k h m.1 tells in
+    subst (λ z. Commanded u depth w (at_back (config u depth) w t x unwritten row) new z after (text (w.backs t x).mode) told) (sym (set_same disks (first_of t + x) disk k.disk_is)) done.0

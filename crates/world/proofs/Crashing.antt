@@ -1,5 +1,6 @@
 -- A node crashes: all but its disk is lost.
 use Rattle.std.proofs.Common.{◌≡◌, ℕ, ◌+◌, ◌*◌, ◌<◌, ◌≤◌, true, false, List, [], ◌∷◌, refl, sym, ap, ◌∙◌, subst, arith}
+use Rattle.svc_api.specs.Plan.{IsBackend}
 use Rattle.aeg_base.specs.declared.names.Tier.{Tier}
 use Rattle.aeg_base.specs.declared.names.Tier.TheVariants.{Mid as MidTier, Inv, Pay}
 use Rattle.aeg_base.specs.declared.names.NodeId.{NodeId}
@@ -18,14 +19,16 @@ use Rattle.world.specs.declared.nodes.all_nodes.Nodes.{Nodes}
 use Rattle.world.specs.Calling.{absent_text}
 use Rattle.world.specs.Disks.{IsDiskOf, AreDisks, first_of}
 use Rattle.world.specs.Parts.{NodePart, as_mid, as_back, goes_down}
-use Rattle.world.specs.NodeLists.{ChangedIn, condition_in, condition_at, mid_up, back_up, up_in}
+use Rattle.world.specs.NodeLists.{backs_of, ChangedIn, condition_in, condition_at, mid_up, back_up, up_in}
 use Rattle.world.specs.Standing.{mode_by, IsDoubted, IsNode, IsMid, IsBack, AreNodes, open_of_mid}
 use Rattle.world.proofs.Moving.{up_placed, sure_alone, up_stand}
 use Rattle.world.proofs.Coming.{down_node}
 use Rattle.world.proofs.Doing.{up_state}
+use Rattle.world.proofs.Backends.{backs_all, backs_disks, backs_up, backs_change}
+use Rattle.world.proofs.Calling.{disk_of}
 use Rattle.world.proofs.Commands.{Commanded}
 use Rattle.world.proofs.AtNodes.{set_same}
-use Rattle.world.proofs.Placing.{mid_placed, inv_placed, pay_placed, mid_kept, inv_kept, pay_kept}
+use Rattle.world.proofs.Placing.{mid_placed, back_placed, mid_kept, back_kept}
 use Rattle.world.proofs.Present.{some_get, node_up, node_condition}
 
 -- A NODE THAT IS UP
@@ -41,6 +44,21 @@ crashed_is {S} {T} t whole open_of node part disk s k d e =
       up,
     )
 
+back_crash : (u depth : ℕ) (w : BookingWorld) (old new : Nodes) (n : NodeId) (disks : List DiskState) (t : Tier) → IsBackend t → u ≤ 2 → AreNodes u depth w old → AreDisks w disks → n.index < 2 * u + 1 → up_in old t n.index ≡ true → ChangedIn old new t n.index (λ S. goes_down {S = S})
+    → Commanded u depth w (worlds.back_node (config u depth) w t n.index (crashed (w.backs t n.index) (w.backs t n.index).mode)) new disks [] (texts.crash_text (texts.node_name n) (w.backs t n.index).mode) []
+back_crash u depth w old new n disks t back few k d l c h =
+    let x = n.index in
+    let all = backs_all u depth w old t back k in
+    let change = backs_change t old new x (λ S. goes_down {S = S}) back h in
+    let m = some_get (backs_of old t) x (omega (arith, all.size, l)) in
+    let b = disk_of w u x t disks few d l in
+    let i = all.each x m.0 m.1 in
+    let s = up_state m.0.part (sym (ap back_up m.1) ∙ sym (backs_up old t x back) ∙ c) in
+    let r = crashed_is t (as_back u t) open_at (w.backs t x) m.0.part b.0 s.0 i.part (backs_disks w disks t back d x b.0 (omega (arith, few, l)) b.1) s.1 in
+    let to : IsBack u t x (crashed (w.backs t x) (w.backs t x).mode) (record { faults = m.0.faults; tier = m.0.tier; me = m.0.me; part = goes_down m.0.part }) = record { faults = i.faults; tier = i.tier; me = i.me; part = r.0 } in
+    subst (λ z. Commanded u depth w (worlds.back_node (config u depth) w t x (crashed (w.backs t x) (w.backs t x).mode)) new z [] (texts.crash_text (texts.node_name n) (w.backs t x).mode) []) (sym (set_same disks (first_of t + x) b.0 b.1))
+    (back_placed u depth w old new t x disks b.0 (crashed (w.backs t x) (w.backs t x).mode) _ _ [] back few l k d to r.1 (change.0 m.0 m.1) change.1 (ap (texts.crash_text (texts.node_name n)) r.2))
+
 pub crash_by : (u depth : ℕ) (w : BookingWorld) (old new : Nodes) (n : NodeId) (disks : List DiskState) (t : Tier) → u ≤ 2 → AreNodes u depth w old → AreDisks w disks → n.index < 2 * u + 1 → up_in old t n.index ≡ true → ChangedIn old new t n.index (λ S. goes_down {S = S})
     → Commanded u depth w (worlds.crashes (config u depth) w t n.index) new disks [] (texts.by_mode w (λ S. texts.crash_text {S = S} (texts.node_name n)) t n.index) []
 crash_by u depth w old new n disks MidTier few k d l c h =
@@ -52,27 +70,9 @@ crash_by u depth w old new n disks MidTier few k d l c h =
     let r = crashed_is MidTier (as_mid depth) open_of_mid (w.mids x) m.0.part b.0 s.0 i.part (d.mids x b.0 (omega (arith, few, l)) b.1) s.1 in
     let to : IsMid u depth x (crashed (w.mids x) (w.mids x).mode) (record { faults = m.0.faults; depth = m.0.depth; me = m.0.me; part = goes_down m.0.part }) = record { faults = i.faults; deep = i.deep; me = i.me; part = r.0 } in
     subst (λ z. Commanded u depth w (worlds.crashes (config u depth) w MidTier x) new z [] (texts.crash_text (texts.node_name n) (w.mids x).mode) []) (sym (set_same disks (first_of MidTier + x) b.0 b.1))
-    (mid_placed u depth w old new x disks b.0 (crashed (w.mids x) (w.mids x).mode) _ _ [] few l k d to r.1 (h.0 m.0 m.1) h.1.0 h.1.1 (ap (texts.crash_text (texts.node_name n)) r.2))
-crash_by u depth w old new n disks Inv few k d l c h =
-    let x = n.index in
-    let m = some_get old.invs.items x (omega (arith, k.invs.size, l)) in
-    let b = some_get disks (5 + x) (omega (arith, d.all, few, l)) in
-    let i = k.invs.each x m.0 m.1 in
-    let s = up_state m.0.part (sym (ap back_up m.1) ∙ c) in
-    let r = crashed_is Inv (as_back u Inv) open_at (w.backs Inv x) m.0.part b.0 s.0 i.part (d.invs x b.0 (omega (arith, few, l)) b.1) s.1 in
-    let to : IsBack u Inv x (crashed (w.backs Inv x) (w.backs Inv x).mode) (record { faults = m.0.faults; tier = m.0.tier; me = m.0.me; part = goes_down m.0.part }) = record { faults = i.faults; tier = i.tier; me = i.me; part = r.0 } in
-    subst (λ z. Commanded u depth w (worlds.crashes (config u depth) w Inv x) new z [] (texts.crash_text (texts.node_name n) (w.backs Inv x).mode) []) (sym (set_same disks (first_of Inv + x) b.0 b.1))
-    (inv_placed u depth w old new x disks b.0 (crashed (w.backs Inv x) (w.backs Inv x).mode) _ _ [] few l k d to r.1 (h.0 m.0 m.1) h.1.0 h.1.1 (ap (texts.crash_text (texts.node_name n)) r.2))
-crash_by u depth w old new n disks Pay few k d l c h =
-    let x = n.index in
-    let m = some_get old.pays.items x (omega (arith, k.pays.size, l)) in
-    let b = some_get disks (10 + x) (omega (arith, d.all, few, l)) in
-    let i = k.pays.each x m.0 m.1 in
-    let s = up_state m.0.part (sym (ap back_up m.1) ∙ c) in
-    let r = crashed_is Pay (as_back u Pay) open_at (w.backs Pay x) m.0.part b.0 s.0 i.part (d.pays x b.0 (omega (arith, few, l)) b.1) s.1 in
-    let to : IsBack u Pay x (crashed (w.backs Pay x) (w.backs Pay x).mode) (record { faults = m.0.faults; tier = m.0.tier; me = m.0.me; part = goes_down m.0.part }) = record { faults = i.faults; tier = i.tier; me = i.me; part = r.0 } in
-    subst (λ z. Commanded u depth w (worlds.crashes (config u depth) w Pay x) new z [] (texts.crash_text (texts.node_name n) (w.backs Pay x).mode) []) (sym (set_same disks (first_of Pay + x) b.0 b.1))
-    (pay_placed u depth w old new x disks b.0 (crashed (w.backs Pay x) (w.backs Pay x).mode) _ _ [] few l k d to r.1 (h.0 m.0 m.1) h.1.0 h.1.1 (ap (texts.crash_text (texts.node_name n)) r.2))
+    (mid_placed u depth w old new x disks b.0 (crashed (w.mids x) (w.mids x).mode) _ _ [] few l k d to r.1 (h.0 m.0 m.1) h.1 (ap (texts.crash_text (texts.node_name n)) r.2))
+crash_by u depth w old new n disks Inv few k d l c h = back_crash u depth w old new n disks Inv tt few k d l c h
+crash_by u depth w old new n disks Pay few k d l c h = back_crash u depth w old new n disks Pay tt few k d l c h
 
 -- A NODE THAT ISN'T UP
 
@@ -92,8 +92,8 @@ crash_rests u depth w old n disks MidTier few k d l e =
     mid_kept u depth w old n.index disks (crashed (w.mids n.index) (w.mids n.index).mode) _ (absent_text n (condition_at old MidTier n.index)) few l k d (crashed_same (w.mids n.index) (w.mids n.index).mode (sym (node_up u depth w old MidTier n.index k l) ∙ e))
     (crash_told n (w.mids n.index).mode ∙ ap (absent_text n) (sym (node_condition u depth w old MidTier n.index k l)))
 crash_rests u depth w old n disks Inv few k d l e =
-    inv_kept u depth w old n.index disks (crashed (w.backs Inv n.index) (w.backs Inv n.index).mode) _ (absent_text n (condition_at old Inv n.index)) few l k d (crashed_same (w.backs Inv n.index) (w.backs Inv n.index).mode (sym (node_up u depth w old Inv n.index k l) ∙ e))
+    back_kept u depth w old Inv n.index disks (crashed (w.backs Inv n.index) (w.backs Inv n.index).mode) _ (absent_text n (condition_at old Inv n.index)) tt few l k d (crashed_same (w.backs Inv n.index) (w.backs Inv n.index).mode (sym (node_up u depth w old Inv n.index k l) ∙ e))
     (crash_told n (w.backs Inv n.index).mode ∙ ap (absent_text n) (sym (node_condition u depth w old Inv n.index k l)))
 crash_rests u depth w old n disks Pay few k d l e =
-    pay_kept u depth w old n.index disks (crashed (w.backs Pay n.index) (w.backs Pay n.index).mode) _ (absent_text n (condition_at old Pay n.index)) few l k d (crashed_same (w.backs Pay n.index) (w.backs Pay n.index).mode (sym (node_up u depth w old Pay n.index k l) ∙ e))
+    back_kept u depth w old Pay n.index disks (crashed (w.backs Pay n.index) (w.backs Pay n.index).mode) _ (absent_text n (condition_at old Pay n.index)) tt few l k d (crashed_same (w.backs Pay n.index) (w.backs Pay n.index).mode (sym (node_up u depth w old Pay n.index k l) ∙ e))
     (crash_told n (w.backs Pay n.index).mode ∙ ap (absent_text n) (sym (node_condition u depth w old Pay n.index k l)))

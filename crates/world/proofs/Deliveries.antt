@@ -30,7 +30,7 @@ use Rattle.run_model.specs.declared.trace.Fared.{Fared}
 use Rattle.run_model.specs.declared.trace.Fared.TheVariants.{Fine}
 use Rattle.run_model.specs.declared.trace.TraceEvent.TheVariants as events
 use Rattle.run_model.specs.World as worlds
-use Rattle.run_model.specs.World.{fate, happens, can_fare}
+use Rattle.run_model.specs.World.{at_back, fate, happens, can_fare}
 use Rattle.run_model.specs.Resolving as resolving
 use Rattle.run_model.specs.Text as texts
 use Rattle.run_model.specs.Text.{own_text, growth_text, after, event_text}
@@ -42,15 +42,15 @@ use Rattle.world.specs.Arming.{CanStop, asked_of, fared_by}
 use Rattle.world.specs.Calling.{Called}
 use Rattle.world.specs.Disks.{AreDisks, HasCause, first_of, place_of, place_of_end, place_of_packet}
 use Rattle.world.specs.Parts.{CanReach, Reaches, sealed}
-use Rattle.world.specs.NodeLists.{up_in, CanReachIn}
+use Rattle.world.specs.NodeLists.{up_in, CanReachIn, HasNode}
 use Rattle.world.specs.Packets.{node_of, receiver_in, message_of, message_in, is_cut_in}
 use Rattle.world.specs.Telling.{told_frame, HadMemory}
-use Rattle.world.specs.Standing.{AreNodes, Shows, Makes, PlaysBy}
+use Rattle.world.specs.Standing.{AreNodes, Shows, Makes, PlaysBy, AreShownOn}
 use Rattle.world.proofs.Moving.{Faring}
-use Rattle.world.proofs.Commands.{frames_told, Commanded, UpAt, mid_by, inv_by, pay_by}
+use Rattle.world.proofs.Commands.{frames_told, Commanded, UpAt, mid_by, back_by}
 use Rattle.world.proofs.AtCommands.{rests, mid_stays, back_stays}
 use Rattle.world.proofs.Playing.{if_can}
-use Rattle.world.proofs.Present.{node_up}
+use Rattle.world.proofs.Present.{node_up, has_node}
 
 -- AT A NODE THAT IS UP
 
@@ -61,10 +61,10 @@ arrive_by u depth w old new n k from message stop disks disk disk_after after re
     mid_by u depth w old new n.index stop disks disk disk_after after (λ m σ. mids.on_frame m.faults booking_service m.me σ from message) (λ b σ. backs.on_frame b.faults booking_service b.tier b.me σ from message) (λ σ. mids.on_frame u booking_service n.index σ from message) result met (texts.frames_text (config u depth) n k (fared_by stop met result) (w.mids n.index) (λ σ. mids.on_frame u booking_service n.index σ from message)) (told_frame n met result) h stops memory
     (λ m e f. λ i σ. mids.on_frame (e i) booking_service (f i) σ from message) c (λ σ h. frames_told u depth n (w.mids n.index).records (fared_by stop met result) met (mids.on_frame u booking_service n.index σ from message) result h)
 arrive_by u depth w old new n k from message stop disks disk disk_after after result met Inv h stops memory c =
-    inv_by u depth w old new n.index stop disks disk disk_after after (λ m σ. mids.on_frame m.faults booking_service m.me σ from message) (λ b σ. backs.on_frame b.faults booking_service b.tier b.me σ from message) (λ σ. backs.on_frame u booking_service Inv n.index σ from message) result met (texts.frames_text (config u depth) n k (fared_by stop met result) (w.backs Inv n.index) (λ σ. backs.on_frame u booking_service Inv n.index σ from message)) (told_frame n met result) h stops memory
+    back_by u depth w old new Inv n.index stop disks disk disk_after after (λ m σ. mids.on_frame m.faults booking_service m.me σ from message) (λ b σ. backs.on_frame b.faults booking_service b.tier b.me σ from message) (λ σ. backs.on_frame u booking_service Inv n.index σ from message) result met (texts.frames_text (config u depth) n k (fared_by stop met result) (w.backs Inv n.index) (λ σ. backs.on_frame u booking_service Inv n.index σ from message)) (told_frame n met result) tt h stops memory
     (λ b e t f. λ i σ. backs.on_frame (e i) booking_service (t i) (f i) σ from message) c (λ σ h. frames_told u depth n (w.backs Inv n.index).records (fared_by stop met result) met (backs.on_frame u booking_service Inv n.index σ from message) result h)
 arrive_by u depth w old new n k from message stop disks disk disk_after after result met Pay h stops memory c =
-    pay_by u depth w old new n.index stop disks disk disk_after after (λ m σ. mids.on_frame m.faults booking_service m.me σ from message) (λ b σ. backs.on_frame b.faults booking_service b.tier b.me σ from message) (λ σ. backs.on_frame u booking_service Pay n.index σ from message) result met (texts.frames_text (config u depth) n k (fared_by stop met result) (w.backs Pay n.index) (λ σ. backs.on_frame u booking_service Pay n.index σ from message)) (told_frame n met result) h stops memory
+    back_by u depth w old new Pay n.index stop disks disk disk_after after (λ m σ. mids.on_frame m.faults booking_service m.me σ from message) (λ b σ. backs.on_frame b.faults booking_service b.tier b.me σ from message) (λ σ. backs.on_frame u booking_service Pay n.index σ from message) result met (texts.frames_text (config u depth) n k (fared_by stop met result) (w.backs Pay n.index) (λ σ. backs.on_frame u booking_service Pay n.index σ from message)) (told_frame n met result) tt h stops memory
     (λ b e t f. λ i σ. backs.on_frame (e i) booking_service (t i) (f i) σ from message) c (λ σ h. frames_told u depth n (w.backs Pay n.index).records (fared_by stop met result) met (backs.on_frame u booking_service Pay n.index σ from message) result h)
 
 -- AT A NODE THAT ISN'T UP
@@ -74,6 +74,12 @@ lost u depth n k fared node row (Up s) e = absurd (cc)
 lost u depth n k fared node row Down e = refl
 lost u depth n k fared node row Gone e = refl
 
+back_lost : (u depth : ℕ) (w : BookingWorld) (nodes : Nodes) (n : NodeId) (k : ℕ) (fared : Fared) (row : Back Amounts → Move (Back Amounts)) (disks : List DiskState) (t : Tier) → AreNodes u depth w nodes → AreDisks w disks → resolving.is_up (w.backs t n.index).mode ≡ false
+    → Commanded u depth w (at_back (config u depth) w t n.index (fate (config u depth) fared) row) nodes disks [] (texts.frames_text (config u depth) n k fared (w.backs t n.index) row (w.backs t n.index).mode) (texts.lost_line k)
+back_lost u depth w nodes n k fared row disks t a on absent =
+    subst (λ z. Commanded u depth w z nodes disks [] (texts.frames_text (config u depth) n k fared (w.backs t n.index) row (w.backs t n.index).mode) (texts.lost_line k)) (sym (back_stays u depth w t n.index (fate (config u depth) fared) row absent))
+    (rests u depth w nodes disks _ _ a on (lost u depth n k fared (w.backs t n.index) row (w.backs t n.index).mode absent))
+
 pub lost_by : (u depth : ℕ) (w : BookingWorld) (nodes : Nodes) (n : NodeId) (k : ℕ) (fared : Fared) (from : End) (message : Msg) (disks : List DiskState) (t : Tier) → AreNodes u depth w nodes → AreDisks w disks → n.index < 2 * u + 1 → up_in nodes t n.index ≡ false
     → Commanded u depth w (worlds.node_gets (config u depth) w fared from message t n.index) nodes disks [] (texts.node_frame_text (config u depth) w k fared from message n t) (texts.lost_line k)
 lost_by u depth w nodes n k fared from message disks MidTier a on l e =
@@ -81,16 +87,8 @@ lost_by u depth w nodes n k fared from message disks MidTier a on l e =
     let absent : resolving.is_up (w.mids n.index).mode ≡ false = sym (node_up u depth w nodes MidTier n.index a l) ∙ e in
     subst (λ z. Commanded u depth w z nodes disks [] (texts.frames_text (config u depth) n k fared (w.mids n.index) row (w.mids n.index).mode) (texts.lost_line k)) (sym (mid_stays u depth w n.index (fate (config u depth) fared) row absent))
     (rests u depth w nodes disks _ _ a on (lost u depth n k fared (w.mids n.index) row (w.mids n.index).mode absent))
-lost_by u depth w nodes n k fared from message disks Inv a on l e =
-    let row : Back Amounts → Move (Back Amounts) = λ σ. backs.on_frame u booking_service Inv n.index σ from message in
-    let absent : resolving.is_up (w.backs Inv n.index).mode ≡ false = sym (node_up u depth w nodes Inv n.index a l) ∙ e in
-    subst (λ z. Commanded u depth w z nodes disks [] (texts.frames_text (config u depth) n k fared (w.backs Inv n.index) row (w.backs Inv n.index).mode) (texts.lost_line k)) (sym (back_stays u depth w Inv n.index (fate (config u depth) fared) row absent))
-    (rests u depth w nodes disks _ _ a on (lost u depth n k fared (w.backs Inv n.index) row (w.backs Inv n.index).mode absent))
-lost_by u depth w nodes n k fared from message disks Pay a on l e =
-    let row : Back Amounts → Move (Back Amounts) = λ σ. backs.on_frame u booking_service Pay n.index σ from message in
-    let absent : resolving.is_up (w.backs Pay n.index).mode ≡ false = sym (node_up u depth w nodes Pay n.index a l) ∙ e in
-    subst (λ z. Commanded u depth w z nodes disks [] (texts.frames_text (config u depth) n k fared (w.backs Pay n.index) row (w.backs Pay n.index).mode) (texts.lost_line k)) (sym (back_stays u depth w Pay n.index (fate (config u depth) fared) row absent))
-    (rests u depth w nodes disks _ _ a on (lost u depth n k fared (w.backs Pay n.index) row (w.backs Pay n.index).mode absent))
+lost_by u depth w nodes n k fared from message disks Inv a on l e = back_lost u depth w nodes n k fared (λ σ. backs.on_frame u booking_service Inv n.index σ from message) disks Inv a on (sym (node_up u depth w nodes Inv n.index a l) ∙ e)
+lost_by u depth w nodes n k fared from message disks Pay a on l e = back_lost u depth w nodes n k fared (λ σ. backs.on_frame u booking_service Pay n.index σ from message) disks Pay a on (sym (node_up u depth w nodes Pay n.index a l) ∙ e)
 
 -- PACKETS
 
@@ -128,6 +126,10 @@ addressed u depth w parts i n s e = go (slice_get w.soup i) refl
         let t : k.to ≡ Node n = to_node k.to (sym (ap receiver_in (at (Some k) f)) ∙ e) in
         let r : Reaches u k.from (Node n) k.message = subst (λ z. Reaches u k.from z k.message) t (s.reach i k f) in
         record { packet = k; is = f; to = t; there = r.0; reach = r.1; says = ap message_in (at (Some k) f) ∙ ap message_of (frame_again k.from k.message (s.fit i k f)) }
+
+-- the node is there
+pub has_receiver : (parts : Parts) (disks : List DiskState) (i : ℕ) (n : NodeId) → AreShownOn parts disks → receiver_in (slice_get parts.soup i) ≡ Some n → HasNode parts.nodes n
+has_receiver parts disks i n r e = has_node r.0 r.1 r.2 parts.nodes n.index n.tier r.3.nodes (addressed r.0 r.1 r.2 parts i n r.3 e).there
 
 -- its disk is the node's
 pub place_is : (u : ℕ) (w : BookingWorld) (parts : Parts) (i : ℕ) (n : NodeId) (a : Addressed u w parts i n) → place_of_packet (slice_get w.soup i) ≡ Some (place_of n)

@@ -1,5 +1,6 @@
 -- A call at a node is the node's event in the world, on the node's disk.
 use Rattle.std.proofs.Common.{◌≡◌, ℕ, ◌+◌, ◌*◌, ◌<◌, Bool, true, false, List, [], ◌∷◌, refl, sym, ap, ◌∙◌, subst, inl, inr, arith, Option, Some, None, Result, zero, suc}
+use Rattle.world.proofs.Lists.{passes}
 use Rattle.std.specs.Prelude.{slice_get, slice_set, map, ◌==◌, ◌⊎◌}
 use Rattle.std.proofs.lemmas.Bool.{cond-true, cond-false, eq-eqb, ne_eqb}
 use Rattle.std.proofs.lemmas.List.{length-set}
@@ -8,6 +9,7 @@ use Rattle.aeg_base.specs.declared.names.Tier.{Tier}
 use Rattle.aeg_base.specs.declared.names.Tier.TheVariants as tiers
 use Rattle.aeg_base.specs.declared.names.End.{End}
 use Rattle.aeg_disk.specs.Disk.{DiskState}
+use Rattle.svc_api.specs.Plan.{IsBackend}
 use Rattle.fact_journal.specs.Calls.{is_past}
 use Rattle.server_model.specs.Backends.{Amounts}
 use Rattle.log_model.specs.Log.{LogState, open_at}
@@ -29,10 +31,11 @@ use Rattle.world.specs.declared.parts.arming.StopAt.{StopAt}
 use Rattle.world.specs.Arming.{CanStop, asked_of, armed_with, fared_by, at_rest}
 use Rattle.world.specs.Calling.{IsSureIf, Called}
 use Rattle.world.specs.Disks.{IsDiskOf, AreDisksOf}
-use Rattle.world.specs.Parts.{NodePart, MidPart, MidView, BackView, MidMoves, BackMoves, as_mid, as_back, is_up, is_up_in, sealed, AreFit, AllReach}
-use Rattle.world.specs.NodeLists.{mid_up, back_up, MidsMove, BacksMove}
+use Rattle.world.specs.Parts.{NodePart, MidPart, MidView, BackView, MidMoves, BackMoves, as_mid, as_back, is_up, is_up_in, is_sure_now, sealed, AreFit, AllReach}
+use Rattle.world.specs.NodeLists.{backs_of, mid_up, back_up, MidsMove, BacksMove}
 use Rattle.world.specs.Telling.{HadMemory}
 use Rattle.world.specs.Standing.{mode_by, journal_of, open_of_mid, IsNode, IsMid, IsBack, AreAll}
+use Rattle.world.proofs.Backends.{KeepsElse, keeps_then, keeps_sure, backs_move, backs_change}
 use Rattle.world.proofs.Moving.{CameOut, Came, Call, Faring, sure_if}
 use Rattle.world.proofs.Coming.{came, came_quiet}
 
@@ -122,16 +125,6 @@ done n x u t Is nodes vs v whole open_of part new s disk_before disk_after after
   how = c.how;
 }
 
--- the other tiers stay
-abbrev pub KeepsMids : Nodes → Nodes → Type 0
-KeepsMids old new = new.mids.items ≡ old.mids.items
-
-abbrev pub KeepsInvs : Nodes → Nodes → Type 0
-KeepsInvs old new = new.invs.items ≡ old.invs.items
-
-abbrev pub KeepsPays : Nodes → Nodes → Type 0
-KeepsPays old new = new.pays.items ≡ old.pays.items
-
 -- A MIDDLE NODE
 
 abbrev pub mid_sure : Bool → MidView → MidView
@@ -173,41 +166,39 @@ mids_after false old between new x m n e b k = (ap (λ (z : Nodes). z.mids.items
 
 pub mid_done : (u depth x : ℕ) (nodes : ℕ → NodeOf Mid Fact) (old new : Nodes) (stop : Option StopAt) (disk disk_after : DiskState) (after : List (End × List ℕ)) (call : MidView → Mid → Move Mid) (back : BackView → Back Amounts → Move (Back Amounts)) (row : Mid → Move Mid) (result : Result Answer Fault) (met : Bool)
     → AreAll (2 * u + 1) (IsMid u depth) nodes old.mids.items → mid_up (slice_get old.mids.items x) ≡ true → IsDiskOf (nodes x) disk → CanStop stop → HadMemory result → ((m : MidView) → m.faults ≡ u → m.me ≡ x → call m ≡ row) → Called old new tiers.Mid x stop disk disk_after [] after call back result met
-    → Done (2 * u + 1) x u (IsMid u depth) nodes new.mids.items disk disk_after after (fate (config u depth) (fared_by stop met result)) (asked_of stop) (fared_by stop met result) met row result × (KeepsInvs old new × KeepsPays old new)
-mid_done u depth x nodes old new stop disk disk_after after call back row result met k up on stops memory same c = go (slice_get old.mids.items x) refl up
-  where
-    go : (o : Option MidView) → slice_get old.mids.items x ≡ o → mid_up o ≡ true → Done (2 * u + 1) x u (IsMid u depth) nodes new.mids.items disk disk_after after (fate (config u depth) (fared_by stop met result)) (asked_of stop) (fared_by stop met result) met row result × (KeepsInvs old new × KeepsPays old new)
-    go None e f = absurd (cc)
-    go (Some m) e f =
-        let i : IsMid u depth x (nodes x) m = k.each x m e in
-        let s = up_state m.part f in
-        let h = c.moves.0 m e in
-        let n : MidView = h.0 in
-        let b = mids_after met old c.between new x m n e h.1 c.sure in
-        let p = mid_called u depth x (nodes x) m n disk c.called stop s.0 after call row result i on s.1 stops same h.2 in
-        let r = came tiers.Mid (as_mid depth) open_of_mid u depth (nodes x) m.part n.part disk c.called stop met s.0 (row (as_mid depth s.0)) after result c.stopped memory p.0 in
-        let d = done (2 * u + 1) x u tiers.Mid (IsMid u depth) nodes old.mids.items (mid_sure met n) (as_mid depth) open_of_mid m.part n.part s.0 disk (at_rest c.called) after (fate (config u depth) (fared_by stop met result)) (asked_of stop) (fared_by stop met result) met row result k i.part s.1 (λ to q. p.1 (sure_if met n.part) to q) r in (
-          subst (λ z. Done (2 * u + 1) x u (IsMid u depth) nodes z disk disk_after after (fate (config u depth) (fared_by stop met result)) (asked_of stop) (fared_by stop met result) met row result) (sym b.0)
-              (subst (λ z. Done (2 * u + 1) x u (IsMid u depth) nodes (slice_set old.mids.items x (mid_sure met n)) disk z after (fate (config u depth) (fared_by stop met result)) (asked_of stop) (fared_by stop met result) met row result) (sym c.rests) d),
-          (b.1.0 ∙ c.moves.1.0, b.1.1 ∙ c.moves.1.1),
-        )
+    → Done (2 * u + 1) x u (IsMid u depth) nodes new.mids.items disk disk_after after (fate (config u depth) (fared_by stop met result)) (asked_of stop) (fared_by stop met result) met row result × KeepsElse tiers.Mid old new
+mid_done u depth x nodes old new stop disk disk_after after call back row result met k up on stops memory same c =
+    let found = passes mid_up (slice_get old.mids.items x) refl up in
+    let m = found.0 in
+    let e = found.1 in
+    let i : IsMid u depth x (nodes x) m = k.each x m e in
+    let s = up_state m.part found.2 in
+    let h = c.moves.0 m e in
+    let n : MidView = h.0 in
+    let b = mids_after met old c.between new x m n e h.1 c.sure in
+    let p = mid_called u depth x (nodes x) m n disk c.called stop s.0 after call row result i on s.1 stops same h.2 in
+    let r = came tiers.Mid (as_mid depth) open_of_mid u depth (nodes x) m.part n.part disk c.called stop met s.0 (row (as_mid depth s.0)) after result c.stopped memory p.0 in
+    let d = done (2 * u + 1) x u tiers.Mid (IsMid u depth) nodes old.mids.items (mid_sure met n) (as_mid depth) open_of_mid m.part n.part s.0 disk (at_rest c.called) after (fate (config u depth) (fared_by stop met result)) (asked_of stop) (fared_by stop met result) met row result k i.part s.1 (λ to q. p.1 (sure_if met n.part) to q) r in (
+      subst (λ z. Done (2 * u + 1) x u (IsMid u depth) nodes z disk disk_after after (fate (config u depth) (fared_by stop met result)) (asked_of stop) (fared_by stop met result) met row result) (sym b.0)
+          (subst (λ z. Done (2 * u + 1) x u (IsMid u depth) nodes (slice_set old.mids.items x (mid_sure met n)) disk z after (fate (config u depth) (fared_by stop met result)) (asked_of stop) (fared_by stop met result) met row result) (sym c.rests) d),
+      (b.1.0 ∙ c.moves.1.0, b.1.1 ∙ c.moves.1.1),
+    )
 
 -- a call that writes nothing
 pub mid_quiet : (u depth x : ℕ) (nodes : ℕ → NodeOf Mid Fact) (old new : List MidView) (disk : DiskState) (after : List (End × List ℕ)) (call : MidView → Mid → Move Mid) (row : Mid → Move Mid) (result : Result Answer Fault)
     → AreAll (2 * u + 1) (IsMid u depth) nodes old → mid_up (slice_get old x) ≡ true → IsDiskOf (nodes x) disk → HadMemory result → ((m : MidView) → m.faults ≡ u → m.me ≡ x → call m ≡ row) → ((σ : Mid) → (row σ).facts ≡ []) → MidsMove old new x disk disk [] after call result
     → Done (2 * u + 1) x u (IsMid u depth) nodes new disk disk after unwritten Fine Fine false row result
-mid_quiet u depth x nodes old new disk after call row result k up on memory same silent move = go (slice_get old x) refl up
-  where
-    go : (o : Option MidView) → slice_get old x ≡ o → mid_up o ≡ true → Done (2 * u + 1) x u (IsMid u depth) nodes new disk disk after unwritten Fine Fine false row result
-    go None e f = absurd (cc)
-    go (Some m) e f =
-        let i : IsMid u depth x (nodes x) m = k.each x m e in
-        let s = up_state m.part f in
-        let h = move m e in
-        let p = mid_called u depth x (nodes x) m h.0 disk disk None s.0 after call row result i on s.1 tt same h.2 in
-        let r = came_quiet tiers.Mid (as_mid depth) open_of_mid u depth (nodes x) m.part h.0.part disk s.0 (row (as_mid depth s.0)) after result (silent (as_mid depth s.0)) memory p.0 in
-        subst (λ z. Done (2 * u + 1) x u (IsMid u depth) nodes z disk disk after unwritten Fine Fine false row result) (sym h.1)
-        (done (2 * u + 1) x u tiers.Mid (IsMid u depth) nodes old h.0 (as_mid depth) open_of_mid m.part h.0.part s.0 disk disk after unwritten Fine Fine false row result k i.part s.1 (λ to q. p.1 h.0.part to q) r)
+mid_quiet u depth x nodes old new disk after call row result k up on memory same silent move =
+    let found = passes mid_up (slice_get old x) refl up in
+    let m = found.0 in
+    let e = found.1 in
+    let i : IsMid u depth x (nodes x) m = k.each x m e in
+    let s = up_state m.part found.2 in
+    let h = move m e in
+    let p = mid_called u depth x (nodes x) m h.0 disk disk None s.0 after call row result i on s.1 tt same h.2 in
+    let r = came_quiet tiers.Mid (as_mid depth) open_of_mid u depth (nodes x) m.part h.0.part disk s.0 (row (as_mid depth s.0)) after result (silent (as_mid depth s.0)) memory p.0 in
+    subst (λ z. Done (2 * u + 1) x u (IsMid u depth) nodes z disk disk after unwritten Fine Fine false row result) (sym h.1)
+    (done (2 * u + 1) x u tiers.Mid (IsMid u depth) nodes old h.0 (as_mid depth) open_of_mid m.part h.0.part s.0 disk disk after unwritten Fine Fine false row result k i.part s.1 (λ to q. p.1 h.0.part to q) r)
 
 -- A BACKEND NODE
 
@@ -244,72 +235,47 @@ back_at : (u depth : ℕ) (t : Tier) (x : ℕ) (nodes : ℕ → NodeOf (Back Amo
     → AreAll (2 * u + 1) (IsBack u t) nodes old → back_up (slice_get old x) ≡ true → IsDiskOf (nodes x) disk → CanStop stop → HadMemory result → ((b : BackView) → b.faults ≡ u → b.tier ≡ t → b.me ≡ x → call b ≡ row)
     → BacksMove old between x (armed_with stop disk) called [] after call result → met ≡ called.stopped → disk_after ≡ at_rest called → ((m n : BackView) → slice_get old x ≡ Some m → between ≡ slice_set old x n → new ≡ slice_set old x (back_sure met n))
     → Done (2 * u + 1) x u (IsBack u t) nodes new disk disk_after after (fate (config u depth) (fared_by stop met result)) (asked_of stop) (fared_by stop met result) met row result
-back_at u depth t x nodes old between new stop disk called disk_after after call row result met k up on stops memory same moves stopped rests left = go (slice_get old x) refl up
-  where
-    go : (o : Option BackView) → slice_get old x ≡ o → back_up o ≡ true → Done (2 * u + 1) x u (IsBack u t) nodes new disk disk_after after (fate (config u depth) (fared_by stop met result)) (asked_of stop) (fared_by stop met result) met row result
-    go None e f = absurd (cc)
-    go (Some m) e f =
-        let i : IsBack u t x (nodes x) m = k.each x m e in
-        let s = up_state m.part f in
-        let h = moves m e in
-        let n : BackView = h.0 in
-        let p = back_called u t x (nodes x) m n disk called stop s.0 after call row result i on s.1 stops same h.2 in
-        let r = came t (as_back u t) open_at u depth (nodes x) m.part n.part disk called stop met s.0 (row (as_back u t s.0)) after result stopped memory p.0 in
-        let d = done (2 * u + 1) x u t (IsBack u t) nodes old (back_sure met n) (as_back u t) open_at m.part n.part s.0 disk (at_rest called) after (fate (config u depth) (fared_by stop met result)) (asked_of stop) (fared_by stop met result) met row result k i.part s.1 (λ to q. p.1 (sure_if met n.part) to q) r in
-        subst (λ z. Done (2 * u + 1) x u (IsBack u t) nodes z disk disk_after after (fate (config u depth) (fared_by stop met result)) (asked_of stop) (fared_by stop met result) met row result) (sym (left m n e h.1))
-        (subst (λ z. Done (2 * u + 1) x u (IsBack u t) nodes (slice_set old x (back_sure met n)) disk z after (fate (config u depth) (fared_by stop met result)) (asked_of stop) (fared_by stop met result) met row result) (sym rests) d)
+back_at u depth t x nodes old between new stop disk called disk_after after call row result met k up on stops memory same moves stopped rests left =
+    let found = passes back_up (slice_get old x) refl up in
+    let m = found.0 in
+    let e = found.1 in
+    let i : IsBack u t x (nodes x) m = k.each x m e in
+    let s = up_state m.part found.2 in
+    let h = moves m e in
+    let n : BackView = h.0 in
+    let p = back_called u t x (nodes x) m n disk called stop s.0 after call row result i on s.1 stops same h.2 in
+    let r = came t (as_back u t) open_at u depth (nodes x) m.part n.part disk called stop met s.0 (row (as_back u t s.0)) after result stopped memory p.0 in
+    let d = done (2 * u + 1) x u t (IsBack u t) nodes old (back_sure met n) (as_back u t) open_at m.part n.part s.0 disk (at_rest called) after (fate (config u depth) (fared_by stop met result)) (asked_of stop) (fared_by stop met result) met row result k i.part s.1 (λ to q. p.1 (sure_if met n.part) to q) r in
+    subst (λ z. Done (2 * u + 1) x u (IsBack u t) nodes z disk disk_after after (fate (config u depth) (fared_by stop met result)) (asked_of stop) (fared_by stop met result) met row result) (sym (left m n e h.1))
+    (subst (λ z. Done (2 * u + 1) x u (IsBack u t) nodes (slice_set old x (back_sure met n)) disk z after (fate (config u depth) (fared_by stop met result)) (asked_of stop) (fared_by stop met result) met row result) (sym rests) d)
 
-inv_after : (met : Bool) (old between new : Nodes) (x : ℕ) (m n : BackView) → IsSureIf met between new tiers.Inv x → slice_get old.invs.items x ≡ Some m → between.invs.items ≡ slice_set old.invs.items x n → new.invs.items ≡ slice_set old.invs.items x (back_sure met n)
-inv_after true old between new x m n k e b =
-    let here : slice_get between.invs.items x ≡ Some n = ap (λ z. slice_get z x) b ∙ get_here old.invs.items x m n e in
-    k.0 n here ∙ ap (λ z. slice_set z x (back_sure true n)) b ∙ set_again old.invs.items x n (back_sure true n)
-inv_after false old between new x m n k e b = ap (λ (z : Nodes). z.invs.items) k ∙ b
+back_after : (t : Tier) (met : Bool) (old between new : Nodes) (x : ℕ) (m n : BackView) → IsBackend t → IsSureIf met between new t x → slice_get (backs_of old t) x ≡ Some m → backs_of between t ≡ slice_set (backs_of old t) x n → backs_of new t ≡ slice_set (backs_of old t) x (back_sure met n)
+back_after t true old between new x m n r k e b =
+    let here : slice_get (backs_of between t) x ≡ Some n = ap (λ z. slice_get z x) b ∙ get_here (backs_of old t) x m n e in
+    (backs_change t between new x (λ S. is_sure_now {S = S}) r k).0 n here ∙ ap (λ z. slice_set z x (back_sure true n)) b ∙ set_again (backs_of old t) x n (back_sure true n)
+back_after t false old between new x m n r k e b = ap (λ z. backs_of z t) k ∙ b
 
-inv_rest : (met : Bool) (between new : Nodes) (x : ℕ) → IsSureIf met between new tiers.Inv x → (new.mids.items ≡ between.mids.items) × (new.pays.items ≡ between.pays.items)
-inv_rest true between new x k = k.1
-inv_rest false between new x k = (ap (λ (z : Nodes). z.mids.items) k, ap (λ (z : Nodes). z.pays.items) k)
-
-pub inv_done : (u depth x : ℕ) (nodes : ℕ → NodeOf (Back Amounts) Fact) (old new : Nodes) (stop : Option StopAt) (disk disk_after : DiskState) (after : List (End × List ℕ)) (call : MidView → Mid → Move Mid) (back : BackView → Back Amounts → Move (Back Amounts)) (row : Back Amounts → Move (Back Amounts)) (result : Result Answer Fault) (met : Bool)
-    → AreAll (2 * u + 1) (IsBack u tiers.Inv) nodes old.invs.items → back_up (slice_get old.invs.items x) ≡ true → IsDiskOf (nodes x) disk → CanStop stop → HadMemory result → ((b : BackView) → b.faults ≡ u → b.tier ≡ tiers.Inv → b.me ≡ x → back b ≡ row) → Called old new tiers.Inv x stop disk disk_after [] after call back result met
-    → Done (2 * u + 1) x u (IsBack u tiers.Inv) nodes new.invs.items disk disk_after after (fate (config u depth) (fared_by stop met result)) (asked_of stop) (fared_by stop met result) met row result × (KeepsMids old new × KeepsPays old new)
-inv_done u depth x nodes old new stop disk disk_after after call back row result met k up on stops memory same c =
-    let r = inv_rest met c.between new x c.sure in (
-      back_at u depth tiers.Inv x nodes old.invs.items c.between.invs.items new.invs.items stop disk c.called disk_after after back row result met k up on stops memory same c.moves.0 c.stopped c.rests (λ m n. inv_after met old c.between new x m n c.sure),
-      (r.0 ∙ c.moves.1.0, r.1 ∙ c.moves.1.1),
-    )
-
-pay_after : (met : Bool) (old between new : Nodes) (x : ℕ) (m n : BackView) → IsSureIf met between new tiers.Pay x → slice_get old.pays.items x ≡ Some m → between.pays.items ≡ slice_set old.pays.items x n → new.pays.items ≡ slice_set old.pays.items x (back_sure met n)
-pay_after true old between new x m n k e b =
-    let here : slice_get between.pays.items x ≡ Some n = ap (λ z. slice_get z x) b ∙ get_here old.pays.items x m n e in
-    k.0 n here ∙ ap (λ z. slice_set z x (back_sure true n)) b ∙ set_again old.pays.items x n (back_sure true n)
-pay_after false old between new x m n k e b = ap (λ (z : Nodes). z.pays.items) k ∙ b
-
-pay_rest : (met : Bool) (between new : Nodes) (x : ℕ) → IsSureIf met between new tiers.Pay x → (new.mids.items ≡ between.mids.items) × (new.invs.items ≡ between.invs.items)
-pay_rest true between new x k = k.1
-pay_rest false between new x k = (ap (λ (z : Nodes). z.mids.items) k, ap (λ (z : Nodes). z.invs.items) k)
-
-pub pay_done : (u depth x : ℕ) (nodes : ℕ → NodeOf (Back Amounts) Fact) (old new : Nodes) (stop : Option StopAt) (disk disk_after : DiskState) (after : List (End × List ℕ)) (call : MidView → Mid → Move Mid) (back : BackView → Back Amounts → Move (Back Amounts)) (row : Back Amounts → Move (Back Amounts)) (result : Result Answer Fault) (met : Bool)
-    → AreAll (2 * u + 1) (IsBack u tiers.Pay) nodes old.pays.items → back_up (slice_get old.pays.items x) ≡ true → IsDiskOf (nodes x) disk → CanStop stop → HadMemory result → ((b : BackView) → b.faults ≡ u → b.tier ≡ tiers.Pay → b.me ≡ x → back b ≡ row) → Called old new tiers.Pay x stop disk disk_after [] after call back result met
-    → Done (2 * u + 1) x u (IsBack u tiers.Pay) nodes new.pays.items disk disk_after after (fate (config u depth) (fared_by stop met result)) (asked_of stop) (fared_by stop met result) met row result × (KeepsMids old new × KeepsInvs old new)
-pay_done u depth x nodes old new stop disk disk_after after call back row result met k up on stops memory same c =
-    let r = pay_rest met c.between new x c.sure in (
-      back_at u depth tiers.Pay x nodes old.pays.items c.between.pays.items new.pays.items stop disk c.called disk_after after back row result met k up on stops memory same c.moves.0 c.stopped c.rests (λ m n. pay_after met old c.between new x m n c.sure),
-      (r.0 ∙ c.moves.1.0, r.1 ∙ c.moves.1.1),
+pub back_done : (u depth : ℕ) (t : Tier) (x : ℕ) (nodes : ℕ → NodeOf (Back Amounts) Fact) (old new : Nodes) (stop : Option StopAt) (disk disk_after : DiskState) (after : List (End × List ℕ)) (call : MidView → Mid → Move Mid) (back : BackView → Back Amounts → Move (Back Amounts)) (row : Back Amounts → Move (Back Amounts)) (result : Result Answer Fault) (met : Bool) → IsBackend t
+    → AreAll (2 * u + 1) (IsBack u t) nodes (backs_of old t) → back_up (slice_get (backs_of old t) x) ≡ true → IsDiskOf (nodes x) disk → CanStop stop → HadMemory result → ((b : BackView) → b.faults ≡ u → b.tier ≡ t → b.me ≡ x → back b ≡ row) → Called old new t x stop disk disk_after [] after call back result met
+    → Done (2 * u + 1) x u (IsBack u t) nodes (backs_of new t) disk disk_after after (fate (config u depth) (fared_by stop met result)) (asked_of stop) (fared_by stop met result) met row result × KeepsElse t old new
+back_done u depth t x nodes old new stop disk disk_after after call back row result met r k up on stops memory same c =
+    let h = backs_move t old c.between x (armed_with stop disk) c.called [] after call back result r c.moves in (
+      back_at u depth t x nodes (backs_of old t) (backs_of c.between t) (backs_of new t) stop disk c.called disk_after after back row result met k up on stops memory same h.0 c.stopped c.rests (λ m n. back_after t met old c.between new x m n r c.sure),
+      keeps_then t old c.between new h.1 (keeps_sure t met c.between new x c.sure),
     )
 
 -- a call that writes nothing
 pub back_quiet : (u depth : ℕ) (t : Tier) (x : ℕ) (nodes : ℕ → NodeOf (Back Amounts) Fact) (old new : List BackView) (disk : DiskState) (after : List (End × List ℕ)) (call : BackView → Back Amounts → Move (Back Amounts)) (row : Back Amounts → Move (Back Amounts)) (result : Result Answer Fault)
     → AreAll (2 * u + 1) (IsBack u t) nodes old → back_up (slice_get old x) ≡ true → IsDiskOf (nodes x) disk → HadMemory result → ((b : BackView) → b.faults ≡ u → b.tier ≡ t → b.me ≡ x → call b ≡ row) → ((σ : Back Amounts) → (row σ).facts ≡ []) → BacksMove old new x disk disk [] after call result
     → Done (2 * u + 1) x u (IsBack u t) nodes new disk disk after unwritten Fine Fine false row result
-back_quiet u depth t x nodes old new disk after call row result k up on memory same silent move = go (slice_get old x) refl up
-  where
-    go : (o : Option BackView) → slice_get old x ≡ o → back_up o ≡ true → Done (2 * u + 1) x u (IsBack u t) nodes new disk disk after unwritten Fine Fine false row result
-    go None e f = absurd (cc)
-    go (Some m) e f =
-        let i : IsBack u t x (nodes x) m = k.each x m e in
-        let s = up_state m.part f in
-        let h = move m e in
-        let p = back_called u t x (nodes x) m h.0 disk disk None s.0 after call row result i on s.1 tt same h.2 in
-        let r = came_quiet t (as_back u t) open_at u depth (nodes x) m.part h.0.part disk s.0 (row (as_back u t s.0)) after result (silent (as_back u t s.0)) memory p.0 in
-        subst (λ z. Done (2 * u + 1) x u (IsBack u t) nodes z disk disk after unwritten Fine Fine false row result) (sym h.1)
-        (done (2 * u + 1) x u t (IsBack u t) nodes old h.0 (as_back u t) open_at m.part h.0.part s.0 disk disk after unwritten Fine Fine false row result k i.part s.1 (λ to q. p.1 h.0.part to q) r)
+back_quiet u depth t x nodes old new disk after call row result k up on memory same silent move =
+    let found = passes back_up (slice_get old x) refl up in
+    let m = found.0 in
+    let e = found.1 in
+    let i : IsBack u t x (nodes x) m = k.each x m e in
+    let s = up_state m.part found.2 in
+    let h = move m e in
+    let p = back_called u t x (nodes x) m h.0 disk disk None s.0 after call row result i on s.1 tt same h.2 in
+    let r = came_quiet t (as_back u t) open_at u depth (nodes x) m.part h.0.part disk s.0 (row (as_back u t s.0)) after result (silent (as_back u t s.0)) memory p.0 in
+    subst (λ z. Done (2 * u + 1) x u (IsBack u t) nodes z disk disk after unwritten Fine Fine false row result) (sym h.1)
+    (done (2 * u + 1) x u t (IsBack u t) nodes old h.0 (as_back u t) open_at m.part h.0.part s.0 disk disk after unwritten Fine Fine false row result k i.part s.1 (λ to q. p.1 h.0.part to q) r)

@@ -1,5 +1,6 @@
 -- An event ends: its packets join all others, the logs go on, and the parts are again the world's.
-use Rattle.std.proofs.Common.{◌≡◌, ℕ, ◌≤◌, length, List, [], ◌∷◌, ◌++◌, refl, sym, ap, ◌∙◌, subst, inl, inr, Some, zero, suc}
+use Rattle.std.proofs.Common.{◌≡◌, ℕ, ◌≤◌, length, List, [], ◌∷◌, ◌++◌, sym, ap, ◌∙◌, subst, inl, inr, Some, zero, suc}
+use Rattle.std.proofs.lemmas.List.{map-append}
 use Rattle.std.specs.Prelude.{slice_get, map, ◌⊎◌}
 use Rattle.aeg_base.specs.declared.limits.TheConstants.{PACKETS}
 use Rattle.aeg_base.specs.declared.names.End.{End}
@@ -46,10 +47,6 @@ reach-append u xs ys f g i k e = go (get_cases xs ys i k e)
     go : (slice_get xs i ≡ Some k) ⊎ ((j : ℕ) × (slice_get ys j ≡ Some k)) → Reaches u k.from k.to k.message
     go (inl h) = f i k h
     go (inr h) = g h.0 k h.1
-
-map-append : {A B : Type 0} (f : A → B) (xs ys : List A) → map f (xs ++ ys) ≡ map f xs ++ map f ys
-map-append f [] ys = refl
-map-append f (x ∷ xs) ys = ap (λ z. f x ∷ z) (map-append f xs ys)
 
 -- the parts after the event
 pub record Ended (old new : Parts) (nodes : Nodes) (packets : List (End × List ℕ)) : Type 0 where

@@ -1,5 +1,6 @@
 -- What the chosen logs gain where the middle log carries batches alone and the others carry nothing.
-use Rattle.std.proofs.Common.{◌≡◌, ℕ, ◌+◌, ◌*◌, Bool, true, false, cond, List, [], ◌∷◌, ◌++◌, refl, sym, ap, ◌∙◌, subst, length, drop, arith, append-nil, Option, Some, None}
+use Rattle.std.proofs.Common.{◌≡◌, ℕ, ◌+◌, ◌*◌, Bool, true, false, cond, List, [], ◌∷◌, ◌++◌, refl, sym, ap, ◌∙◌, subst, length, drop, append-nil, Option, Some, None, length-append}
+use Rattle.std.proofs.Math.Seq.{drop-append_seam, drop-length}
 use Rattle.std.specs.Prelude.{◌==◌, ◌&&◌}
 use Rattle.aeg_base.specs.declared.names.Tier.{Tier}
 use Rattle.aeg_base.specs.declared.names.Tier.TheVariants.{Mid, Inv, Pay}
@@ -122,14 +123,6 @@ grown_is c w k = (w.log ++ gained (chosen_next c w), grown_world c w k)
 
 -- TEXT
 
-drop-front : {A : Type 0} (xs ys : List A) → drop (length xs) (xs ++ ys) ≡ ys
-drop-front [] ys = refl
-drop-front (x ∷ xs) ys = drop-front xs ys
-
-drop-all : {A : Type 0} (xs : List A) → drop (length xs) xs ≡ []
-drop-all [] = refl
-drop-all (x ∷ xs) = drop-all xs
-
 batch_text : (p : ℕ) (v : AnyValue) → IsBatch v → chosen_text p (v ∷ []) ≡ []
 batch_text p (values.Mid (Batch es)) b = refl
 batch_text p (values.Mid (Decided v)) b = absurd b
@@ -147,31 +140,23 @@ growth_is_silent {B} c old w k e f =
     ap (growth_text old) (grown_world c w k)
     ∙ ap (λ z. chosen_text (length old.log) (drop (length old.log) (z ++ gained o)) ++ history_text (drop (length old.hist) w.hist)) e
     ∙ ap (λ z. chosen_text (length old.log) (drop (length old.log) (old.log ++ gained o)) ++ history_text (drop (length old.hist) z)) f
-    ∙ ap (λ z. chosen_text (length old.log) z ++ history_text (drop (length old.hist) old.hist)) (drop-front old.log (gained o))
-    ∙ ap (λ z. chosen_text (length old.log) (gained o) ++ history_text z) (drop-all old.hist)
+    ∙ ap (λ z. chosen_text (length old.log) z ++ history_text (drop (length old.hist) old.hist)) (drop-append_seam old.log (gained o))
+    ∙ ap (λ z. chosen_text (length old.log) (gained o) ++ history_text z) (drop-length old.hist)
     ∙ ap (λ z. z ++ []) (gained_text (length old.log) o (λ v g. chosen_value IsBatch c.u (log_soup Mid w.soup) (length w.log) (log_soup Mid w.soup) v k.batches g))
 
 -- COUNTS
 
-length-last : {A : Type 0} (xs : List A) (x : A) → length (xs ++ x ∷ []) ≡ length xs + 1
-length-last [] x = refl
-length-last (y ∷ xs) x = let h = length-last xs x in omega (arith, h)
+false_if : (b : Bool) → (b ≡ true → b ≡ false) → b ≡ false
+false_if true f = f refl
+false_if false f = refl
 
 seen_grows : (u : ℕ) (soup : List (LogPacket AnyValue)) (n : ℕ) (o : Option AnyValue) → AreFrom (2 * u + 1) soup → chosen_among u soup n soup ≡ o → (log : List AnyValue) → length log ≡ n → grown (seen_of u soup n) ≡ seen_of u soup (length (log ++ gained o))
 seen_grows u soup n None l e log h = grows_by_none u soup n (false_if (is_chosen u (tallied soup) n) (λ f. let s = counted_is_chosen u soup n l f in let g : None ≡ Some s.0 = sym e ∙ s.1 in absurd (cc)))
     ∙ ap (seen_of u soup) (sym h ∙ sym (ap length (append-nil log)))
-  where
-    false_if : (b : Bool) → (b ≡ true → b ≡ false) → b ≡ false
-    false_if true f = f refl
-    false_if false f = refl
-seen_grows u soup n (Some v) l e log h = grows_by_one u soup n (chosen_is_counted u soup n v l e) ∙ ap (seen_of u soup) (ap (λ z. z + 1) (sym h) ∙ sym (length-last log v))
+seen_grows u soup n (Some v) l e log h = grows_by_one u soup n (chosen_is_counted u soup n v l e) ∙ ap (seen_of u soup) (ap (λ z. z + 1) (sym h) ∙ sym (length-append log (v ∷ [])))
 
 seen_stays : (u : ℕ) (soup : List (LogPacket AnyValue)) (n : ℕ) → AreFrom (2 * u + 1) soup → AllVotes IsNothing soup → grown (seen_of u soup n) ≡ seen_of u soup n
 seen_stays u soup n l a = grows_by_none u soup n (false_if (is_chosen u (tallied soup) n) (λ f. let s = counted_is_chosen u soup n l f in let g : None ≡ Some s.0 = sym (none_chosen u soup n soup a) ∙ s.1 in absurd (cc)))
-  where
-    false_if : (b : Bool) → (b ≡ true → b ≡ false) → b ≡ false
-    false_if true f = f refl
-    false_if false f = refl
 
 -- an observer that goes on is one of the world whose logs have grown
 pub watch_grows : {B : Type 0} (c : Config B) (w : World B) → Carry c w → all_grown (seen_in c w) ≡ seen_in c (grows c w)

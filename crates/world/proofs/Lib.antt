@@ -1,3 +1,4 @@
+pub mod Lists
 pub mod Senders
 pub mod Counts
 pub mod Seeing
@@ -39,3 +40,5 @@ pub mod MidMoves
 pub mod MidOffers
 pub mod BackMoves
 pub mod Stepping
+pub mod Backends
+pub mod CommandEvents

@@ -1,5 +1,5 @@
 -- The rows of a middle node while nothing is run are those of its log and its pending entries.
-use Rattle.std.proofs.Common.{◌≡◌, ℕ, ◌+◌, ◌*◌, ◌<◌, ◌≤◌, Bool, true, false, cond, List, [], ◌∷◌, ◌++◌, length, map, refl, sym, ap, ◌∙◌, subst, arith, Option, Some, None, Result, Ok, Err, suc}
+use Rattle.std.proofs.Common.{◌≡◌, ℕ, ◌+◌, ◌*◌, ◌<◌, ◌≤◌, Bool, true, false, cond, List, [], ◌∷◌, ◌++◌, length, map, refl, sym, ap, ◌∙◌, subst, arith, Option, Some, None, Result, Ok, Err, suc, append-nil}
 use Rattle.std.specs.Prelude.{slice_get, ◌&&◌, ◌||◌, ◌==◌, not, nat_lt, OnOk}
 use Rattle.std.proofs.lemmas.Bool.{cond-true, cond-false, ne_eqb, eq-eqb, eqb-true}
 use Rattle.aeg_base.specs.declared.names.End.{End}
@@ -46,10 +46,6 @@ mid_view n depth pending = record { faults = n.faults; depth = depth; me = n.me;
 abbrev part_of : LogState AnyValue → List (Option Entry) → MidPart
 part_of log pending = record { log = log; pending = pending }
 
-pub nothing_more : {A : Type 0} (xs : List A) → xs ++ [] ≡ xs
-nothing_more [] = refl
-nothing_more (x ∷ xs) = ap (λ ys. x ∷ ys) (nothing_more xs)
-
 -- NO VERDICT IS LEARNED
 
 no_verdict : (v : AnyValue) → CanStand InMid 1 v → ⊥
@@ -83,7 +79,7 @@ pub in_log_is : (u depth x : ℕ) (log : LogState AnyValue) (pending : List (Opt
 in_log_is u depth x log pending turn l =
     ap (λ d. record { state = apply_state (with_log (as_mid depth (part_of log pending)) turn.state) d; facts = map as_fact turn.facts; sends = log_packets InMid x turn.sends ++ apply_sends u x (with_log (as_mid depth (part_of log pending)) turn.state) d; answer = log_answer turn.idle })
     (never_ready depth (part_of log pending) turn.state l)
-    ∙ ap (λ ks. record { state = as_mid depth (part_of turn.state pending); facts = map as_fact turn.facts; sends = ks; answer = log_answer turn.idle }) (nothing_more (log_packets InMid x turn.sends))
+    ∙ ap (λ ks. record { state = as_mid depth (part_of turn.state pending); facts = map as_fact turn.facts; sends = ks; answer = log_answer turn.idle }) (append-nil (log_packets InMid x turn.sends))
 
 -- FROM THE LOG'S MOVES TO THE NODE'S
 
@@ -154,7 +150,7 @@ wrote_none a place answer = (λ rs t has. has, λ e. absurd (cc), λ e. refl)
 -- a call that answers without a turn: it is idle, or drops the packet
 pub mid_quiet : (now : MidView) (a : DiskState) (out : List (End × List ℕ)) (move : Mid → Move Mid) (answer : Answer) → ((part : MidPart) → now.part.mode ≡ Up part → move (as_mid now.depth part) ≡ record { state = as_mid now.depth part; facts = []; sends = []; answer = answer }) → MidMoves now now a a out out move (Ok answer)
 mid_quiet now a out move answer f = record {
-  row = λ part e. subst (λ z. Makes (as_mid now.depth) now.part now.part out out z (Ok answer)) (sym (f part e)) (refl, (part, e, refl), refl, refl, sym (nothing_more out), none_fit, refl);
+  row = λ part e. subst (λ z. Makes (as_mid now.depth) now.part now.part out out z (Ok answer)) (sym (f part e)) (refl, (part, e, refl), refl, refl, sym (append-nil out), none_fit, refl);
   disk = λ part e. subst (λ (z : Move Mid). Wrote a a now.part.place now.part.place z.facts (Ok answer)) (sym (f part e)) (wrote_none a now.part.place answer);
   later = same_later a a refl;
   reach = λ part e. subst (λ (z : Move Mid). AllReach now.faults z.sends) (sym (f part e)) (none_reach now.faults);
@@ -216,7 +212,7 @@ pub request_taken : (n : LogView) (depth : ℕ) (pending new : List (Option Entr
 request_taken n depth pending new now a out from c s text v f r one h p = subst (λ z. MidMoves now (mid_view n depth new) a a out out (λ σ. on_frame now.faults booking_service now.me σ z (msgs.Request s text)) (Ok Did)) (sym f)
     (subst (λ z. MidMoves z (mid_view n depth new) a a out out (λ σ. on_frame z.faults booking_service z.me σ (Client c) (msgs.Request s text)) (Ok Did)) v (record {
       row = λ part e. at (λ z. Makes (as_mid depth) (mid_part n.part pending) (mid_part n.part new) out out z (Ok Did)) part e
-          (let q = mid_up n.part.mode pending part e in (refl, (part_of part.log new, ap (λ z. mid_mode z new) q.0, state part q.1), refl, refl, sym (nothing_more out), none_fit, refl));
+          (let q = mid_up n.part.mode pending part e in (refl, (part_of part.log new, ap (λ z. mid_mode z new) q.0, state part q.1), refl, refl, sym (append-nil out), none_fit, refl));
       disk = λ part e. at (λ z. Wrote a a n.part.place n.part.place z.facts (Ok Did)) part e (wrote_none a n.part.place Did);
       later = same_later a a refl;
       reach = λ part e. at (λ z. AllReach n.faults z.sends) part e (none_reach n.faults);

@@ -1,5 +1,5 @@
 -- What a middle node offers and tells again while nothing is run.
-use Rattle.std.proofs.Common.{◌≡◌, ℕ, ◌+◌, ◌*◌, ◌<◌, ◌≤◌, Bool, true, false, cond, List, [], ◌∷◌, ◌++◌, length, map, take, refl, sym, ap, ◌∙◌, subst, inl, inr, arith, Option, Some, None, Result, Ok, Err, zero, suc}
+use Rattle.std.proofs.Common.{◌≡◌, ℕ, ◌+◌, ◌*◌, ◌<◌, ◌≤◌, Bool, true, false, cond, List, [], ◌∷◌, ◌++◌, length, map, take, refl, sym, ap, ◌∙◌, subst, inl, inr, arith, Option, Some, None, Result, Ok, Err, zero, suc, append-nil}
 use Rattle.std.specs.Prelude.{◌⊎◌, ◌&&◌, not, nat_lt}
 use Rattle.std.specs.List.{AllByRecursion}
 use Rattle.std.proofs.lemmas.Bool.{cond_both, cond-true}
@@ -46,7 +46,7 @@ use Rattle.world.specs.LogNodes.{LogView, IsRanged, OwnStands, needs_own, mid_mo
 use Rattle.world.proofs.Few.{IsFew, asks_room, offer_few}
 use Rattle.world.proofs.Sending.{all_reach, sends_fit, are_fit}
 use Rattle.world.proofs.Places.{all-both, no_queue}
-use Rattle.world.proofs.MidMoves.{mid_view, mid_up, mid_quiet, mid_none, mid_move, in_log_is, nothing_more, at_most_one, wrote_none}
+use Rattle.world.proofs.MidMoves.{mid_view, mid_up, mid_quiet, mid_none, mid_move, in_log_is, at_most_one, wrote_none}
 use Rattle.world.proofs.Writing.{nothing_stands, turn_stands, written_opens}
 
 -- NO TOKENS
@@ -200,7 +200,7 @@ again_none u x depth part = ap (λ q. calls_again u x (by_number (open_calls [] 
     ++ (settle_to u x Inv (floor_here u x (as_mid depth part) Inv) ++ settle_to u x Pay (floor_here u x (as_mid depth part) Pay)))))) (no_queue depth)
 
 retry_is : (u x depth : ℕ) (part : MidPart) → retry u x (as_mid depth part) ≡ says (as_mid depth part) (log_packets InMid x (asks u x (open_at part.log)))
-retry_is u x depth part = ap (λ z. says (as_mid depth part) (log_packets InMid x (asks u x (open_at part.log)) ++ z)) (again_none u x depth part) ∙ ap (λ z. says (as_mid depth part) z) (nothing_more (log_packets InMid x (asks u x (open_at part.log))))
+retry_is u x depth part = ap (λ z. says (as_mid depth part) (log_packets InMid x (asks u x (open_at part.log)) ++ z)) (again_none u x depth part) ∙ ap (λ z. says (as_mid depth part) z) (append-nil (log_packets InMid x (asks u x (open_at part.log))))
 
 each_in : (u : ℕ) (t : Tier) (n : ℕ) (skip : ℕ → Bool) (p : ℕ) → n ≤ 2 * u + 1 → p ≤ 4096 → AllByRecursion (IsSendIn u (CanStand t) FitsBallot) (each n skip (λ y. (y, Ask p)))
 each_in u t zero skip p k l = tt
@@ -290,10 +290,6 @@ pub some_of : (o : Option AnyValue) (b : Bool) → std_some o ≡ not b → b �
 some_of (Some v) b e f = refl
 some_of None true e f = absurd (cc)
 some_of None false e f = absurd (cc)
-
-pub nil_if : {A : Type 0} (xs : List A) → length xs ≡ 0 → xs ≡ []
-nil_if [] e = refl
-nil_if (x ∷ xs) e = absurd (omega arith)
 
 pub some_if : (xs : List Entry) → (length xs ≡ 0 → ⊥) → xs ≡ [] → ⊥
 some_if xs n e = n (ap length e)

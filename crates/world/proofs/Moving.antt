@@ -9,7 +9,7 @@ use Rattle.aeg_base.specs.declared.names.Tier.{Tier}
 use Rattle.aeg_base.specs.declared.names.End.{End}
 use Rattle.aeg_disk.specs.Disk.{DiskState, SameContent, Later, Rose}
 use Rattle.fact_journal.specs.Standing.{HasFacts, texts}
-use Rattle.fact_journal.specs.Fitting.{all_facts, open_after_all}
+use Rattle.fact_journal.specs.Fitting.{Fit, all_facts, open_after_all}
 use Rattle.fact_journal.specs.Calls.{length_with, is_past}
 use Rattle.fact_journal.proofs.Fits.{open_after_then, all_more, fit_recorded}
 use Rattle.node_journal.specs.Journal.{size_of}
@@ -70,22 +70,21 @@ facts_with rs (f ∷ fs) = all_more rs (f ∷ fs)
 pub open_with : (rs : List (List Fact)) (facts : List Fact) → open_after_all 0 (all_facts (recorded rs facts)) ≡ open_after_all (open_after_all 0 (all_facts rs)) facts
 open_with rs facts = ap (open_after_all 0) (facts_with rs facts) ∙ open_after_then 0 (all_facts rs) facts
 
-pub stand_one : (t : Tier) (rs : List (List Fact)) (others : List (List (List Fact))) → AllStand t (rs ∷ others) → AllStand t (rs ∷ [])
-stand_one t rs others k = record { fit = (k.fit.0, tt); can = can }
+pub stand_alone : (t : Tier) (rs : List (List Fact)) → Fit t rs → AllByRecursion (CanWrite t) (all_facts rs) → AllStand t (rs ∷ [])
+stand_alone t rs fit write = record { fit = (fit, tt); can = can }
   where
     can : (i : ℕ) (qs : List (List Fact)) → slice_get (rs ∷ []) i ≡ Some qs → AllByRecursion (CanWrite t) (all_facts qs)
-    can zero qs e = k.can 0 qs e
+    can zero qs e = let f : rs ≡ qs = cc in subst (λ z. AllByRecursion (CanWrite t) (all_facts z)) f write
     can (suc i) qs e = absurd (cc)
+
+pub stand_one : (t : Tier) (rs : List (List Fact)) (others : List (List (List Fact))) → AllStand t (rs ∷ others) → AllStand t (rs ∷ [])
+stand_one t rs others k = stand_alone t rs k.fit.0 (k.can 0 rs refl)
 
 with_facts : (t : Tier) (rs : List (List Fact)) (facts : List Fact) → AllStand t (rs ∷ []) → StandIn t (open_after_all 0 (all_facts rs)) facts → AllByRecursion (CanWrite t) (all_facts (recorded rs facts))
 with_facts t rs facts k h = subst (AllByRecursion (CanWrite t)) (sym (facts_with rs facts)) (all-both (CanWrite t) (all_facts rs) facts (k.can 0 rs refl) h.can)
 
 pub stand_more : (t : Tier) (rs : List (List Fact)) (facts : List Fact) → AllStand t (rs ∷ []) → StandIn t (open_after_all 0 (all_facts rs)) facts → AllStand t (recorded rs facts ∷ [])
-stand_more t rs facts k h = record { fit = (fit_recorded t rs facts k.fit.0 h.fit, tt); can = can }
-  where
-    can : (i : ℕ) (qs : List (List Fact)) → slice_get (recorded rs facts ∷ []) i ≡ Some qs → AllByRecursion (CanWrite t) (all_facts qs)
-    can zero qs e = let f : recorded rs facts ≡ qs = cc in subst (λ z. AllByRecursion (CanWrite t) (all_facts z)) f (with_facts t rs facts k h)
-    can (suc i) qs e = absurd (cc)
+stand_more t rs facts k h = stand_alone t (recorded rs facts) (fit_recorded t rs facts k.fit.0 h.fit) (with_facts t rs facts k h)
 
 pub stand_both : (t : Tier) (rs : List (List Fact)) (facts : List Fact) → AllStand t (rs ∷ []) → StandIn t (open_after_all 0 (all_facts rs)) facts → AllStand t (rs ∷ recorded rs facts ∷ [])
 stand_both t rs facts k h = record { fit = (k.fit.0, (fit_recorded t rs facts k.fit.0 h.fit, tt)); can = can }

@@ -1,8 +1,9 @@
 -- The places of pending entries, and the batch that they make.
 use Rattle.std.proofs.Common.{◌≡◌, ℕ, ◌+◌, ◌<◌, ◌≤◌, true, false, List, [], ◌∷◌, ◌++◌, length, take, refl, sym, ap, ◌∙◌, subst, inl, inr, arith, Option, Some, None, Result, Ok, Err, zero, suc, get_or}
+use Rattle.std.proofs.Math.Seq.{take-append_seam}
 use Rattle.std.specs.Prelude.{slice_set, replicate, ◌⊎◌, ◌==◌, nat_le}
 use Rattle.std.specs.List.{AllByRecursion}
-use Rattle.std.proofs.lemmas.List.{length-set}
+use Rattle.std.proofs.lemmas.List.{length-set, length-take}
 use Rattle.aeg_base.specs.declared.names.ReqId.{ReqId}
 use Rattle.server_model.specs.Requests.{request_of}
 use Rattle.server_model.specs.Booking.{stages_in}
@@ -147,11 +148,6 @@ batch_next pending c n old new d k l e s g =
 pub batch_made : (depth c : ℕ) (xs now : List (Option Entry)) (batch : List Entry) → ArePending xs → xs ≡ now → c ≡ 16 → batch ≡ take 8 (joined xs c) → batch ≡ batch_of booking_service (tables0 depth) now
 batch_made depth c xs now batch k v n e = e ∙ (ap (λ z. take 8 (joined xs z)) n ∙ (batch_is depth xs k ∙ ap (λ z. batch_of booking_service (tables0 depth) z) v))
 
-pub take-most : {A : Type 0} (n : ℕ) (xs : List A) → length (take n xs) ≤ n
-take-most zero xs = omega arith
-take-most (suc n) [] = omega arith
-take-most (suc n) (x ∷ xs) = omega (arith, take-most n xs)
-
 all-take : {A : Type 0} (P : A → Type 0) (n : ℕ) (xs : List A) → AllByRecursion P xs → AllByRecursion P (take n xs)
 all-take P zero xs k = tt
 all-take P (suc n) [] k = tt
@@ -170,15 +166,11 @@ joined_fit pending zero k = tt
 joined_fit pending (suc n) k = all-both FitsEntry (joined pending n) (listed (pending_of pending (suc n))) (joined_fit pending n k) (listed_fit (pending_of pending (suc n)) (k.first (suc n)))
 
 pub batch_fits : (pending : List (Option Entry)) (c : ℕ) (batch : List Entry) → ArePending pending → batch ≡ take 8 (joined pending c) → FitsMid (Batch batch)
-batch_fits pending c batch k e = subst (λ z. FitsMid (Batch z)) (sym e) (take-most 8 (joined pending c), all-take FitsEntry 8 (joined pending c) (joined_fit pending c k))
-
-pub take_front : {A : Type 0} (xs ys : List A) → take (length xs) (xs ++ ys) ≡ xs
-take_front [] ys = refl
-take_front (x ∷ xs) ys = ap (λ zs. x ∷ zs) (take_front xs ys)
+batch_fits pending c batch k e = subst (λ z. FitsMid (Batch z)) (sym e) (omega (arith, length-take 8 (joined pending c)), all-take FitsEntry 8 (joined pending c) (joined_fit pending c k))
 
 -- a full list takes no more
 pub take_full : {A : Type 0} (n : ℕ) (xs ys : List A) → length xs ≡ n → xs ≡ take n (xs ++ ys)
-take_full n xs ys e = sym (subst (λ z. take z (xs ++ ys) ≡ xs) e (take_front xs ys))
+take_full n xs ys e = sym (subst (λ z. take z (xs ++ ys) ≡ xs) e (take-append_seam xs ys))
 
 -- the batch that can be offered fits
 pub batch_stands : (depth : ℕ) (xs now : List (Option Entry)) → ArePending xs → xs ≡ now → FitsMid (Batch (batch_of booking_service (tables0 depth) now))

@@ -1,6 +1,7 @@
 -- Which nodes are there, in the parts as in the world.
 use Rattle.std.proofs.Common.{◌≡◌, ℕ, ◌+◌, ◌*◌, ◌<◌, List, [], ◌∷◌, refl, sym, ap, ◌∙◌, length, arith, Some, zero, suc}
 use Rattle.std.specs.Prelude.{slice_get}
+use Rattle.svc_api.specs.Plan.{IsBackend}
 use Rattle.aeg_base.specs.declared.names.Tier.{Tier}
 use Rattle.aeg_base.specs.declared.names.Tier.TheVariants.{Mid as MidTier, Inv, Pay}
 use Rattle.log_model.specs.World.{Mode, Node as NodeOf}
@@ -63,6 +64,11 @@ node_condition u depth w nodes Inv x k l =
 node_condition u depth w nodes Pay x k l =
     let b = some_get nodes.pays.items x (omega (arith, k.pays.size, l)) in
     ap back_condition b.1 ∙ part_condition _ _ _ (w.backs Pay x) b.0.part (k.pays.each x b.0 b.1).part
+
+pub back_condition_is : (w : BookingWorld) (t : Tier) (x : ℕ) → IsBackend t → condition_of w t x ≡ condition_in (w.backs t x).mode
+back_condition_is w MidTier x r = absurd r
+back_condition_is w Inv x r = refl
+back_condition_is w Pay x r = refl
 
 -- the node is one of its tier
 pub has_node : (u depth : ℕ) (w : BookingWorld) (nodes : Nodes) (x : ℕ) (t : Tier) → AreNodes u depth w nodes → x < 2 * u + 1 → x < size_of nodes t

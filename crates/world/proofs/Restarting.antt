@@ -4,12 +4,13 @@ use Rattle.std.specs.Prelude.{nat_lt, slice_get, slice_set, codes, ◌⊎◌}
 use Rattle.std.specs.List.{AllByRecursion}
 use Rattle.std.proofs.lemmas.Bool.{le-ltb, lt-ltb}
 use Rattle.aeg_base.specs.declared.limits.TheConstants.{JOURNAL_BYTES}
+use Rattle.svc_api.specs.Plan.{IsBackend}
 use Rattle.aeg_base.specs.declared.names.Tier.{Tier}
 use Rattle.aeg_base.specs.declared.names.Tier.TheVariants.{Mid as MidTier, Inv, Pay}
 use Rattle.aeg_base.specs.declared.names.NodeId.{NodeId}
 use Rattle.aeg_disk.specs.Disk.{DiskState, Later, Rose}
 use Rattle.fact_journal.specs.Standing.{StandsFor}
-use Rattle.fact_journal.specs.Fitting.{Fit, EachFits, all_facts}
+use Rattle.fact_journal.specs.Fitting.{Fit, EachFits}
 use Rattle.fact_journal.proofs.Standing.{having_stands, same_stands}
 use Rattle.log_model.specs.Log.{open_at}
 use Rattle.log_model.specs.World.{Mode, Node as NodeOf, stands}
@@ -33,13 +34,14 @@ use Rattle.world.specs.declared.nodes.condition.Condition.TheVariants as conditi
 use Rattle.world.specs.Arming.{at_rest}
 use Rattle.world.specs.Calling.{found_of}
 use Rattle.world.specs.Disks.{IsReady, IsDiskOf, AreDisks, first_of}
-use Rattle.world.specs.Parts.{NodePart, MidRestarts, BackRestarts, as_mid, as_back, AllStand, CanWrite, MayRead, Reads, list_found, is_down_in}
-use Rattle.world.specs.NodeLists.{condition_in, condition_at, mid_condition, back_condition, KeepTiers, RestartIn, down_in, mid_down, back_down}
+use Rattle.world.specs.Parts.{NodePart, MidRestarts, BackRestarts, as_mid, as_back, AllStand, MayRead, Reads, list_found, is_down_in}
+use Rattle.world.specs.NodeLists.{backs_of, condition_in, condition_at, mid_condition, back_condition, KeepTiers, RestartIn, down_in, mid_down, back_down}
 use Rattle.world.specs.Telling.{told_restart, HadMemory}
 use Rattle.world.specs.Standing.{mode_by, journal_of, IsPlaced, IsDoubted, IsOpen, IsNode, IsMid, IsBack, AreNodes, open_of_mid}
-use Rattle.world.proofs.Moving.{journal-last, size_is, rest_content}
+use Rattle.world.proofs.Moving.{journal-last, size_is, rest_content, stand_alone}
+use Rattle.world.proofs.Backends.{backs_all, backs_disks, backs_condition, backs_restart}
 use Rattle.world.proofs.Commands.{Commanded}
-use Rattle.world.proofs.Placing.{mid_placed, inv_placed, pay_placed, mid_kept, inv_kept, pay_kept}
+use Rattle.world.proofs.Placing.{mid_placed, back_placed, mid_kept, back_kept}
 use Rattle.world.proofs.Present.{some_get, node_condition}
 
 -- ONE OF THE LISTS
@@ -55,11 +57,7 @@ fits_get t (qs ∷ lists) zero rs h e = let f : qs ≡ rs = cc in subst (Fit t) 
 fits_get t (qs ∷ lists) (suc k) rs h e = fits_get t lists k rs h.1 e
 
 stand_get : (t : Tier) (lists : List (List (List Fact))) (k : ℕ) (rs : List (List Fact)) → AllStand t lists → slice_get lists k ≡ Some rs → AllStand t (rs ∷ [])
-stand_get t lists k rs h e = record { fit = (fits_get t lists k rs h.fit e, tt); can = can }
-  where
-    can : (i : ℕ) (qs : List (List Fact)) → slice_get (rs ∷ []) i ≡ Some qs → AllByRecursion (CanWrite t) (all_facts qs)
-    can zero qs f = let g : rs ≡ qs = cc in subst (λ z. AllByRecursion (CanWrite t) (all_facts z)) g (h.can k rs e)
-    can (suc i) qs f = absurd (cc)
+stand_get t lists k rs h e = stand_alone t rs (fits_get t lists k rs h.fit e) (h.can k rs e)
 
 -- its length tells which one it is
 names : {S : Type 0} (recover : List Fact → S) (node : NodeOf S Fact) (doubt : Bool) (k list known found : ℕ) (rs : List (List Fact)) → IsDoubted doubt node.records node.others → (doubt ≡ true → known + 1 ≡ journal_of node.records) → slice_get (node.records ∷ node.others) k ≡ Some rs → found + 1 ≡ journal_of rs → list ≡ list_found doubt known found
@@ -183,16 +181,18 @@ rest_stands node disk d = same_stands (node.records ∷ node.others) disk (at_re
 
 -- WHAT A RESTART ASKS
 
+back_reads : (u depth : ℕ) (w : BookingWorld) (nodes : Nodes) (t : Tier) (x : ℕ) (disks : List DiskState) (disk : DiskState) → IsBackend t → u ≤ 2 → AreNodes u depth w nodes → AreDisks w disks → x < 2 * u + 1 → slice_get disks (first_of t + x) ≡ Some disk → MayRead t (at_rest disk)
+back_reads u depth w nodes t x disks disk r few k d l e =
+    let all = backs_all u depth w nodes t r k in
+    let m = some_get (backs_of nodes t) x (omega (arith, all.size, l)) in
+    ((w.backs t x).records ∷ (w.backs t x).others, rest_stands (w.backs t x) disk (backs_disks w disks t r d x disk (omega (arith, few, l)) e), (all.each x m.0 m.1).part.stand)
+
 pub may_read : (u depth : ℕ) (w : BookingWorld) (nodes : Nodes) (t : Tier) (x : ℕ) (disks : List DiskState) (disk : DiskState) → u ≤ 2 → AreNodes u depth w nodes → AreDisks w disks → x < 2 * u + 1 → slice_get disks (first_of t + x) ≡ Some disk → MayRead t (at_rest disk)
 may_read u depth w nodes MidTier x disks disk few k d l e =
     let m = some_get nodes.mids.items x (omega (arith, k.mids.size, l)) in
     ((w.mids x).records ∷ (w.mids x).others, rest_stands (w.mids x) disk (d.mids x disk (omega (arith, few, l)) e), (k.mids.each x m.0 m.1).part.stand)
-may_read u depth w nodes Inv x disks disk few k d l e =
-    let m = some_get nodes.invs.items x (omega (arith, k.invs.size, l)) in
-    ((w.backs Inv x).records ∷ (w.backs Inv x).others, rest_stands (w.backs Inv x) disk (d.invs x disk (omega (arith, few, l)) e), (k.invs.each x m.0 m.1).part.stand)
-may_read u depth w nodes Pay x disks disk few k d l e =
-    let m = some_get nodes.pays.items x (omega (arith, k.pays.size, l)) in
-    ((w.backs Pay x).records ∷ (w.backs Pay x).others, rest_stands (w.backs Pay x) disk (d.pays x disk (omega (arith, few, l)) e), (k.pays.each x m.0 m.1).part.stand)
+may_read u depth w nodes Inv x disks disk few k d l e = back_reads u depth w nodes Inv x disks disk tt few k d l e
+may_read u depth w nodes Pay x disks disk few k d l e = back_reads u depth w nodes Pay x disks disk tt few k d l e
 
 pub keep_tiers : (u depth : ℕ) (w : BookingWorld) (nodes : Nodes) → AreNodes u depth w nodes → KeepTiers nodes
 keep_tiers u depth w nodes k = record { invs = λ x b e. (k.invs.each x b e).tier; pays = λ x b e. (k.pays.each x b e).tier }
@@ -215,6 +215,28 @@ is_down_there u depth w nodes Pay x k l e =
 
 -- THE NODE'S EVENT
 
+back_restart : (u depth : ℕ) (w : BookingWorld) (old new : Nodes) (n : NodeId) (disks : List DiskState) (disk disk_after : DiskState) (result : Result ℕ NodeFault) (t : Tier) → IsBackend t → u ≤ 2 → AreNodes u depth w old → AreDisks w disks → n.index < 2 * u + 1 → slice_get disks (first_of t + n.index) ≡ Some disk → condition_at old t n.index ≡ conditions.Down → HadMemory result → RestartIn old new t n.index (at_rest disk) disk_after result
+    → Commanded u depth w (worlds.back_node (config u depth) w t n.index (restarted (backs.recovered u booking_service t) (w.backs t n.index) (found_of result) (w.backs t n.index).mode)) new (slice_set disks (first_of t + n.index) disk_after) [] (texts.restart_text (texts.node_name n) (found_of result) (w.backs t n.index).mode) (told_restart n result) × IsAmong (w.backs t n.index).others (found_of result) × (is_failing (found_of result) ≡ true → Rose disk.faults disk_after.faults) × (disk.faults ≤ disk_after.faults)
+back_restart u depth w old new n disks disk disk_after result t back few k d l b c memory move =
+    let x = n.index in
+    let all = backs_all u depth w old t back k in
+    let m = some_get (backs_of old t) x (omega (arith, all.size, l)) in
+    let i = all.each x m.0 m.1 in
+    let moves = backs_restart t old new x (at_rest disk) disk_after result back move in
+    let v = moves.0 m.0 m.1 in
+    let h : BackRestarts (record { faults = u; tier = t; me = x; part = m.0.part }) v.0 (at_rest disk) disk_after result = subst (λ z. BackRestarts z v.0 (at_rest disk) disk_after result) (λ j. record { faults = i.faults j; tier = i.tier j; me = i.me j; part = m.0.part }) v.2 in
+    let on = backs_disks w disks t back d x disk (omega (arith, few, l)) b in
+    let down : m.0.part.mode ≡ Down = down_mode m.0.part.mode (sym (ap back_condition m.1) ∙ sym (backs_condition old t x back) ∙ c) in
+    let read = h.reads ((w.backs t x).records ∷ (w.backs t x).others) (rest_stands (w.backs t x) disk on) i.part.stand in
+    let r = rises t (as_back u t) open_at (backs.recovered u booking_service t) (w.backs t x) m.0.part v.0.part disk disk_after result i.part on down memory read h.later in
+    let to : IsBack u t x (restarted (backs.recovered u booking_service t) (w.backs t x) (found_of result) (w.backs t x).mode) v.0 = record { faults = h.same.0; tier = h.same.1.0; me = h.same.1.1; part = r.is } in (
+      back_placed u depth w old new t x disks disk_after (restarted (backs.recovered u booking_service t) (w.backs t x) (found_of result) (w.backs t x).mode) v.0 _ (told_restart n result) back few l k d to r.on v.1 moves.1
+          (told_is n result (w.backs t x).mode (i.part.mode ∙ ap (mode_by _) down) memory (read_is t (as_back u t) open_at (backs.recovered u booking_service t) m.0.part v.0.part (at_rest disk) disk_after ((w.backs t x).records ∷ (w.backs t x).others) result read)),
+      r.among,
+      r.cause,
+      h.later.faults,
+    )
+
 pub restart_by : (u depth : ℕ) (w : BookingWorld) (old new : Nodes) (n : NodeId) (disks : List DiskState) (disk disk_after : DiskState) (result : Result ℕ NodeFault) (t : Tier) → u ≤ 2 → AreNodes u depth w old → AreDisks w disks → n.index < 2 * u + 1 → slice_get disks (first_of t + n.index) ≡ Some disk → condition_at old t n.index ≡ conditions.Down → HadMemory result → RestartIn old new t n.index (at_rest disk) disk_after result
     → Commanded u depth w (worlds.restarts (config u depth) w (found_of result) t n.index) new (slice_set disks (first_of t + n.index) disk_after) [] (texts.by_mode w (λ S. texts.restart_text {S = S} (texts.node_name n) (found_of result)) t n.index) (told_restart n result) × IsAmong (others_at w t n.index) (found_of result) × (is_failing (found_of result) ≡ true → Rose disk.faults disk_after.faults) × (disk.faults ≤ disk_after.faults)
 restart_by u depth w old new n disks disk disk_after result MidTier few k d l b c memory move =
@@ -228,46 +250,14 @@ restart_by u depth w old new n disks disk disk_after result MidTier few k d l b 
     let read = h.reads ((w.mids x).records ∷ (w.mids x).others) (rest_stands (w.mids x) disk on) i.part.stand in
     let r = rises MidTier (as_mid depth) open_of_mid (mids.recovered u booking_service depth) (w.mids x) m.0.part v.0.part disk disk_after result i.part on down memory read h.later in
     let to : IsMid u depth x (restarted (mids.recovered u booking_service depth) (w.mids x) (found_of result) (w.mids x).mode) v.0 = record { faults = h.same.0; deep = h.same.1.0; me = h.same.1.1; part = r.is } in (
-      mid_placed u depth w old new x disks disk_after (restarted (mids.recovered u booking_service depth) (w.mids x) (found_of result) (w.mids x).mode) v.0 _ (told_restart n result) few l k d to r.on v.1 move.1.0 move.1.1
+      mid_placed u depth w old new x disks disk_after (restarted (mids.recovered u booking_service depth) (w.mids x) (found_of result) (w.mids x).mode) v.0 _ (told_restart n result) few l k d to r.on v.1 move.1
           (told_is n result (w.mids x).mode (i.part.mode ∙ ap (mode_by _) down) memory (read_is MidTier (as_mid depth) open_of_mid (mids.recovered u booking_service depth) m.0.part v.0.part (at_rest disk) disk_after ((w.mids x).records ∷ (w.mids x).others) result read)),
       r.among,
       r.cause,
       h.later.faults,
     )
-restart_by u depth w old new n disks disk disk_after result Inv few k d l b c memory move =
-    let x = n.index in
-    let m = some_get old.invs.items x (omega (arith, k.invs.size, l)) in
-    let i = k.invs.each x m.0 m.1 in
-    let v = move.0 m.0 m.1 in
-    let h : BackRestarts (record { faults = u; tier = Inv; me = x; part = m.0.part }) v.0 (at_rest disk) disk_after result = subst (λ z. BackRestarts z v.0 (at_rest disk) disk_after result) (λ j. record { faults = i.faults j; tier = i.tier j; me = i.me j; part = m.0.part }) v.2 in
-    let on = d.invs x disk (omega (arith, few, l)) b in
-    let down : m.0.part.mode ≡ Down = down_mode m.0.part.mode (sym (ap back_condition m.1) ∙ c) in
-    let read = h.reads ((w.backs Inv x).records ∷ (w.backs Inv x).others) (rest_stands (w.backs Inv x) disk on) i.part.stand in
-    let r = rises Inv (as_back u Inv) open_at (backs.recovered u booking_service Inv) (w.backs Inv x) m.0.part v.0.part disk disk_after result i.part on down memory read h.later in
-    let to : IsBack u Inv x (restarted (backs.recovered u booking_service Inv) (w.backs Inv x) (found_of result) (w.backs Inv x).mode) v.0 = record { faults = h.same.0; tier = h.same.1.0; me = h.same.1.1; part = r.is } in (
-      inv_placed u depth w old new x disks disk_after (restarted (backs.recovered u booking_service Inv) (w.backs Inv x) (found_of result) (w.backs Inv x).mode) v.0 _ (told_restart n result) few l k d to r.on v.1 move.1.0 move.1.1
-          (told_is n result (w.backs Inv x).mode (i.part.mode ∙ ap (mode_by _) down) memory (read_is Inv (as_back u Inv) open_at (backs.recovered u booking_service Inv) m.0.part v.0.part (at_rest disk) disk_after ((w.backs Inv x).records ∷ (w.backs Inv x).others) result read)),
-      r.among,
-      r.cause,
-      h.later.faults,
-    )
-restart_by u depth w old new n disks disk disk_after result Pay few k d l b c memory move =
-    let x = n.index in
-    let m = some_get old.pays.items x (omega (arith, k.pays.size, l)) in
-    let i = k.pays.each x m.0 m.1 in
-    let v = move.0 m.0 m.1 in
-    let h : BackRestarts (record { faults = u; tier = Pay; me = x; part = m.0.part }) v.0 (at_rest disk) disk_after result = subst (λ z. BackRestarts z v.0 (at_rest disk) disk_after result) (λ j. record { faults = i.faults j; tier = i.tier j; me = i.me j; part = m.0.part }) v.2 in
-    let on = d.pays x disk (omega (arith, few, l)) b in
-    let down : m.0.part.mode ≡ Down = down_mode m.0.part.mode (sym (ap back_condition m.1) ∙ c) in
-    let read = h.reads ((w.backs Pay x).records ∷ (w.backs Pay x).others) (rest_stands (w.backs Pay x) disk on) i.part.stand in
-    let r = rises Pay (as_back u Pay) open_at (backs.recovered u booking_service Pay) (w.backs Pay x) m.0.part v.0.part disk disk_after result i.part on down memory read h.later in
-    let to : IsBack u Pay x (restarted (backs.recovered u booking_service Pay) (w.backs Pay x) (found_of result) (w.backs Pay x).mode) v.0 = record { faults = h.same.0; tier = h.same.1.0; me = h.same.1.1; part = r.is } in (
-      pay_placed u depth w old new x disks disk_after (restarted (backs.recovered u booking_service Pay) (w.backs Pay x) (found_of result) (w.backs Pay x).mode) v.0 _ (told_restart n result) few l k d to r.on v.1 move.1.0 move.1.1
-          (told_is n result (w.backs Pay x).mode (i.part.mode ∙ ap (mode_by _) down) memory (read_is Pay (as_back u Pay) open_at (backs.recovered u booking_service Pay) m.0.part v.0.part (at_rest disk) disk_after ((w.backs Pay x).records ∷ (w.backs Pay x).others) result read)),
-      r.among,
-      r.cause,
-      h.later.faults,
-    )
+restart_by u depth w old new n disks disk disk_after result Inv few k d l b c memory move = back_restart u depth w old new n disks disk disk_after result Inv tt few k d l b c memory move
+restart_by u depth w old new n disks disk disk_after result Pay few k d l b c memory move = back_restart u depth w old new n disks disk disk_after result Pay tt few k d l b c memory move
 
 -- A NODE THAT ISN'T DOWN
 
@@ -300,10 +290,10 @@ restart_up u depth w old n disks found MidTier few k d l e =
     mid_kept u depth w old n.index disks (restarted (mids.recovered u booking_service depth) (w.mids n.index) found (w.mids n.index).mode) _ (texts.idle_line (texts.node_name n) (codes "up")) few l k d (restarted_up (mids.recovered u booking_service depth) (w.mids n.index) found (w.mids n.index).mode is) (up_told n found (w.mids n.index).mode is)
 restart_up u depth w old n disks found Inv few k d l e =
     let is : condition_in (w.backs Inv n.index).mode ≡ conditions.Up = sym (node_condition u depth w old Inv n.index k l) ∙ e in
-    inv_kept u depth w old n.index disks (restarted (backs.recovered u booking_service Inv) (w.backs Inv n.index) found (w.backs Inv n.index).mode) _ (texts.idle_line (texts.node_name n) (codes "up")) few l k d (restarted_up (backs.recovered u booking_service Inv) (w.backs Inv n.index) found (w.backs Inv n.index).mode is) (up_told n found (w.backs Inv n.index).mode is)
+    back_kept u depth w old Inv n.index disks (restarted (backs.recovered u booking_service Inv) (w.backs Inv n.index) found (w.backs Inv n.index).mode) _ (texts.idle_line (texts.node_name n) (codes "up")) tt few l k d (restarted_up (backs.recovered u booking_service Inv) (w.backs Inv n.index) found (w.backs Inv n.index).mode is) (up_told n found (w.backs Inv n.index).mode is)
 restart_up u depth w old n disks found Pay few k d l e =
     let is : condition_in (w.backs Pay n.index).mode ≡ conditions.Up = sym (node_condition u depth w old Pay n.index k l) ∙ e in
-    pay_kept u depth w old n.index disks (restarted (backs.recovered u booking_service Pay) (w.backs Pay n.index) found (w.backs Pay n.index).mode) _ (texts.idle_line (texts.node_name n) (codes "up")) few l k d (restarted_up (backs.recovered u booking_service Pay) (w.backs Pay n.index) found (w.backs Pay n.index).mode is) (up_told n found (w.backs Pay n.index).mode is)
+    back_kept u depth w old Pay n.index disks (restarted (backs.recovered u booking_service Pay) (w.backs Pay n.index) found (w.backs Pay n.index).mode) _ (texts.idle_line (texts.node_name n) (codes "up")) tt few l k d (restarted_up (backs.recovered u booking_service Pay) (w.backs Pay n.index) found (w.backs Pay n.index).mode is) (up_told n found (w.backs Pay n.index).mode is)
 
 pub restart_gone : (u depth : ℕ) (w : BookingWorld) (old : Nodes) (n : NodeId) (disks : List DiskState) (found : Found) (t : Tier) → u ≤ 2 → AreNodes u depth w old → AreDisks w disks → n.index < 2 * u + 1 → condition_at old t n.index ≡ conditions.Gone
     → Commanded u depth w (worlds.restarts (config u depth) w found t n.index) old disks [] (texts.by_mode w (λ S. texts.restart_text {S = S} (texts.node_name n) found) t n.index) (texts.gone_line (texts.node_name n))
@@ -312,7 +302,7 @@ restart_gone u depth w old n disks found MidTier few k d l e =
     mid_kept u depth w old n.index disks (restarted (mids.recovered u booking_service depth) (w.mids n.index) found (w.mids n.index).mode) _ (texts.gone_line (texts.node_name n)) few l k d (restarted_gone (mids.recovered u booking_service depth) (w.mids n.index) found (w.mids n.index).mode is) (gone_told n found (w.mids n.index).mode is)
 restart_gone u depth w old n disks found Inv few k d l e =
     let is : condition_in (w.backs Inv n.index).mode ≡ conditions.Gone = sym (node_condition u depth w old Inv n.index k l) ∙ e in
-    inv_kept u depth w old n.index disks (restarted (backs.recovered u booking_service Inv) (w.backs Inv n.index) found (w.backs Inv n.index).mode) _ (texts.gone_line (texts.node_name n)) few l k d (restarted_gone (backs.recovered u booking_service Inv) (w.backs Inv n.index) found (w.backs Inv n.index).mode is) (gone_told n found (w.backs Inv n.index).mode is)
+    back_kept u depth w old Inv n.index disks (restarted (backs.recovered u booking_service Inv) (w.backs Inv n.index) found (w.backs Inv n.index).mode) _ (texts.gone_line (texts.node_name n)) tt few l k d (restarted_gone (backs.recovered u booking_service Inv) (w.backs Inv n.index) found (w.backs Inv n.index).mode is) (gone_told n found (w.backs Inv n.index).mode is)
 restart_gone u depth w old n disks found Pay few k d l e =
     let is : condition_in (w.backs Pay n.index).mode ≡ conditions.Gone = sym (node_condition u depth w old Pay n.index k l) ∙ e in
-    pay_kept u depth w old n.index disks (restarted (backs.recovered u booking_service Pay) (w.backs Pay n.index) found (w.backs Pay n.index).mode) _ (texts.gone_line (texts.node_name n)) few l k d (restarted_gone (backs.recovered u booking_service Pay) (w.backs Pay n.index) found (w.backs Pay n.index).mode is) (gone_told n found (w.backs Pay n.index).mode is)
+    back_kept u depth w old Pay n.index disks (restarted (backs.recovered u booking_service Pay) (w.backs Pay n.index) found (w.backs Pay n.index).mode) _ (texts.gone_line (texts.node_name n)) tt few l k d (restarted_gone (backs.recovered u booking_service Pay) (w.backs Pay n.index) found (w.backs Pay n.index).mode is) (gone_told n found (w.backs Pay n.index).mode is)

@@ -1,5 +1,6 @@
 -- What a restart of a node's log leaves: nothing is applied, since no verdict is learned, and a backend has learned nothing.
 use Rattle.std.proofs.Common.{◌≡◌, ℕ, ◌≤◌, Bool, false, List, [], ◌∷◌, length, replicate, refl, sym, ap, ◌∙◌, subst, arith, Option, Some, None, Result, Ok, Err, zero, suc}
+use Rattle.std.proofs.lemmas.List.{nil_from_length}
 use Rattle.std.specs.Prelude.{slice_get}
 use Rattle.std.specs.List.{AllByRecursion}
 use Rattle.aeg_base.specs.declared.names.NodeId.{NodeId}
@@ -40,7 +41,6 @@ use Rattle.world.specs.declared.nodes.working.Working.{Working}
 use Rattle.world.proofs.Turning.{seen, down_here}
 use Rattle.world.proofs.Writing.{restored_stands}
 use Rattle.world.proofs.MidMoves.{mid_view, at_most_one}
-use Rattle.world.proofs.MidOffers.{nil_if}
 use Rattle.world.proofs.BackMoves.{back_view, none_learned}
 
 -- ONE OF THE LISTS
@@ -160,7 +160,7 @@ mid_recovers u depth rs log can e l = sym (
 pub back_recovers : (u : ℕ) (t : Tier) (rs : List (List Fact)) (log : LogState AnyValue) → log ≡ recover u (log_facts (newest rs)) → length log.learned ≡ 0
     → as_back u t log ≡ backs.recovered u booking_service t (newest rs)
 back_recovers u t rs log e l = sym (
-    ap (λ z. backs.after_values booking_service t (backs.bare u booking_service t (newest rs)) z) (nil_if (recover u (log_facts (newest rs))).learned (subst (λ (z : LogState AnyValue). length z.learned ≡ 0) e l))
+    ap (λ z. backs.after_values booking_service t (backs.bare u booking_service t (newest rs)) z) (nil_from_length (recover u (log_facts (newest rs))).learned (subst (λ (z : LogState AnyValue). length z.learned ≡ 0) e l))
     ∙ ap (λ z. as_back u t z) (sym e))
 
 -- THE NODES

@@ -1,5 +1,7 @@
 -- What an event sends has room where it may begin.
-use Rattle.std.proofs.Common.{◌≡◌, ℕ, ◌+◌, ◌*◌, ◌≤◌, true, List, [], ◌++◌, length, map, refl, ap, ◌∙◌, subst, arith, Option, Some, None, Result, Ok, Err}
+use Rattle.std.proofs.Common.{◌≡◌, ℕ, ◌+◌, ◌*◌, ◌≤◌, true, List, [], ◌++◌, length, map, refl, ap, ◌∙◌, subst, arith, Result, Ok, Err}
+use Rattle.world.proofs.Lists.{passes}
+use Rattle.world.proofs.Doing.{up_state}
 use Rattle.std.specs.Prelude.{slice_get, OnOk}
 use Rattle.std.proofs.lemmas.List.{length-map}
 use Rattle.std.proofs.lemmas.Result.{on_ok_weaker}
@@ -9,10 +11,7 @@ use Rattle.aeg_base.specs.declared.names.Tier.TheVariants as tiers
 use Rattle.aeg_base.specs.declared.names.End.{End}
 use Rattle.aeg_disk.specs.Disk.{DiskState}
 use Rattle.server_model.specs.Backends.{Amounts}
-use Rattle.log_model.specs.Log.{LogState, nobody}
-use Rattle.log_model.specs.World.{Mode}
-use Rattle.log_model.specs.World.Mode.{Up, Down, Gone}
-use Rattle.log_values.specs.declared.any_value.AnyValue.{AnyValue}
+use Rattle.log_model.specs.Log.{nobody}
 use Rattle.frames.specs.declared.turn.Turn.{Turn as Answer}
 use Rattle.frames.specs.declared.turn.Fault.{Fault}
 use Rattle.frames.specs.declared.turn.Fault.TheVariants as faults
@@ -21,7 +20,7 @@ use Rattle.tier_model.specs.Mid.{Mid}
 use Rattle.tier_model.specs.Back.{Back}
 use Rattle.run_model.specs.World.{requests, request_to}
 use Rattle.world.specs.declared.nodes.all_nodes.Nodes.{Nodes}
-use Rattle.world.specs.Parts.{MidPart, MidView, BackView, NodePart, MidMoves, BackMoves, Makes, HaveRoom, as_mid, as_back, is_up_in, is_up, sealed}
+use Rattle.world.specs.Parts.{MidView, BackView, NodePart, MidMoves, BackMoves, Makes, HaveRoom, as_mid, as_back, is_up, sealed}
 use Rattle.world.specs.NodeLists.{mid_up, back_up, up_in, MidsMove, BacksMove, MoveIn}
 use Rattle.world.specs.Telling.{HadMemory}
 use Rattle.world.proofs.Few.{each_few}
@@ -36,34 +35,26 @@ makes_room whole old new after move (Err faults.Disk) k few memory = omega (arit
 makes_room whole old new after move (Err (faults.BadRecord at)) k few memory = absurd k
 
 mid_room : (m n : MidView) (a b : DiskState) (after : List (End × List ℕ)) (move : Mid → Move Mid) (result : Result Answer Fault) → is_up m.part ≡ true → MidMoves m n a b [] after move result → HadMemory result → HaveRoom after
-mid_room m n a b after move result up k memory = go m.part.mode refl up
-  where
-    go : (mode : Mode MidPart) → m.part.mode ≡ mode → is_up_in mode ≡ true → HaveRoom after
-    go (Up part) e f = makes_room (as_mid m.depth) m.part n.part after (move (as_mid m.depth part)) result (k.row part e) (on_ok_weaker result (λ h. h part e) k.few) memory
-    go Down e f = absurd (cc)
-    go Gone e f = absurd (cc)
+mid_room m n a b after move result up k memory =
+    let s = up_state m.part up in
+    makes_room (as_mid m.depth) m.part n.part after (move (as_mid m.depth s.0)) result (k.row s.0 s.1) (on_ok_weaker result (λ h. h s.0 s.1) k.few) memory
 
 back_room : (b n : BackView) (a z : DiskState) (after : List (End × List ℕ)) (move : Back Amounts → Move (Back Amounts)) (result : Result Answer Fault) → is_up b.part ≡ true → BackMoves b n a z [] after move result → HadMemory result → HaveRoom after
-back_room b n a z after move result up k memory = go b.part.mode refl up
-  where
-    go : (mode : Mode (LogState AnyValue)) → b.part.mode ≡ mode → is_up_in mode ≡ true → HaveRoom after
-    go (Up log) e f = makes_room (as_back b.faults b.tier) b.part n.part after (move (as_back b.faults b.tier log)) result (k.row log e) (on_ok_weaker result (λ h. h log e) k.few) memory
-    go Down e f = absurd (cc)
-    go Gone e f = absurd (cc)
+back_room b n a z after move result up k memory =
+    let s = up_state b.part up in
+    makes_room (as_back b.faults b.tier) b.part n.part after (move (as_back b.faults b.tier s.0)) result (k.row s.0 s.1) (on_ok_weaker result (λ h. h s.0 s.1) k.few) memory
 
 mids_room : (old new : List MidView) (x : ℕ) (a b : DiskState) (after : List (End × List ℕ)) (move : MidView → Mid → Move Mid) (result : Result Answer Fault) → mid_up (slice_get old x) ≡ true → MidsMove old new x a b [] after move result → HadMemory result → HaveRoom after
-mids_room old new x a b after move result up k memory = go (slice_get old x) refl up
-  where
-    go : (o : Option MidView) → slice_get old x ≡ o → mid_up o ≡ true → HaveRoom after
-    go None e f = absurd (cc)
-    go (Some m) e f = let r = k m e in mid_room m r.0 a b after (move m) result f r.2 memory
+mids_room old new x a b after move result up k memory =
+    let m = passes mid_up (slice_get old x) refl up in
+    let r = k m.0 m.1 in
+    mid_room m.0 r.0 a b after (move m.0) result m.2 r.2 memory
 
 backs_room : (old new : List BackView) (x : ℕ) (a z : DiskState) (after : List (End × List ℕ)) (move : BackView → Back Amounts → Move (Back Amounts)) (result : Result Answer Fault) → back_up (slice_get old x) ≡ true → BacksMove old new x a z [] after move result → HadMemory result → HaveRoom after
-backs_room old new x a z after move result up k memory = go (slice_get old x) refl up
-  where
-    go : (o : Option BackView) → slice_get old x ≡ o → back_up o ≡ true → HaveRoom after
-    go None e f = absurd (cc)
-    go (Some b) e f = let r = k b e in back_room b r.0 a z after (move b) result f r.2 memory
+backs_room old new x a z after move result up k memory =
+    let b = passes back_up (slice_get old x) refl up in
+    let r = k b.0 b.1 in
+    back_room b.0 r.0 a z after (move b.0) result b.2 r.2 memory
 
 move_room : (old new : Nodes) (t : Tier) (x : ℕ) (a b : DiskState) (after : List (End × List ℕ)) (mid : MidView → Mid → Move Mid) (back : BackView → Back Amounts → Move (Back Amounts)) (result : Result Answer Fault) → up_in old t x ≡ true → MoveIn old new t x a b [] after mid back result → HadMemory result → HaveRoom after
 move_room old new tiers.Mid x a b after mid back result up k memory = mids_room old.mids.items new.mids.items x a b after mid result up k.0 memory

@@ -1,8 +1,9 @@
 -- Senders that stand in a list once: how many there are.
-use Rattle.std.proofs.Common.{◌≡◌, ℕ, ◌+◌, ◌<◌, ◌≤◌, Bool, true, false, cond, List, [], ◌∷◌, ◌++◌, refl, sym, ap, ◌∙◌, subst, inl, inr, length, arith, zero, suc}
+use Rattle.std.proofs.Common.{◌≡◌, ℕ, ◌+◌, ◌<◌, Bool, true, false, cond, List, [], ◌∷◌, ◌++◌, refl, sym, ap, ◌∙◌, subst, inl, inr, length, arith, zero, suc}
 use Rattle.std.specs.Prelude.{◌==◌, ◌||◌, ◌⊎◌}
-use Rattle.std.proofs.lemmas.Bool.{cond_both, cases_eq, cases_Bool, eq-eqb, ne_eqb, eqb-true, cond-false}
+use Rattle.std.proofs.lemmas.Bool.{cond_both, cases_Bool, eqb-true}
 use Rattle.log_model.specs.Log.{count_below}
+use Rattle.log_model.proofs.Basics.{count-one, length_push}
 use Rattle.round_model.specs.Lists.{mem}
 use Rattle.world.specs.Tallies.{with_sender}
 
@@ -13,30 +14,6 @@ count-same (suc n) f g h = ap (λ z. cond z 1 0 + count_below n f) (h n) ∙ ap 
 pub count-none : (n : ℕ) → count_below n (λ y. false) ≡ 0
 count-none zero = refl
 count-none (suc n) = let h : count_below n (λ y. false) ≡ 0 = count-none n in omega (arith, h)
-
--- one number more
-count-one : (n a : ℕ) (f : ℕ → Bool) → a < n → f a ≡ false → count_below n (λ c. (a == c) || f c) ≡ suc (count_below n f)
-count-one zero a f l e = absurd (omega arith)
-count-one (suc n) a f l e = go (cases_eq a n) (count-one n a f)
-  where
-    other : (a == n) ≡ false → ◌≡◌ {A = ℕ} (cond ((a == n) || f n) 1 0) (cond (f n) 1 0)
-    other g = rw g refl
-
-    here : (a == n) ≡ true → ◌≡◌ {A = ℕ} (cond ((a == n) || f n) 1 0) 1
-    here g = rw g refl
-
-    same : (m : ℕ) → m ≤ a → count_below m (λ c. (a == c) || f c) ≡ count_below m f
-    same zero l = refl
-    same (suc m) l =
-        let g : (a == m) ≡ false = ne_eqb a m (λ h. omega arith) in
-        let h : ◌≡◌ {A = ℕ} (cond ((a == m) || f m) 1 0) (cond (f m) 1 0) = rw g refl in
-        omega (arith, h, same m (omega arith))
-
-    go : (a ≡ n) ⊎ (a ≡ n → ⊥) → (a < n → f a ≡ false → count_below n (λ c. (a == c) || f c) ≡ suc (count_below n f)) → cond ((a == n) || f n) 1 0 + count_below n (λ c. (a == c) || f c) ≡ suc (cond (f n) 1 0 + count_below n f)
-    go (inl g) rec =
-        let z : ◌≡◌ {A = ℕ} (cond (f n) 1 0) 0 = cond-false {A = ℕ} (f n) 1 0 (subst (λ z. f z ≡ false) g e) in
-        omega (arith, here (eq-eqb a n g), same n (omega arith), z)
-    go (inr g) rec = omega (arith, other (ne_eqb a n g), rec (omega arith) e)
 
 or_swap : (a b c : Bool) → (a || (b || c)) ≡ (b || (a || c))
 or_swap true true c = refl
@@ -57,11 +34,7 @@ mem-there s x y e = go (cases_Bool (x == y))
 pub with_mem : (s : List ℕ) (x y : ℕ) → mem y (with_sender s x) ≡ ((x == y) || mem y s)
 with_mem s x y = cond_both (mem x s) s (s ++ x ∷ []) (λ r. mem y r ≡ ((x == y) || mem y s)) (λ e. mem-there s x y e) (λ e. mem-last s x y)
 
-length-last : (s : List ℕ) (x : ℕ) → length (s ++ x ∷ []) ≡ suc (length s)
-length-last [] x = refl
-length-last (j ∷ s) x = ap suc (length-last s x)
-
 -- as many as the numbers below n that are among them
 pub with_size : (n : ℕ) (s : List ℕ) (x : ℕ) → x < n → length s ≡ count_below n (λ y. mem y s) → length (with_sender s x) ≡ count_below n (λ y. mem y (with_sender s x))
 with_size n s x l h = cond_both (mem x s) s (s ++ x ∷ []) (λ r. length r ≡ count_below n (λ y. mem y r)) (λ e. h)
-    (λ e. length-last s x ∙ ap suc h ∙ sym (count-same n (λ y. mem y (s ++ x ∷ [])) (λ y. (x == y) || mem y s) (mem-last s x) ∙ count-one n x (λ y. mem y s) l e))
+    (λ e. length_push s x ∙ ap suc h ∙ sym (count-same n (λ y. mem y (s ++ x ∷ [])) (λ y. (x == y) || mem y s) (mem-last s x) ∙ count-one n x (λ y. mem y s) l e))

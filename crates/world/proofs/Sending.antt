@@ -57,28 +57,20 @@ sends_fit u t (s ∷ ss) k = (message_fits t s.1 k.0.1, sends_fit u t ss k.1)
 
 -- PACKETS
 
+-- the backends send the same kinds
+sent_by : (kind : ℕ) → is_sent_by_tier InMid kind ≡ true → is_sent_by_tier Inv kind ≡ true → (t : Tier) → is_sent_by_tier t kind ≡ true
+sent_by kind mid back InMid = mid
+sent_by kind mid back Inv = back
+sent_by kind mid back Pay = back
+
 sent_log : (t : Tier) (m : PaxMsg AnyValue) → is_sent_by_tier t (log_kind m) ≡ true
-sent_log InMid (Prepare b p) = refl
-sent_log InMid (Promise b p a) = refl
-sent_log InMid (Accept b p v) = refl
-sent_log InMid (Accepted b p v) = refl
-sent_log InMid (Ask p) = refl
-sent_log InMid (Learn p v) = refl
-sent_log InMid (Behind p) = refl
-sent_log Inv (Prepare b p) = refl
-sent_log Inv (Promise b p a) = refl
-sent_log Inv (Accept b p v) = refl
-sent_log Inv (Accepted b p v) = refl
-sent_log Inv (Ask p) = refl
-sent_log Inv (Learn p v) = refl
-sent_log Inv (Behind p) = refl
-sent_log Pay (Prepare b p) = refl
-sent_log Pay (Promise b p a) = refl
-sent_log Pay (Accept b p v) = refl
-sent_log Pay (Accepted b p v) = refl
-sent_log Pay (Ask p) = refl
-sent_log Pay (Learn p v) = refl
-sent_log Pay (Behind p) = refl
+sent_log t (Prepare b p) = sent_by (log_kind (Prepare b p)) refl refl t
+sent_log t (Promise b p a) = sent_by (log_kind (Promise b p a)) refl refl t
+sent_log t (Accept b p v) = sent_by (log_kind (Accept b p v)) refl refl t
+sent_log t (Accepted b p v) = sent_by (log_kind (Accepted b p v)) refl refl t
+sent_log t (Ask p) = sent_by (log_kind (Ask p)) refl refl t
+sent_log t (Learn p v) = sent_by (log_kind (Learn p v)) refl refl t
+sent_log t (Behind p) = sent_by (log_kind (Behind p)) refl refl t
 
 packet_fits : (t : Tier) (x : ℕ) (m : PaxMsg AnyValue) → x ≤ 4 → FitsLog t m → FitsFrame (node t x) (msgs.Log m)
 packet_fits t x m l k = record { sender = l; sent = sent_log t m; message = k }

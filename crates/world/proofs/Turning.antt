@@ -1,5 +1,6 @@
 -- A node's log makes its turns: from a log in hand to the node's part.
 use Rattle.std.proofs.Common.{◌≡◌, ◌⊎◌, ℕ, ◌+◌, ◌-◌, ◌*◌, ◌^◌, ◌<◌, ◌≤◌, Bool, true, false, List, [], ◌∷◌, ◌++◌, length, take, min, map, zero, suc, refl, sym, ap, ◌∙◌, subst, inl, inr, arith, Option, Some, None, Result, Ok, Err}
+use Rattle.std.proofs.Math.Seq.{take-append_seam}
 use Rattle.std.specs.Prelude.{IfSome, OnOk}
 use Rattle.std.specs.List.{AllByRecursion}
 use Rattle.std.proofs.lemmas.Bool.{cond_both}
@@ -181,12 +182,8 @@ not_written now up turn next place facts a b r error fault e f told err g = subs
     go appends.Memory k = tt
 
 -- what was added is dropped
-pub cut_back : {A : Type 0} (xs ys : List A) → take (length xs) (xs ++ ys) ≡ xs
-cut_back [] ys = refl
-cut_back (x ∷ xs) ys = ap (λ z. x ∷ z) (cut_back xs ys)
-
 pub sent_none : (before more all after : List (End × List ℕ)) (n : ℕ) → all ≡ before ++ more → n ≡ length before → after ≡ take n all → after ≡ before
-sent_none before more all after n e f g = g ∙ (ap (λ z. take n z) e ∙ (ap (λ (z : ℕ). take z (before ++ more)) f ∙ cut_back before more))
+sent_none before more all after n e f g = g ∙ (ap (λ z. take n z) e ∙ (ap (λ (z : ℕ). take z (before ++ more)) f ∙ take-append_seam before more))
 
 -- TURNS
 

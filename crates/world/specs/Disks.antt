@@ -1,5 +1,5 @@
 -- The disks of the nodes: the lists of records that the run lets each one stand for.
-use Rattle.std.specs.Prelude.{◌≡◌, ℕ, ◌+◌, ◌<◌, ◌≤◌, Bool, true, false, List, [], ◌∷◌, length, Option, Some, None, slice_get}
+use Rattle.std.specs.Prelude.{◌≡◌, ℕ, ◌+◌, ◌<◌, ◌≤◌, Bool, true, false, List, [], ◌∷◌, length, not, Option, Some, None, slice_get}
 use Rattle.aeg_base.specs.declared.names.End.{End}
 use Rattle.aeg_base.specs.declared.names.End.TheVariants.{Node, Client}
 use Rattle.aeg_base.specs.declared.names.NodeId.{NodeId}
@@ -12,11 +12,11 @@ use Rattle.log_model.specs.World.Mode.{Up, Down, Gone}
 use Rattle.log_values.specs.declared.fact.Fact.{Fact}
 use Rattle.tier_model.specs.Moves.{Packet}
 use Rattle.run_model.specs.declared.trace.Fared.{Fared}
-use Rattle.run_model.specs.declared.trace.Fared.TheVariants.{Fine, Cut, Fault}
 use Rattle.run_model.specs.declared.trace.Found.TheVariants.{Reads, Fault as Fails}
 use Rattle.run_model.specs.declared.trace.TraceEvent.{TraceEvent}
 use Rattle.run_model.specs.declared.trace.TraceEvent.TheVariants.{Submit, Deliver, Short, Lead, Offer, Work, Retry, Crash, Restart, Wipe}
 use Rattle.run_model.specs.World.{start}
+use Rattle.run_model.specs.Resolving.{is_fine}
 use Rattle.run_model.specs.BookingRuns.{BookingWorld}
 
 -- WHERE A NODE'S DISK IS
@@ -58,9 +58,7 @@ pub record AreDisks (w : BookingWorld) (disks : List DiskState) : Type 0 where
 -- FAULTS
 
 abbrev pub is_fault : Fared → Bool
-is_fault Fine = false
-is_fault (Cut nth keep) = false
-is_fault Fault = true
+is_fault fared = not (is_fine fared)
 
 -- a disk failed in the event
 abbrev pub is_faulty : TraceEvent → Bool

@@ -10,6 +10,7 @@ pub mod Packets
 pub mod Restoring
 pub mod Arming
 pub mod Calling
+pub mod Commands
 pub mod Disks
 pub mod LogNodes
 pub mod PendingEntries

@@ -9,6 +9,7 @@ ghost use Rattle.run_model.specs.declared.trace.Found.TheVariants.{Reads};
 ghost use Rattle.run_model.specs.declared.trace.TraceEvent.TheVariants as events;
 ghost use Rattle.aeg_disk.specs.Disk.{DiskState};
 ghost use Rattle.world.specs.Arming.{CanStop, asked_of};
+ghost use Rattle.world.specs.Commands.{event_of};
 ghost use Rattle.world.specs.Disks.{AreDisks};
 ghost use Rattle.world.specs.Run.{new_run, world_of, closing_of};
 ghost use Rattle.world.specs.Going.{place_at, run_of, IsInStep, StandsOn, Adds};
@@ -16,6 +17,7 @@ ghost use Rattle.world.specs.Going.{place_at, run_of, IsInStep, StandsOn, Adds};
 mod lines;
 mod starting;
 
+use crate::nodes::Command;
 use crate::parts::{Parts, StopAt};
 use crate::text::add_closing;
 use aeg_base::limits::{MAX_FAULTS, PACKETS_BEFORE};
@@ -126,9 +128,10 @@ impl Progress {
         self.note(event, cursor)
     }
 
-    fn lead<D: Device>(
+    fn command<D: Device>(
         &mut self,
         node: NodeId,
+        command: Command,
         stop: Option<StopAt>,
         disks: &mut [D],
         lines: &mut Bytes,
@@ -137,29 +140,11 @@ impl Progress {
         requires few { length self.old.parts.soup ≤ PACKETS_BEFORE }
         requires stop { CanStop stop }
         requires there { node.index < 2 * self.old.parts.u + 1 }
-        ensures { OnOk result (Adds self.old self.new (map D.state disks.old) (map D.state disks.new) lines.old lines.new (events.Lead node (asked_of stop)) (place_at self.old.cursor)) }
+        ensures { OnOk result (Adds self.old self.new (map D.state disks.old) (map D.state disks.new) lines.old lines.new (event_of command node (asked_of stop)) (place_at self.old.cursor)) }
     {
         let cursor = self.cursor;
-        let fared = self.parts.lead(node, stop, disks, lines)?;
-        self.note(TraceEvent::Lead { node, fared }, cursor)
-    }
-
-    fn offer<D: Device>(
-        &mut self,
-        node: NodeId,
-        stop: Option<StopAt>,
-        disks: &mut [D],
-        lines: &mut Bytes,
-    ) -> Result<(), Memory>
-        requires step { StandsOn self.old (map D.state disks.old) }
-        requires few { length self.old.parts.soup ≤ PACKETS_BEFORE }
-        requires stop { CanStop stop }
-        requires there { node.index < 2 * self.old.parts.u + 1 }
-        ensures { OnOk result (Adds self.old self.new (map D.state disks.old) (map D.state disks.new) lines.old lines.new (events.Offer node (asked_of stop)) (place_at self.old.cursor)) }
-    {
-        let cursor = self.cursor;
-        let fared = self.parts.offer(node, stop, disks, lines)?;
-        self.note(TraceEvent::Offer { node, fared }, cursor)
+        let fared = self.parts.command(node, command, stop, disks, lines)?;
+        self.note(command.event(node, fared), cursor)
     }
 
     fn retry(&mut self, node: NodeId, lines: &mut Bytes) -> Result<(), Memory>

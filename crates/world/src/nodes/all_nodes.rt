@@ -8,10 +8,12 @@ ghost use Rattle.tier_model.specs.MidRows as mids;
 ghost use Rattle.tier_model.specs.BackRows as backs;
 ghost use Rattle.run_model.specs.BookingRuns.{booking_service};
 ghost use Rattle.aeg_disk.specs.Disk.{DiskState};
+ghost use Rattle.world.specs.Commands.{mid_row, back_row};
 ghost use Rattle.world.specs.Parts.{MayRead, goes_down, is_sure_now, is_wiped};
 ghost use Rattle.world.specs.NodeLists.{new_mid, new_back, AreNew, HasNode, KeepTiers, up_at, IsUpAt, IsDownAt, condition_at, Changes, NodesMove, NodeRestarts, CanReachAt, MayWriteAt};
 
 use super::back_node::BackNode;
+use super::command::Command;
 use super::condition::Condition;
 use super::mid_node::MidNode;
 use aeg_base::limits::MAX_FAULTS;
@@ -165,41 +167,23 @@ impl Nodes {
         }
     }
 
-    /// The node begins to lead.
-    pub fn lead<D: Disk>(
+    /// The node does what it is told.
+    pub fn obey<D: Disk>(
         &mut self,
         node: NodeId,
+        command: Command,
         disk: &mut D,
         out: &mut Outbox,
     ) -> Result<Turn, Fault>
         requires up { IsUpAt self.old node }
         requires disk { MayWriteAt self.old node (D.state disk.old) }
-        ensures { NodesMove self.old self.new node (D.state disk.old) (D.state disk.new) out.old out.new (λ m σ. mids.leads m.faults booking_service m.me σ) (λ b σ. backs.leads b.faults booking_service b.tier b.me σ) result }
+        ensures { NodesMove self.old self.new node (D.state disk.old) (D.state disk.new) out.old out.new (λ m σ. mid_row command m.faults m.me σ) (λ b σ. back_row command b.faults b.tier b.me σ) result }
     {
         let x = usize::from(node.index);
         match node.tier {
-            Tier::Mid => self.mids[x].lead(disk, out),
-            Tier::Inv => self.invs[x].lead(disk, out),
-            Tier::Pay => self.pays[x].lead(disk, out),
-        }
-    }
-
-    /// The node offers a value, where it can.
-    pub fn offer<D: Disk>(
-        &mut self,
-        node: NodeId,
-        disk: &mut D,
-        out: &mut Outbox,
-    ) -> Result<Turn, Fault>
-        requires up { IsUpAt self.old node }
-        requires disk { MayWriteAt self.old node (D.state disk.old) }
-        ensures { NodesMove self.old self.new node (D.state disk.old) (D.state disk.new) out.old out.new (λ m σ. mids.offers m.faults booking_service m.me σ) (λ b σ. backs.offers b.faults booking_service b.tier b.me σ) result }
-    {
-        let x = usize::from(node.index);
-        match node.tier {
-            Tier::Mid => self.mids[x].offer(disk, out),
-            Tier::Inv => Ok(self.invs[x].offer()),
-            Tier::Pay => Ok(self.pays[x].offer()),
+            Tier::Mid => self.mids[x].obey(command, disk, out),
+            Tier::Inv => self.invs[x].obey(command, disk, out),
+            Tier::Pay => self.pays[x].obey(command, disk, out),
         }
     }
 

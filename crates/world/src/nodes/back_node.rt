@@ -7,9 +7,11 @@ ghost use Rattle.log_model.specs.World.Mode.{Down};
 ghost use Rattle.frames.specs.declared.message.Msg.TheVariants as msgs;
 ghost use Rattle.tier_model.specs.BackRows.{on_frame, leads, offers, retry};
 ghost use Rattle.run_model.specs.BookingRuns.{booking_service};
+ghost use Rattle.world.specs.Commands.{back_row};
 ghost use Rattle.world.specs.NodeLists.{condition_in};
 ghost use Rattle.world.specs.Parts.{BackMoves, BackRestarts, CanReach, MayRead, MayWrite, back_with, goes_down, is_sure_now, is_up, is_wiped, new_part};
 
+use super::command::Command;
 use super::condition::Condition;
 use super::log_node::LogNode;
 use super::telling::offer_cause;
@@ -135,7 +137,7 @@ impl BackNode {
     }
 
     /// Begins to lead.
-    pub fn lead<D: Disk>(&mut self, disk: &mut D, out: &mut Outbox) -> Result<Turn, Fault>
+    fn lead<D: Disk>(&mut self, disk: &mut D, out: &mut Outbox) -> Result<Turn, Fault>
         requires up { is_up self.old.part ≡ true }
         requires disk { MayWrite self.old.part (D.state disk.old) }
         ensures { BackMoves self.old self.new (D.state disk.old) (D.state disk.new) out.old out.new (λ σ. leads self.old.faults booking_service self.old.tier self.old.me σ) result }
@@ -144,7 +146,7 @@ impl BackNode {
     }
 
     /// Has no value of its own to offer, and none was reported.
-    pub fn offer(&self) -> Turn
+    fn offer(&self) -> Turn
         requires { is_up self.now.part ≡ true }
         ensures { (disk : DiskState) (out : List (End × List ℕ)) → BackMoves self.now self.now disk disk out out (λ σ. offers self.now.faults booking_service self.now.tier self.now.me σ) (Ok result) }
     {
@@ -152,6 +154,23 @@ impl BackNode {
             return Turn::Idle(cause);
         }
         Turn::Idle(Idle::Nothing)
+    }
+
+    /// Does what it is told.
+    pub fn obey<D: Disk>(
+        &mut self,
+        command: Command,
+        disk: &mut D,
+        out: &mut Outbox,
+    ) -> Result<Turn, Fault>
+        requires up { is_up self.old.part ≡ true }
+        requires disk { MayWrite self.old.part (D.state disk.old) }
+        ensures { BackMoves self.old self.new (D.state disk.old) (D.state disk.new) out.old out.new (λ σ. back_row command self.old.faults self.old.tier self.old.me σ) result }
+    {
+        match command {
+            Command::Lead => self.lead(disk, out),
+            Command::Offer => Ok(self.offer()),
+        }
     }
 
     /// Tells again what may be lost: while nothing is run, its Asks alone.

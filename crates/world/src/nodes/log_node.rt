@@ -102,6 +102,7 @@ impl LogNode {
     }
 
     /// Takes the log and the journal of a node that is up.
+    #[inline(always)]
     fn take_up(&mut self) -> Working
         requires { is_up self.old.part ≡ true }
         ensures taken { WasAtWork self.old result }
@@ -250,6 +251,7 @@ impl LogNode {
     /// A turn that was decided on the log in hand. Its packets are made, its facts are written down, and only then does the
     /// node take over the log in its next state and hand the packets out. Where the journal would pass its limit, the disk
     /// fails or memory runs out, the node stays down and hands out none.
+    #[inline(always)]
     fn settle<D: Disk>(
         &mut self,
         up: Working,

@@ -9,10 +9,12 @@ ghost use Rattle.log_model.specs.World.Mode.{Up, Down};
 ghost use Rattle.frames.specs.declared.message.Msg.TheVariants as msgs;
 ghost use Rattle.tier_model.specs.MidRows.{on_frame, leads, offers, retry, own_value, own_cause};
 ghost use Rattle.run_model.specs.BookingRuns.{booking_service};
+ghost use Rattle.world.specs.Commands.{mid_row};
 ghost use Rattle.world.specs.LogNodes.{OwnStands};
 ghost use Rattle.world.specs.NodeLists.{condition_in};
 ghost use Rattle.world.specs.Parts.{CanReach, CanStand, IsAsked, MayRead, MayWrite, MidMoves, MidPart, MidRestarts, as_mid, goes_down, is_sure_now, is_up, is_wiped, mid_with, new_part};
 
+use super::command::Command;
 use super::condition::Condition;
 use super::log_node::LogNode;
 use super::pending::Pending;
@@ -134,7 +136,7 @@ impl MidNode {
     }
 
     /// Begins to lead.
-    pub fn lead<D: Disk>(&mut self, disk: &mut D, out: &mut Outbox) -> Result<Turn, Fault>
+    fn lead<D: Disk>(&mut self, disk: &mut D, out: &mut Outbox) -> Result<Turn, Fault>
         requires up { is_up self.old.part ≡ true }
         requires disk { MayWrite self.old.part (D.state disk.old) }
         ensures { MidMoves self.old self.new (D.state disk.old) (D.state disk.new) out.old out.new (λ σ. leads self.old.faults booking_service self.old.me σ) result }
@@ -143,7 +145,7 @@ impl MidNode {
     }
 
     /// Offers the value that was reported, or its own.
-    pub fn offer<D: Disk>(&mut self, disk: &mut D, out: &mut Outbox) -> Result<Turn, Fault>
+    fn offer<D: Disk>(&mut self, disk: &mut D, out: &mut Outbox) -> Result<Turn, Fault>
         requires up { is_up self.old.part ≡ true }
         requires disk { MayWrite self.old.part (D.state disk.old) }
         ensures { MidMoves self.old self.new (D.state disk.old) (D.state disk.new) out.old out.new (λ σ. offers self.old.faults booking_service self.old.me σ) result }
@@ -157,6 +159,23 @@ impl MidNode {
             return Ok(Turn::Idle(self.own_cause()));
         }
         self.node.offer(own.as_ref(), disk, out)
+    }
+
+    /// Does what it is told.
+    pub fn obey<D: Disk>(
+        &mut self,
+        command: Command,
+        disk: &mut D,
+        out: &mut Outbox,
+    ) -> Result<Turn, Fault>
+        requires up { is_up self.old.part ≡ true }
+        requires disk { MayWrite self.old.part (D.state disk.old) }
+        ensures { MidMoves self.old self.new (D.state disk.old) (D.state disk.new) out.old out.new (λ σ. mid_row command self.old.faults self.old.me σ) result }
+    {
+        match command {
+            Command::Lead => self.lead(disk, out),
+            Command::Offer => self.offer(disk, out),
+        }
     }
 
     /// Tells again what may be lost: while nothing is run, its Asks alone.

@@ -5,11 +5,12 @@ ghost use Rattle.tier_model.specs.MidRows as mids;
 ghost use Rattle.run_model.specs.BookingRuns.{booking_service};
 ghost use Rattle.world.specs.Arming.{armed_with, at_rest};
 ghost use Rattle.world.specs.Calling.{Called, IsSureIf};
+ghost use Rattle.world.specs.Commands.{mid_row, back_row};
 ghost use Rattle.world.specs.Parts.{MayRead};
 ghost use Rattle.world.specs.NodeLists.{HasNode, IsUpAt, IsDownAt, KeepTiers, MayWriteAt, CanReachAt, NodeRestarts};
 
 use super::arming::{StopAt, arm};
-use crate::nodes::Nodes;
+use crate::nodes::{Command, Nodes};
 use aeg_base::{End, NodeId};
 use aeg_disk::Device;
 use frames::{Fault, Msg, Outbox, Turn};
@@ -28,38 +29,21 @@ fn power<D: Device>(nodes: &mut Nodes, node: NodeId, disk: &mut D) -> bool
     met
 }
 
-/// The node begins to lead. Says its answer, and whether its disk met an armed stop.
-pub fn lead<D: Device>(
+/// The node does what it is told. Says its answer, and whether its disk met an armed stop.
+pub fn obey<D: Device>(
     nodes: &mut Nodes,
     node: NodeId,
+    command: Command,
     stop: Option<StopAt>,
     disk: &mut D,
     out: &mut Outbox,
 ) -> (Result<Turn, Fault>, bool)
     requires up { IsUpAt nodes.old node }
     requires disk { MayWriteAt nodes.old node (armed_with stop (D.state disk.old)) }
-    ensures { Called nodes.old nodes.new node.tier node.index stop (D.state disk.old) (D.state disk.new) out.old out.new (λ m σ. mids.leads m.faults booking_service m.me σ) (λ b σ. backs.leads b.faults booking_service b.tier b.me σ) result.0 result.1 }
+    ensures { Called nodes.old nodes.new node.tier node.index stop (D.state disk.old) (D.state disk.new) out.old out.new (λ m σ. mid_row command m.faults m.me σ) (λ b σ. back_row command b.faults b.tier b.me σ) result.0 result.1 }
 {
     arm(disk, stop);
-    let answer = nodes.lead(node, disk, out);
-    let met = power(nodes, node, disk);
-    (answer, met)
-}
-
-/// The node offers a value, where it can.
-pub fn offer<D: Device>(
-    nodes: &mut Nodes,
-    node: NodeId,
-    stop: Option<StopAt>,
-    disk: &mut D,
-    out: &mut Outbox,
-) -> (Result<Turn, Fault>, bool)
-    requires up { IsUpAt nodes.old node }
-    requires disk { MayWriteAt nodes.old node (armed_with stop (D.state disk.old)) }
-    ensures { Called nodes.old nodes.new node.tier node.index stop (D.state disk.old) (D.state disk.new) out.old out.new (λ m σ. mids.offers m.faults booking_service m.me σ) (λ b σ. backs.offers b.faults booking_service b.tier b.me σ) result.0 result.1 }
-{
-    arm(disk, stop);
-    let answer = nodes.offer(node, disk, out);
+    let answer = nodes.obey(node, command, disk, out);
     let met = power(nodes, node, disk);
     (answer, met)
 }

@@ -4,10 +4,12 @@ ghost use Rattle.aeg_base.specs.declared.names.End.TheVariants as ends;
 ghost use Rattle.run_model.specs.declared.trace.Fared.{Fared};
 ghost use Rattle.run_model.specs.declared.trace.TraceEvent.TheVariants as events;
 ghost use Rattle.world.specs.Arming.{CanStop, asked_of};
+ghost use Rattle.world.specs.Commands.{event_of};
 ghost use Rattle.world.specs.Standing.{AreShown, AreShownOn, Plays, PlaysBy};
 
 use super::arming::{StopAt, asked, fared, place_of};
 use super::{Parts, calls};
+use crate::nodes::Command;
 use crate::text::add_command;
 use aeg_base::limits::PACKETS_BEFORE;
 use aeg_base::{Bytes, Memory, NodeId};
@@ -16,10 +18,11 @@ use frames::Outbox;
 use run_model::Fared;
 
 impl Parts {
-    /// `lead NODE`, during which the node's disk stops where that is asked.
-    pub fn lead<D: Device>(
+    /// `lead NODE` or `offer NODE`, during which the node's disk stops where that is asked.
+    pub fn command<D: Device>(
         &mut self,
         node: NodeId,
+        command: Command,
         stop: Option<StopAt>,
         disks: &mut [D],
         lines: &mut Bytes,
@@ -28,48 +31,17 @@ impl Parts {
         requires there { node.index < 2 * self.old.u + 1 }
         requires stop { CanStop stop }
         requires few { length self.old.soup ≤ PACKETS_BEFORE }
-        ensures { PlaysBy self.old self.new (map D.state disks.old) (map D.state disks.new) lines.old lines.new (λ (f : Fared). events.Lead node f) (asked_of stop) result }
+        ensures { PlaysBy self.old self.new (map D.state disks.old) (map D.state disks.new) lines.old lines.new (λ (f : Fared). event_of command node f) (asked_of stop) result }
     {
         if !self.nodes.is_up(node) {
             self.pass_over(node, lines)?;
             return Ok(asked(stop));
         }
         let mut out = Outbox::new(self.alloc);
-        let (answer, met) = calls::lead(
+        let (answer, met) = calls::obey(
             &mut self.nodes,
             node,
-            stop,
-            &mut disks[place_of(node)],
-            &mut out,
-        );
-        let fared = fared(stop, met, &answer);
-        add_command(lines, node, met, answer)?;
-        self.send(out)?;
-        Ok(fared)
-    }
-
-    /// `offer NODE`, during which the node's disk stops where that is asked.
-    pub fn offer<D: Device>(
-        &mut self,
-        node: NodeId,
-        stop: Option<StopAt>,
-        disks: &mut [D],
-        lines: &mut Bytes,
-    ) -> Result<Fared, Memory>
-        requires shown { AreShownOn self.old (map D.state disks.old) }
-        requires there { node.index < 2 * self.old.u + 1 }
-        requires stop { CanStop stop }
-        requires few { length self.old.soup ≤ PACKETS_BEFORE }
-        ensures { PlaysBy self.old self.new (map D.state disks.old) (map D.state disks.new) lines.old lines.new (λ (f : Fared). events.Offer node f) (asked_of stop) result }
-    {
-        if !self.nodes.is_up(node) {
-            self.pass_over(node, lines)?;
-            return Ok(asked(stop));
-        }
-        let mut out = Outbox::new(self.alloc);
-        let (answer, met) = calls::offer(
-            &mut self.nodes,
-            node,
+            command,
             stop,
             &mut disks[place_of(node)],
             &mut out,

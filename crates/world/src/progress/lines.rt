@@ -7,6 +7,7 @@ ghost use Rattle.world.specs.Run.{ComesFurther};
 ghost use Rattle.world.specs.Going.{run_of, IsInStep, StandsOn, AddsLine, is_one, GoesBy};
 
 use super::Progress;
+use crate::nodes::Command;
 use crate::parts::StopAt;
 use crate::stop::Stop;
 use aeg_base::limits::PACKETS_BEFORE;
@@ -38,8 +39,14 @@ impl Progress {
         let cursor = self.cursor;
         match line {
             CutLine::Deliver { packet } => self.deliver(*packet, Some(stop), cursor, disks, lines),
-            CutLine::Lead { node } => self.lead(*node, Some(stop), disks, lines),
-            CutLine::Offer { node } => self.offer(*node, Some(stop), disks, lines),
+            CutLine::Lead { node } => self.command(*node, Command::Lead, Some(stop), disks, lines),
+            CutLine::Offer { node } => self.command(
+                *node,
+                Command::Offer,
+                Some(stop),
+                disks,
+                lines,
+            ),
         }
     }
 
@@ -68,8 +75,8 @@ impl Progress {
                 };
                 self.cut(stop, line, disks, lines)
             }
-            Event::Lead { node } => self.lead(*node, None, disks, lines),
-            Event::Offer { node } => self.offer(*node, None, disks, lines),
+            Event::Lead { node } => self.command(*node, Command::Lead, None, disks, lines),
+            Event::Offer { node } => self.command(*node, Command::Offer, None, disks, lines),
             Event::Retry { end } => match end {
                 End::Node(node) => self.retry(*node, lines),
                 End::Client(client) => self.ask_again(*client, lines),

@@ -17,9 +17,8 @@ use Rattle.world.specs.Parts.{CanReach}
 use Rattle.world.specs.Telling.{told_frame}
 use Rattle.world.proofs.Moving.{asked_can, asked_no_fault}
 use Rattle.world.proofs.Calling.{disk_read, disks_left, may_write_at}
-use Rattle.world.proofs.Deliveries.{addressed, unsent, found_is, reaches_at, place_is, deliver_none, deliver_lost, deliver_done}
+use Rattle.world.proofs.Deliveries.{addressed, unsent, found_is, reaches_at, place_is, deliver_none, deliver_lost, deliver_done, has_receiver}
 use Rattle.world.proofs.Playing.{plays_by, plays_idle}
-use Rattle.world.proofs.Present.{has_node}
 use Rattle.world.proofs.Room.{nodes_fit}
 use Rattle.world.proofs.parts.Parts.deliver.Goals as goal
 
@@ -32,10 +31,7 @@ returns-in_default g c =
     (asked_no_fault c.args.stop) (λ w. tt) c.asked.ensures (c.in_ok-send.ensures.0 ∙ ap (parts_after c.args.self.now c.args.self.now.nodes) c.new.ensures) c.in_ok-send.ensures.1 c.in_ok-add_none.ensures
 
 pub is_up-requires : goal.is_up-requires
-is_up-requires g c =
-    let r = c.requires.shown in
-    let a = addressed r.0 r.1 r.2 c.args.self.now c.args.packet c.in-Some.node r.3 (sym c.receiver.ensures ∙ c.in-Some.is) in
-    has_node r.0 r.1 r.2 c.args.self.now.nodes c.in-Some.node.index c.in-Some.node.tier r.3.nodes a.there
+is_up-requires g c = has_receiver c.args.self.now (map g.D.Disk.state c.args.disks.now) c.args.packet c.in-Some.node c.requires.shown (sym c.receiver.ensures ∙ c.in-Some.is)
 
 pub returns-then-not-is_up : goal.returns-then-not-is_up
 returns-then-not-is_up g c =

@@ -7,9 +7,8 @@ use Rattle.run_model.specs.Text.{node_name, lost_line, drop_line}
 use Rattle.world.specs.Calling.{parts_after}
 use Rattle.world.specs.NodeLists.{up_at}
 use Rattle.world.specs.Packets.{receiver_in, is_cut_in}
-use Rattle.world.proofs.Deliveries.{addressed, short_plays, short_refused, short_lost, cut_goes}
+use Rattle.world.proofs.Deliveries.{addressed, short_plays, short_refused, short_lost, cut_goes, has_receiver}
 use Rattle.world.proofs.Playing.{plays_idle}
-use Rattle.world.proofs.Present.{has_node}
 use Rattle.world.proofs.parts.Parts.short.Goals as goal
 
 pub returns-then-not-is_cut : goal.returns-then-not-is_cut
@@ -25,10 +24,7 @@ unreachable-requires g c =
     cut_goes r.0 r.1 r.2 c.args.self.now c.args.packet c.args.bytes r.3 cut (sym c.receiver.ensures ∙ c.in_default.is)
 
 pub is_up-requires : goal.is_up-requires
-is_up-requires g c =
-    let r = c.requires.shown in
-    let a = addressed r.0 r.1 r.2 c.args.self.now c.args.packet c.in-Some.node r.3 (sym c.receiver.ensures ∙ c.in-Some.is) in
-    has_node r.0 r.1 r.2 c.args.self.now.nodes c.in-Some.node.index c.in-Some.node.tier r.3.nodes a.there
+is_up-requires g c = has_receiver c.args.self.now (map g.D.Disk.state c.args.disks.now) c.args.packet c.in-Some.node c.requires.shown (sym c.receiver.ensures ∙ c.in-Some.is)
 
 pub returns-then-not-is_up : goal.returns-then-not-is_up
 returns-then-not-is_up g c =

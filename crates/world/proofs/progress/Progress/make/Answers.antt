@@ -39,12 +39,12 @@ returns-in-Deliver g c =
 pub returns-in-Lead : goal.returns-in-Lead
 returns-in-Lead g c =
     let state = g.D.Disk.state in
-    subst (λ z. OnOk c.lead.result (AddsLine c.args.self.now c.lead.new.self (map state c.args.disks.now) (map state c.lead.new.disks) c.args.lines.now c.lead.new.lines z)) (sym c.in-Lead.is) c.lead.ensures
+    subst (λ z. OnOk c.command.result (AddsLine c.args.self.now c.command.new.self (map state c.args.disks.now) (map state c.command.new.disks) c.args.lines.now c.command.new.lines z)) (sym c.in-Lead.is) c.command.ensures
 
 pub returns-in-Offer : goal.returns-in-Offer
 returns-in-Offer g c =
     let state = g.D.Disk.state in
-    subst (λ z. OnOk c.offer.result (AddsLine c.args.self.now c.offer.new.self (map state c.args.disks.now) (map state c.offer.new.disks) c.args.lines.now c.offer.new.lines z)) (sym c.in-Offer.is) c.offer.ensures
+    subst (λ z. OnOk c.command-in-Offer.result (AddsLine c.args.self.now c.command-in-Offer.new.self (map state c.args.disks.now) (map state c.command-in-Offer.new.disks) c.args.lines.now c.command-in-Offer.new.lines z)) (sym c.in-Offer.is) c.command-in-Offer.ensures
 
 pub returns-in-Restart : goal.returns-in-Restart
 returns-in-Restart g c =
