@@ -1,7 +1,8 @@
 // The actions of each segment, and the rules that texts break.
-use crate::{BadRequest, Booking, read_request};
-use aeg_base::{Bytes, ReqId, Tier};
+use crate::{BadRequest, BookProg, Booking, read_request};
+use aeg_base::{Bytes, Key, ReqId, Tier};
 use std::alloc::Global;
+use std::process::Abort;
 use std::test::Fail;
 use svc_api::{Action, Program, Service};
 
@@ -174,70 +175,135 @@ const BAD: [(&str, u8); 9] = [
     ("look 017", 3),
 ];
 
-fn add(alloc: Global, told: &mut Bytes, action: &Action, stage: u8) -> Result<bool, Fail> {
+fn tell_get(alloc: Global, told: &mut Bytes, key: &Key) -> Result<(), Fail> {
+    let text = format!(in alloc; "get {} {}; ", key.class, key.id)?;
+    told.extend(text.as_bytes())?;
+    Ok(())
+}
+
+fn tell_put(alloc: Global, told: &mut Bytes, key: &Key, value: u64) -> Result<(), Fail> {
+    let text = format!(in alloc; "put {} {} {value}; ", key.class, key.id)?;
+    told.extend(text.as_bytes())?;
+    Ok(())
+}
+
+fn tell_call(
+    alloc: Global,
+    told: &mut Bytes,
+    name: &str,
+    stage: u8,
+    body: &Bytes,
+) -> Result<(), Fail> {
+    let text = format!(in alloc; "call {name} {stage} ")?;
+    told.extend(text.as_bytes())?;
+    told.extend(body.items())?;
+    Ok(())
+}
+
+fn tell_reply(told: &mut Bytes, body: &Bytes) -> Result<(), Fail> {
+    told.extend("reply ".as_bytes())?;
+    told.extend(body.items())?;
+    Ok(())
+}
+
+/// Tells the action, and whether the segment ends with it.
+fn tell(alloc: Global, told: &mut Bytes, action: &Action, stage: u8) -> Result<bool, Fail> {
     match action {
         Action::Get(key) => {
-            told.extend(format!(in alloc; "get {} {}; ", key.class, key.id)?.as_bytes())?;
+            tell_get(alloc, told, key)?;
             Ok(false)
         }
         Action::Put(key, value) => {
-            told.extend(format!(in alloc; "put {} {} {value}; ", key.class, key.id)?.as_bytes())?;
+            tell_put(alloc, told, key, *value)?;
             Ok(false)
         }
-        Action::Call(tier, text) => {
+        Action::Call(tier, body) => {
             let name = if *tier == Tier::Inv { "inv" } else { "pay" };
-            told.extend(format!(in alloc; "call {name} {stage} ")?.as_bytes())?;
-            told.extend(text.items())?;
+            tell_call(alloc, told, name, stage, body)?;
             Ok(true)
         }
-        Action::Reply(text) => {
-            told.extend("reply ".as_bytes())?;
-            told.extend(text.items())?;
+        Action::Reply(body) => {
+            tell_reply(told, body)?;
             Ok(true)
         }
     }
 }
 
-fn actions(alloc: Global, row: &Row) -> Result<Bytes, Fail> {
-    let (text, stage, answer, reads, _) = *row;
-    let who = ReqId { client: 1, seq: 2 };
-    let body = Bytes::of(String::from_str(alloc, text)?.into_bytes());
-    let mut told = Bytes::new(alloc);
-    let Some(mut prog) = Booking::new(alloc).begin(who, &body, stage)? else {
-        return Ok(told);
-    };
+/// Does the next action and tells it; whether it reads, or none where the segment ends with it.
+fn step(
+    alloc: Global,
+    told: &mut Bytes,
+    prog: &mut BookProg,
+    last: Option<u64>,
+) -> Result<Option<bool>, Fail> {
+    let action = prog.next(last)?;
+    if tell(alloc, told, &action, prog.stage())? {
+        return Ok(None);
+    }
+    Ok(Some(matches!(action, Action::Get(_))))
+}
+
+/// Tells the program's actions, of which there are fewer than 32, where its reads give these values.
+fn tell_all(
+    alloc: Global,
+    told: &mut Bytes,
+    prog: &mut BookProg,
+    answer: Option<u64>,
+    reads: &[u64],
+) -> Result<(), Fail> {
     let mut last = answer;
     let mut reads = reads.iter();
     for _ in 0..32u8 {
-        let action = prog.next(last)?;
-        if add(alloc, &mut told, &action, prog.stage())? {
-            return Ok(told);
-        }
-        last = match action {
-            Action::Get(_) => reads.next().copied(),
-            _ => None,
+        let Some(is_read) = step(alloc, told, prog, last)? else {
+            return Ok(());
         };
+        last = if is_read { reads.next().copied() } else { None };
+    }
+    Ok(())
+}
+
+/// The program of the text at the stage, where it is a request that goes on there.
+fn begun(alloc: Global, text: &str, stage: u8) -> Result<Option<BookProg>, Fail> {
+    let who = ReqId { client: 1, seq: 2 };
+    let body = Bytes::of(String::from_str(alloc, text)?.into_bytes());
+    let prog = Booking::new(alloc).begin(who, &body, stage)?;
+    Ok(prog)
+}
+
+fn actions(alloc: Global, row: &Row) -> Result<Bytes, Fail> {
+    let (text, stage, answer, reads, _) = *row;
+    let mut told = Bytes::new(alloc);
+    if let Some(mut prog) = begun(alloc, text, stage)? {
+        tell_all(alloc, &mut told, &mut prog, answer, reads)?;
     }
     Ok(told)
+}
+
+fn has_actions(rt: &impl Abort, alloc: Global, row: &Row) -> Result<(), Fail> {
+    let told = actions(alloc, row)?;
+    assert_eq!(rt; told.items(), row.4.as_bytes());
+    Ok(())
 }
 
 #[test]
 fn actions_of_segments(rt: HostRuntime) -> Result<(), Fail> {
     for row in &ROWS {
-        let told = actions(rt.alloc(), row)?;
-        assert_eq!(rt; told.items(), row.4.as_bytes());
+        has_actions(&rt, rt.alloc(), row)?;
     }
     Ok(())
 }
 
+fn is_bad(rt: &impl Abort, text: &str, row: u8) {
+    assert_eq!(rt;
+        read_request(text.as_bytes()),
+        Err(BadRequest { row }),
+        "{text}"
+    );
+}
+
 #[test]
-fn texts_that_are_no_requests(rt: HostRuntime) -> Result<(), Fail> {
-    for (text, row) in BAD {
-        assert_eq!(rt;
-            read_request(text.as_bytes()),
-            Err(BadRequest { row }),
-            "{text}"
-        );
+fn texts_that_are_no_requests(rt: HostRuntime) {
+    for (text, row) in &BAD {
+        is_bad(&rt, text, *row);
     }
-    Ok(())
 }
