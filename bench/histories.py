@@ -1,12 +1,9 @@
-#!/usr/bin/env python3
-"""histories.py NAME LINES: prints a history for `single` that is legal; the same for the same words.
+"""The histories of the bench, each a legal one of so many lines, and the same for the same number:
 
-  looks LINES      16 clients open trips and look at bookings that aren't there
-  bookings LINES   16 clients open a trip each, then book and cancel, with their nested calls, taking turns
-  mixed LINES      16 clients open, book, cancel and look as it is drawn, and are refused at times
+  looks      16 clients open trips and look at bookings that aren't there
+  bookings   16 clients open a trip each, then book and cancel, with their nested calls, taking turns
+  mixed      16 clients open, book, cancel and look as it is drawn, and are refused at times
 """
-
-import sys
 
 from mixed import mixed
 
@@ -39,6 +36,17 @@ class Numbers:
         return self.last[tier]
 
 
+def two_calls(who, request, tiers, numbers):
+    """A request with a nested call of each of the two tiers, in order."""
+    call = numbers.next(tiers[0])
+    yield "start %s %d %s" % (who, call, request)
+    yield "serve %s %d" % (tiers[0], call)
+    call = numbers.next(tiers[1])
+    yield "resume %s %d" % (who, call)
+    yield "serve %s %d" % (tiers[1], call)
+    yield "resume %s 0" % who
+
+
 def client_lines(client, numbers):
     """A client opens its own trip, and then books it and cancels the booking over and over. At most two of its bookings
     stand at a time, so no request is refused."""
@@ -50,22 +58,10 @@ def client_lines(client, numbers):
         seq += 1
         who = "%d.%d" % (client, seq)
         if len(kept) < 2:
-            call = numbers.next("inv")
-            yield "start %s %d book %d 1" % (who, call, trip)
-            yield "serve inv %d" % call
-            call = numbers.next("pay")
-            yield "resume %s %d" % (who, call)
-            yield "serve pay %d" % call
+            yield from two_calls(who, "book %d 1" % trip, ("inv", "pay"), numbers)
             kept.append(16 * (seq - 1) + client)
         else:
-            booking = kept.pop(0)
-            call = numbers.next("pay")
-            yield "start %s %d cancel %d" % (who, call, booking)
-            yield "serve pay %d" % call
-            call = numbers.next("inv")
-            yield "resume %s %d" % (who, call)
-            yield "serve inv %d" % call
-        yield "resume %s 0" % who
+            yield from two_calls(who, "cancel %d" % kept.pop(0), ("pay", "inv"), numbers)
         seq += 1
         yield "start %d.%d 0 look %d" % (client, seq, kept[-1])
 
@@ -79,14 +75,3 @@ def bookings(lines):
 
 
 HISTORIES = {"looks": looks, "bookings": bookings, "mixed": mixed}
-
-
-def main():
-    if len(sys.argv) != 3 or sys.argv[1] not in HISTORIES:
-        sys.exit(__doc__)
-    for line in HISTORIES[sys.argv[1]](int(sys.argv[2])):
-        print(line)
-
-
-if __name__ == "__main__":
-    main()

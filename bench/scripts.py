@@ -1,10 +1,7 @@
-#!/usr/bin/env python3
-"""scripts.py NAME EVENTS: prints a script for `replay`; the same for the same words.
+"""The scripts of the bench, each of so many events, and the same for the same number:
 
-  leads EVENTS     five nodes a tier, and one of them takes ballot after ballot; at most 16,257 under the limit on packets
+  leads   five nodes a tier, and one of them takes ballot after ballot; at most 16,257 events under the limit on packets
 """
-
-import sys
 
 HEADER = "tiers 2 depth 1"
 
@@ -16,14 +13,3 @@ def leads(events):
 
 
 SCRIPTS = {"leads": leads}
-
-
-def main():
-    if len(sys.argv) != 3 or sys.argv[1] not in SCRIPTS:
-        sys.exit(__doc__)
-    for line in SCRIPTS[sys.argv[1]](int(sys.argv[2])):
-        print(line)
-
-
-if __name__ == "__main__":
-    main()
