@@ -5,9 +5,6 @@ use Rattle.aeg_disk.specs.Disk.{IsImage, Lawful}
 use Rattle.aeg_disk.specs.Memory.{Change, start_of, undone, kept_of, ranges_of, is_fit, is_logged, memory_state}
 use Rattle.aeg_disk.specs.Undo.{torn_undo}
 
-fit : (a b n l m : ℕ) → (nat_le a b && nat_le n l && nat_le b m && nat_le m (max b (a + l))) ≡ true → (a ≤ b) × (n ≤ l)
-fit a b n l m h = grind (arith, nat_tests)
-
 four : (p q r s : Bool) → (p && q && r && s) ≡ true → (p ≡ true) × (q ≡ true) × (r ≡ true) × (s ≡ true)
 four true true true true h = (refl, refl, refl, refl)
 four false q r s h = cc

@@ -1,7 +1,7 @@
 // What each call changes of the bytes of a disk in memory.
-ghost use Rattle.std.specs.Prelude.{◌≡◌, ◌+◌, ◌-◌, ◌<◌, ◌≤◌, ◌^◌, ◌++◌, ◌∷◌, length, take, drop, replicate, true, OnOk, OnErr};
+ghost use Rattle.std.specs.Prelude.{◌≡◌, ◌+◌, ◌-◌, ◌<◌, ◌≤◌, ◌^◌, ◌++◌, ◌∷◌, length, take, drop, replicate, OnOk, OnErr};
 ghost use Rattle.aeg_disk.specs.Disk.{written};
-ghost use Rattle.aeg_disk.specs.Memory.{write_of, mark_of, loss_of, kept_of};
+ghost use Rattle.aeg_disk.specs.Memory.{write_of, loss_of, kept_of};
 
 use crate::tape::Tape;
 use aeg_base::Memory;
@@ -51,8 +51,24 @@ fn note(tape: &mut Tape, bytes: &[u8], at: usize, count: usize, settles: bool) -
     tape.add(at, count, bytes.len(), part(bytes, at, count), settles)
 }
 
-/// Writes, in place, once there is room for all of it.
-pub(crate) fn put(
+// Writes behind all that is there.
+fn extend(bytes: &mut Vec<u8>, tape: &mut Tape, piece: &[u8], settles: bool) -> Result<(), Memory>
+    requires { length bytes.old.items + length piece.now < 2 ^ 64 }
+    ensures written { OnOk result (bytes.new.items ≡ bytes.old.items ++ piece.now) }
+    ensures noted { OnOk result (tape.new ≡ write_of (length bytes.old.items) (length piece.now) bytes.old.items settles ∷ tape.old) }
+    ensures err { OnErr result ((bytes.new.items ≡ bytes.old.items) × (tape.new ≡ tape.old)) }
+{
+    let before = bytes.len();
+    bytes.extend_from_slice(piece)?;
+    if note(tape, &bytes[..before], before, piece.len(), settles).is_err() {
+        bytes.truncate(before);
+        return Err(Memory);
+    }
+    Ok(())
+}
+
+// Writes over what is there and, where need be, behind it, in place, once there is room for all of it.
+fn write_over(
     bytes: &mut Vec<u8>,
     tape: &mut Tape,
     at: usize,
@@ -72,6 +88,25 @@ pub(crate) fn put(
     }
     overlay_in(bytes, at, piece);
     Ok(())
+}
+
+/// Writes, in place.
+pub(crate) fn put(
+    bytes: &mut Vec<u8>,
+    tape: &mut Tape,
+    at: usize,
+    piece: &[u8],
+    settles: bool,
+) -> Result<(), Memory>
+    requires { at + length piece.now < 2 ^ 64 }
+    ensures written { OnOk result (bytes.new.items ≡ written at piece.now bytes.old.items) }
+    ensures noted { OnOk result (tape.new ≡ write_of at (length piece.now) bytes.old.items settles ∷ tape.old) }
+    ensures err { OnErr result ((bytes.new.items ≡ bytes.old.items) × (tape.new ≡ tape.old)) }
+{
+    if at == bytes.len() {
+        return extend(bytes, tape, piece, settles);
+    }
+    write_over(bytes, tape, at, piece, settles)
 }
 
 /// Puts what stood at the last sync in the place of the bytes.

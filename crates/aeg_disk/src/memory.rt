@@ -8,7 +8,8 @@ use crate::tape::Tape;
 use aeg_base::Memory;
 use std::alloc::Global;
 
-/// A disk in memory, of less than 4 GiB. It keeps what undoes each write and sync, and copies nothing at a sync.
+/// A disk in memory. It keeps what undoes each write and sync, and copies nothing at a sync. For a place or a length past
+/// 32 bits, which its notes can't hold, there is no memory.
 #[derive(Drop)]
 pub struct MemDisk {
     alloc: Global,
@@ -82,7 +83,7 @@ impl MemDisk {
         ensures stop { OnOk result (Stop (state_of self.old) (state_of self.new) (state_of self.old).bytes) }
         ensures err { OnErr result (state_of self.new ≡ state_of self.old) }
     {
-        self.tape.add(0, 0, self.bytes.len(), &[], true)?;
+        self.tape.settle(self.bytes.len())?;
         self.calls = self.calls.saturating_add(1);
         self.armed = 0;
         self.stopped = true;
@@ -125,7 +126,7 @@ impl MemDisk {
         ensures done { OnOk result (Done (state_of self.old) (state_of self.new) (state_of self.old).size (Settled (state_of self.old) (state_of self.new))) }
         ensures err { OnErr result (state_of self.new ≡ state_of self.old) }
     {
-        self.tape.add(0, 0, self.bytes.len(), &[], true)?;
+        self.tape.settle(self.bytes.len())?;
         self.calls = self.calls.saturating_add(1);
         self.armed = self.armed.saturating_sub(1);
         Ok(())

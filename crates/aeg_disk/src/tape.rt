@@ -1,7 +1,7 @@
 // What undoes each write and sync of a disk in memory.
-ghost use Rattle.std.specs.Prelude.{◌≡◌, ◌∷◌, [], length, reverse, OnOk, OnErr, IfOk};
-ghost use Rattle.aeg_disk.specs.Memory.{kept_of, undone};
-ghost use Rattle.aeg_disk.specs.Tape.{change_of, changes_of};
+ghost use Rattle.std.specs.Prelude.{◌≡◌, ◌∷◌, [], ℕ, List, true, false, length, reverse, OnOk, OnErr, IfOk};
+ghost use Rattle.aeg_disk.specs.Memory.{kept_of, mark_of, undone};
+ghost use Rattle.aeg_disk.specs.Tape.{change_of, changes_of, length_after};
 
 use crate::note::Note;
 use aeg_base::Memory;
@@ -26,6 +26,13 @@ impl Model for Tape {
     ghost view = { λ t. changes_of (reverse t.notes.items) t.run.items };
 }
 
+/// The disk's length after the change of a note with which a sync is noted.
+fn length_after(note: &Note) -> u64
+    ensures { result ≡ length_after note.now }
+{
+    u64::from(note.before).max(u64::from(note.place) + u64::from(note.count))
+}
+
 /// A number as a note has it.
 fn narrow(n: usize) -> Result<u32, Memory>
     ensures { IfOk result (λ m. m ≡ n) }
@@ -34,6 +41,21 @@ fn narrow(n: usize) -> Result<u32, Memory>
         Ok(m) => Ok(m),
         Err(_) => Err(Memory),
     }
+}
+
+/// Takes note of a sync of a disk of this length at the last note, where that one has no sync yet and tells the length.
+fn sync_last(notes: &mut Vec<Note>, len: usize) -> bool
+    ensures yes { result ≡ true → (run : List ℕ) → changes_of (reverse notes.new.items) run ≡ mark_of 0 0 len true ∷ changes_of (reverse notes.old.items) run }
+    ensures no { result ≡ false → notes.new.items ≡ notes.old.items }
+{
+    let Some(last) = notes.last_mut() else {
+        return false;
+    };
+    if last.synced || length_after(last) != len as u64 {
+        return false;
+    }
+    last.synced = true;
+    true
 }
 
 // The bytes before a change.
@@ -59,7 +81,7 @@ fn kept(alloc: Global, bytes: &[u8], notes: &[Note], run: &[u8]) -> Result<Vec<u
     let mut rest = notes;
     let mut run = run;
     while let [before @ .., last] = rest {
-        if last.settles {
+        if last.settles || last.synced {
             break;
         }
         let (older, replaced) = run.split_at(run.len().saturating_sub(last.replaced as usize));
@@ -99,6 +121,7 @@ impl Tape {
             before: narrow(before)?,
             replaced: narrow(replaced.len())?,
             settles,
+            synced: false,
         };
         let earlier = self.run.len();
         self.run.extend_from_slice(replaced)?;
@@ -107,6 +130,17 @@ impl Tape {
             return Err(Memory);
         }
         Ok(())
+    }
+
+    /// Takes note of a sync of a disk of this length.
+    pub fn settle(&mut self, len: usize) -> Result<(), Memory>
+        ensures ok { OnOk result (self.new ≡ mark_of 0 0 len true ∷ self.old) }
+        ensures err { OnErr result (self.new ≡ self.old) }
+    {
+        if sync_last(&mut self.notes, len) {
+            return Ok(());
+        }
+        self.add(0, 0, len, &[], true)
     }
 
     /// What stood at the last sync.
