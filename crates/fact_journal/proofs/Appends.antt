@@ -1,6 +1,6 @@
 -- What an append of a record leaves.
 use Rattle.std.proofs.Common.{◌≡◌, inl, inr, ℕ, ◌+◌, ◌<◌, List, [], ◌∷◌, ◌++◌, length, Bool, true, false, cond, ◌==◌, ◌-◌, ◌^◌, min, Result, Ok, Err, refl, sym, ap, ◌∙◌, subst, arith}
-use Rattle.aeg_disk.specs.Disk.{DiskState, Moment, Later}
+use Rattle.aeg_disk.specs.Disk.{DiskState, Image, Moment, Later}
 use Rattle.node_journal.specs.Journal.{records, size_of}
 use Rattle.node_journal.specs.declared.journal.AppendErr.{AppendErr}
 use Rattle.node_journal.specs.declared.journal.AppendErr.TheVariants.{Disk, Full, Memory}
@@ -110,3 +110,15 @@ module _ (rs : List (List Fact)) (facts : List Fact) (some : 0 < length facts) (
       subst (λ (s : DiskState). HasFacts rs s place) (sym (same n refl)) (subst (λ (k : ℕ). HasFacts rs a k) (sym kept) has)
   leaves (Err Disk) place t later here kept h moment same = two_lists t later (moment t)
   leaves (Err Memory) place t later here kept h moment same = two_lists t later (moment t)
+
+-- NOTHING WAS WRITTEN
+
+module _ (rs : List (List Fact)) (facts : List Fact) (s : DiskState) (at : ℕ) (has : HasFacts rs s at) where
+  is_old : (c : List ℕ) → Image s c → IsJournalOf (old_or_new rs facts) c
+  is_old c i = ((0, rs, refl, (has.images c i).list), ended_sound (texts rs) at c (has.images c i))
+
+  pub not_begun : (place : ℕ) (r : Result (Unit {0}) AppendErr) → s.tells ≡ true → r ≡ Err Memory → Appended rs facts s place r
+  not_begun place r t e = subst (λ (z : Result (Unit {0}) AppendErr). Appended rs facts s place z) (sym e) (record { tells = t; images = λ c i. (is_old c i).0; sound = λ c i. (is_old c i).1 })
+
+  pub leaves_old : LeavesOnly s s (IsJournalOf (old_or_new rs facts))
+  leaves_old = record { since = ([], refl, tt); here = is_old }

@@ -13,21 +13,21 @@ ghost use Rattle.fact_journal.specs.Calls.{length_with, is_past, old_or_new, App
 
 use crate::reading::read_facts;
 use aeg_base::limits::{JOURNAL_BYTES, RECORD_BYTES};
-use aeg_base::{Bytes, Memory, Tier};
+use aeg_base::{Bytes, Tier};
 use aeg_disk::Disk;
 use log_values::{Fact, Record};
 use node_journal::{AppendErr, Journal, OpenErr, open_on};
 use std::alloc::Global;
 use std::marker::Model;
+use std::mem;
 
-/// The room with which a record begins: that of a promise, the shortest fact and the most frequent one.
-const RECORD_ROOM: usize = 8;
-
-/// No bytes of a record yet.
-fn begun(alloc: Global) -> Result<Bytes, Memory>
-    ensures { IfOk result (λ body. body ≡ []) }
+/// The room, emptied, with none left in its place.
+fn emptied(alloc: Global, room: &mut Vec<u8>) -> Bytes
+    ensures { result ≡ [] }
 {
-    Ok(Bytes::of(Vec::with_capacity(alloc, RECORD_ROOM)?))
+    let mut bytes = mem::replace(room, Vec::new(alloc));
+    bytes.clear();
+    Bytes::of(bytes)
 }
 
 /// The journal of an opened disk, which contracts see as the place of the shut gate that ends it.
@@ -35,6 +35,8 @@ fn begun(alloc: Global) -> Result<Bytes, Memory>
 pub struct FactJournal {
     alloc: Global,
     journal: Journal,
+    // Room for a record, kept from call to call.
+    room: Vec<u8>,
 }
 
 impl Model for FactJournal {
@@ -43,6 +45,17 @@ impl Model for FactJournal {
     ghost Value = { ℕ };
 
     ghost view = { λ j. j.journal };
+}
+
+/// The journal of facts over a journal that was opened.
+fn over(alloc: Global, journal: Journal) -> FactJournal
+    ensures { result ≡ journal }
+{
+    FactJournal {
+        alloc,
+        journal,
+        room: Vec::new(alloc),
+    }
 }
 
 impl FactJournal {
@@ -90,9 +103,11 @@ impl FactJournal {
         if facts.facts().is_empty() {
             return Ok(());
         }
-        let mut body = begun(self.alloc)?;
+        let mut body = emptied(self.alloc, &mut self.room);
         facts.encode(&mut body)?;
-        self.journal.append(disk, &body)
+        let answer = self.journal.append(disk, &body);
+        self.room = body.into_vec();
+        answer
     }
 
     /// Opens the journal of a node of the tier on a disk that a crash may have left, and gives the facts of its records,
@@ -124,7 +139,7 @@ impl FactJournal {
     {
         match open_on(alloc, disk) {
             Ok((journal, bodies)) => match read_facts(alloc, tier, &bodies) {
-                Ok(facts) => Ok((FactJournal { alloc, journal }, facts)),
+                Ok(facts) => Ok((over(alloc, journal), facts)),
                 Err(e) => Err(e),
             },
             Err(e) => Err(e),

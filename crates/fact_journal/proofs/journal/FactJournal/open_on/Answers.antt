@@ -1,7 +1,7 @@
 use Rattle.std.proofs.Common.{◌≡◌, ◌≤◌, ◌^◌, rules, List, ℕ, inl, inr, Err, sym, ap, ◌∙◌, subst}
 use Rattle.node_journal.specs.Journal.{size_of}
 use Rattle.node_journal.specs.declared.opening.OpenErr.TheVariants.{BadRecord}
-use Rattle.fact_journal.specs.Calls.{IsMisfitAt}
+use Rattle.fact_journal.specs.Calls.{IsMisfitAt, ReadsOne}
 use Rattle.fact_journal.proofs.Opens.{read_fits, opened, reads_one, none_refused, not_refused}
 use Rattle.fact_journal.proofs.journal.FactJournal.open_on.Goals as goal
 
@@ -22,8 +22,9 @@ returns-in-Ok-read_facts-clause-one_list g c = λ lists s each.
     let old = g.D.Disk.state c.args.disk.now in
     let new = g.D.Disk.state c.open_on.new.disk in
     let facts = c.in-Ok-read_facts.facts.items in
+    subst (λ (at : ℕ). ReadsOne lists new facts at) (sym c.over.ensures) (
     reads_one c.args.tier lists old s each (g.met.D.Disk.lawful c.args.disk.now t) new facts c.in-Ok.journal
-    (opened c.args.tier old new c.deref.result.now facts c.in-Ok.journal (c.deref.ensures.value ∙ c.in-Ok.ensures.records t) (c.in-Ok.ensures.ready t) (c.in-Ok.ensures.size t ∙ ap size_of (sym c.deref.ensures.value)) c.in-Ok-read_facts.ensures.read)
+    (opened c.args.tier old new c.deref.result.now facts c.in-Ok.journal (c.deref.ensures.value ∙ c.in-Ok.ensures.records t) (c.in-Ok.ensures.ready t) (c.in-Ok.ensures.size t ∙ ap size_of (sym c.deref.ensures.value)) c.in-Ok-read_facts.ensures.read))
 
 pub returns-in-Err-read_facts-clause-none_refused : goal.returns-in-Err-read_facts-clause-none_refused
 returns-in-Err-read_facts-clause-none_refused g c = λ lists s each n is.
