@@ -37,6 +37,8 @@ use Rattle.tier_model.specs.BackRows as backs
 use Rattle.run_model.specs.BookingRuns.{booking_service}
 use Rattle.world.specs.Parts.{CanStand, CanWrite, AllStand, NodePart, MidView, BackView, as_mid, as_back, list_found, Reads, MayRead, MidRestarts, BackRestarts}
 use Rattle.world.specs.LogNodes.{LogView, mode_of, place_by, IsOwnLog, IsLogNode, IsSameNode, log_itself, mid_mode, mid_part}
+use Rattle.std.specs.declared.alloc.Global.{Global}
+use Rattle.std.specs.declared.boxed.Box.{Box}
 use Rattle.world.specs.declared.nodes.working.Working.{Working}
 use Rattle.world.proofs.Turning.{seen, down_here}
 use Rattle.world.proofs.Writing.{restored_stands}
@@ -80,7 +82,7 @@ reads_log u t lists old log doubt before after facts at place list (k, rs, e, f,
   h,
 )
 
-known_place : (o : Option Working) (gone : Bool) (known : ℕ) → mode_of o gone ≡ Down → known ≡ place_by o known
+known_place : (o : Option (Box Working Global)) (gone : Bool) (known : ℕ) → mode_of o gone ≡ Down → known ≡ place_by o known
 known_place (Some up) gone known e = absurd (cc)
 known_place None gone known e = refl
 
@@ -92,13 +94,13 @@ state_is : (u x : ℕ) (fresh log : NodeLog AnyValue) (logs : List (LogFact AnyV
 state_is u x fresh log logs facts f g h = g ∙ (ap (λ (z : NodeLog AnyValue). with_state z (recover z.faults (newest_first logs))) f ∙ ap (λ z. with_state (new_log u x) (recover u (newest_first z))) h)
 
 -- the node is at work with the restored log
-pub works_again : (u : ℕ) (me : NodeId) (known : ℕ) (doubt gone : Bool) (o : Option Working) (now : LogView) → seen u me known doubt gone o ≡ now → IsLogNode u me.tier me.index gone doubt o → now.part.mode ≡ Down
+pub works_again : (u : ℕ) (me : NodeId) (known : ℕ) (doubt gone : Bool) (o : Option (Box Working Global)) (now : LogView) → seen u me known doubt gone o ≡ now → IsLogNode u me.tier me.index gone doubt o → now.part.mode ≡ Down
     → (fresh log : NodeLog AnyValue) (logs : List (LogFact AnyValue)) (facts : List Fact) (at : ℕ) (a b : DiskState) (journal : ℕ) → fresh ≡ new_log u me.index → log ≡ with_state fresh (recover fresh.faults (newest_first logs)) → logs ≡ log_facts facts → ReadsAny me.tier a b facts at → MayRead now.tier a
-    → IsLogNode u me.tier me.index gone false (Some (record { log = log; journal = journal }))
-works_again u me known doubt gone o now v k down fresh log logs facts at a b journal f g h one may = record {
+    → (at_work : Box Working Global) → at_work.value ≡ record { log = log; journal = journal } → IsLogNode u me.tier me.index gone false (Some at_work)
+works_again u me known doubt gone o now v k down fresh log logs facts at a b journal f g h one may at_work e = record {
   few = k.few;
   node = k.node;
-  own = record { here = down_here o gone (ap (λ (z : LogView). z.part.mode) v ∙ down); sure = refl; log = subst (IsOwnLog u me.tier me.index) (sym (state_is u me.index fresh log logs facts f g h)) (record { faults = refl; me = refl; range = range }) };
+  own = record { here = down_here o gone (ap (λ (z : LogView). z.part.mode) v ∙ down); sure = refl; log = subst (λ (z : Working). IsOwnLog u me.tier me.index z.log) (sym e) (subst (IsOwnLog u me.tier me.index) (sym (state_is u me.index fresh log logs facts f g h)) (record { faults = refl; me = refl; range = range })) };
 }
   where
     all : AllStand me.tier may.0
@@ -107,7 +109,7 @@ works_again u me known doubt gone o now v k down fresh log logs facts at a b jou
     range : IsLogIn (CanStand me.tier) FitsBallot (recover u (newest_first (log_facts facts)))
     range = one_restored u me.tier may.0 a b facts at all (one may.0 may.1 all.fit)
 
-pub restart_reads : (u : ℕ) (me : NodeId) (known : ℕ) (doubt gone : Bool) (o : Option Working) (now : LogView) → seen u me known doubt gone o ≡ now → now.part.mode ≡ Down
+pub restart_reads : (u : ℕ) (me : NodeId) (known : ℕ) (doubt gone : Bool) (o : Option (Box Working Global)) (now : LogView) → seen u me known doubt gone o ≡ now → now.part.mode ≡ Down
     → (fresh log : NodeLog AnyValue) (logs : List (LogFact AnyValue)) (facts : List Fact) (a b : DiskState) (at place list : ℕ) → fresh ≡ new_log u me.index → log ≡ with_state fresh (recover fresh.faults (newest_first logs)) → logs ≡ log_facts facts → place ≡ at → list ≡ list_found doubt known place → ReadsAny me.tier a b facts at
     → (lists : List (List (List Fact))) → StandsFor lists a → AllStand now.tier lists → Reads now.tier log_itself open_at (λ fs. recover now.faults (log_facts fs)) now.part (record { mode = Up log.state; place = at; doubt = false }) a b lists (Ok list)
 restart_reads u me known doubt gone o now v down fresh log logs facts a b at place list f g h p q one lists stands all =

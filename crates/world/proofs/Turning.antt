@@ -2,6 +2,8 @@
 use Rattle.std.proofs.Common.{◌≡◌, ◌⊎◌, ℕ, ◌+◌, ◌-◌, ◌*◌, ◌^◌, ◌<◌, ◌≤◌, Bool, true, false, List, [], ◌∷◌, ◌++◌, length, take, min, map, zero, suc, refl, sym, ap, ◌∙◌, subst, inl, inr, arith, Option, Some, None, Result, Ok, Err}
 use Rattle.std.proofs.Math.Seq.{take-append_seam}
 use Rattle.std.specs.Prelude.{IfSome, OnOk}
+use Rattle.std.specs.declared.alloc.Global.{Global}
+use Rattle.std.specs.declared.boxed.Box.{Box}
 use Rattle.std.specs.List.{AllByRecursion}
 use Rattle.std.proofs.lemmas.Bool.{cond_both}
 use Rattle.std.proofs.lemmas.List.{length-map}
@@ -46,49 +48,49 @@ use Rattle.world.proofs.Sending.{are_fit, facts_fit, sends_fit, may_raise}
 use Rattle.world.proofs.Places.{all-both}
 
 -- what contracts see of a node with these fields
-abbrev pub seen : ℕ → NodeId → ℕ → Bool → Bool → Option Working → LogView
+abbrev pub seen : ℕ → NodeId → ℕ → Bool → Bool → Option (Box Working Global) → LogView
 seen u me known doubt gone o = record { faults = u; tier = me.tier; me = me.index; part = record { mode = mode_of o gone; place = place_by o known; doubt = doubt } }
 
 pub up_same : (s t : LogState AnyValue) → ◌≡◌ {A = Mode (LogState AnyValue)} (Up s) (Up t) → s ≡ t
 up_same s t e = cc
 
-pub small : (u : ℕ) (me : NodeId) (known : ℕ) (doubt gone : Bool) (o : Option Working) (now : LogView) → seen u me known doubt gone o ≡ now → IsLogNode u me.tier me.index gone doubt o → now.me ≤ 4
+pub small : (u : ℕ) (me : NodeId) (known : ℕ) (doubt gone : Bool) (o : Option (Box Working Global)) (now : LogView) → seen u me known doubt gone o ≡ now → IsLogNode u me.tier me.index gone doubt o → now.me ≤ 4
 small u me known doubt gone o now v k = subst (λ (z : LogView). z.me ≤ 4) v (omega (arith, k.few, k.node))
 
 -- THE LOG IS TAKEN
 
-at_work : (u : ℕ) (t : Tier) (x : ℕ) (gone doubt : Bool) (o : Option Working) (up : Working) → IsLogNode u t x gone doubt o → o ≡ Some up → IsAtWork u t x gone doubt up
-at_work u t x gone doubt o up k e = subst (λ (z : Option Working). IfSome z (IsAtWork u t x gone doubt)) e k.own
+at_work : (u : ℕ) (t : Tier) (x : ℕ) (gone doubt : Bool) (o : Option (Box Working Global)) (up : Box Working Global) → IsLogNode u t x gone doubt o → o ≡ Some up → IsAtWork u t x gone doubt up.value
+at_work u t x gone doubt o up k e = subst (λ (z : Option (Box Working Global)). IfSome z (λ w. IsAtWork u t x gone doubt w.value)) e k.own
 
-pub was_at_work : (u : ℕ) (me : NodeId) (known : ℕ) (doubt gone : Bool) (o : Option Working) (up : Working) (now : LogView) → seen u me known doubt gone o ≡ now → IsLogNode u me.tier me.index gone doubt o → o ≡ Some up → WasAtWork now up
+pub was_at_work : (u : ℕ) (me : NodeId) (known : ℕ) (doubt gone : Bool) (o : Option (Box Working Global)) (up : Box Working Global) (now : LogView) → seen u me known doubt gone o ≡ now → IsLogNode u me.tier me.index gone doubt o → o ≡ Some up → WasAtWork now up.value
 was_at_work u me known doubt gone o up now v k e =
     let own = at_work u me.tier me.index gone doubt o up k e in
-    subst (λ z. WasAtWork z up) v (subst (λ z. WasAtWork (seen u me known doubt gone z) up) (sym e) (record { few = k.few; node = k.node; mode = refl; place = refl; sure = own.sure; log = own.log }))
+    subst (λ z. WasAtWork z up.value) v (subst (λ z. WasAtWork (seen u me known doubt gone z) up.value) (sym e) (record { few = k.few; node = k.node; mode = refl; place = refl; sure = own.sure; log = own.log }))
 
-pub is_without : (u : ℕ) (me : NodeId) (known place : ℕ) (doubt gone : Bool) (o p : Option Working) (up : Working) (now : LogView) → seen u me known doubt gone o ≡ now → IsLogNode u me.tier me.index gone doubt o → o ≡ Some up → p ≡ None → place ≡ up.journal → seen u me place doubt gone p ≡ without_log now
+pub is_without : (u : ℕ) (me : NodeId) (known place : ℕ) (doubt gone : Bool) (o p : Option (Box Working Global)) (up : Box Working Global) (now : LogView) → seen u me known doubt gone o ≡ now → IsLogNode u me.tier me.index gone doubt o → o ≡ Some up → p ≡ None → place ≡ up.value.journal → seen u me place doubt gone p ≡ without_log now
 is_without u me known place doubt gone o p up now v k e f g =
     let own = at_work u me.tier me.index gone doubt o up k e in
     subst (λ (z : LogView). seen u me place doubt gone p ≡ without_log z) v (
     ap (λ z. seen u me place doubt gone z) f
     ∙ ap (λ z. record { faults = u; tier = me.tier; me = me.index; part = record { mode = mode_of None z; place = place; doubt = doubt } }) own.here
-    ∙ ap (λ z. record { faults = u; tier = me.tier; me = me.index; part = record { mode = Down; place = z; doubt = doubt } }) (g ∙ ap (λ (z : Option Working). place_by z known) (sym e))
+    ∙ ap (λ z. record { faults = u; tier = me.tier; me = me.index; part = record { mode = Down; place = z; doubt = doubt } }) (g ∙ ap (λ (z : Option (Box Working Global)). place_by z known) (sym e))
     )
 
-pub down_here : (o : Option Working) (gone : Bool) → mode_of o gone ≡ Down → gone ≡ false
+pub down_here : (o : Option (Box Working Global)) (gone : Bool) → mode_of o gone ≡ Down → gone ≡ false
 down_here (Some up) gone e = absurd (cc)
 down_here None true e = absurd (cc)
 down_here None false e = refl
 
 -- they are put back in their next state
-pub put_back : (u : ℕ) (me : NodeId) (known : ℕ) (doubt gone : Bool) (o : Option Working) (now : LogView) → seen u me known doubt gone o ≡ now → IsLogNode u me.tier me.index gone doubt o → now.part.mode ≡ Down → now.part.doubt ≡ false
-    → (up : Working) (journal : ℕ) → (up.log.faults ≡ now.faults) × (up.log.me ≡ now.me) → IsLogIn (CanStand now.tier) FitsBallot up.log.state → IsLogNode u me.tier me.index gone doubt (Some (record { log = up.log; journal = journal }))
-put_back u me known doubt gone o now v k down sure up journal own range = record {
+pub put_back : (u : ℕ) (me : NodeId) (known : ℕ) (doubt gone : Bool) (o : Option (Box Working Global)) (now : LogView) → seen u me known doubt gone o ≡ now → IsLogNode u me.tier me.index gone doubt o → now.part.mode ≡ Down → now.part.doubt ≡ false
+    → (up : Working) (journal : ℕ) → (up.log.faults ≡ now.faults) × (up.log.me ≡ now.me) → IsLogIn (CanStand now.tier) FitsBallot up.log.state → (at_work : Box Working Global) → at_work.value ≡ record { log = up.log; journal = journal } → IsLogNode u me.tier me.index gone doubt (Some at_work)
+put_back u me known doubt gone o now v k down sure up journal own range at_work e = record {
   few = k.few;
   node = k.node;
   own = record {
     here = down_here o gone (ap (λ (z : LogView). z.part.mode) v ∙ down);
     sure = ap (λ (z : LogView). z.part.doubt) v ∙ sure;
-    log = subst (λ (z : LogView). IsOwnLog z.faults z.tier z.me up.log) (sym v) (record { faults = own.0; me = own.1; range = range });
+    log = subst (λ (z : Working). IsOwnLog u me.tier me.index z.log) (sym e) (subst (λ (z : LogView). IsOwnLog z.faults z.tier z.me up.log) (sym v) (record { faults = own.0; me = own.1; range = range }));
   };
 }
 
@@ -105,6 +107,9 @@ pub record Told (at next : ℕ) (facts : List Fact) (a b : DiskState) (r : Resul
   pub stopped : a.stopped ≡ false → b.stopped ≡ true → (rs : List (List Fact)) → a.tells ≡ true → HasFacts rs a at → IsCut rs facts a b
   pub unmet : OnOk r (writes facts ≡ true → a.armed ≤ 4 → a.armed ≡ 0)
   pub cause : r ≡ Err appends.Disk → (b.stopped ≡ true) ⊎ Rose a.faults b.faults
+
+pub told_at : (up held : Working) (next : ℕ) (facts : List Fact) (a b : DiskState) (r : Result (Unit {0}) AppendErr) → up ≡ held → Told up.journal next facts a b r → Told held.journal next facts a b r
+told_at up held next facts a b r e k = subst (λ (w : Working). Told w.journal next facts a b r) e k
 
 -- the facts of the turn were handed to the journal of the node
 pub told_of : (at next place : ℕ) (facts : List Fact) (turn : LogTurn AnyValue) (a b : DiskState) (r s : Result (Unit {0}) AppendErr) → Told at next facts a b r → at ≡ place → facts ≡ map as_fact turn.facts → r ≡ s → Told place next (map as_fact turn.facts) a b s

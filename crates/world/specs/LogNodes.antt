@@ -1,6 +1,8 @@
 -- What a middle and a backend node share: a log in memory, in range, and its journal.
 use Rattle.std.specs.Prelude.{◌≡◌, ℕ, ◌+◌, ◌*◌, ◌<◌, ◌≤◌, Bool, true, false, List, ◌++◌, map, slice_get, Option, Some, None, IfSome}
 use Rattle.std.specs.declared.result.Result.{Result}
+use Rattle.std.specs.declared.boxed.Box.{Box}
+use Rattle.std.specs.declared.alloc.Global.{Global}
 use Rattle.aeg_base.specs.declared.limits.TheConstants.{MAX_FAULTS}
 use Rattle.aeg_base.specs.declared.names.End.{End}
 use Rattle.aeg_base.specs.declared.names.Tier.{Tier}
@@ -36,14 +38,14 @@ pub record LogView : Type 0 where
   pub part : NodePart (LogState AnyValue)
 
 -- up with this log in memory, or gone, or down
-abbrev pub mode_of : Option Working → Bool → Mode (LogState AnyValue)
-mode_of (Some up) gone = Up up.log.state
+abbrev pub mode_of : Option (Box Working Global) → Bool → Mode (LogState AnyValue)
+mode_of (Some up) gone = Up up.value.log.state
 mode_of None true = Gone
 mode_of None false = Down
 
 -- the place of the gate that ends the journal
-abbrev pub place_by : Option Working → ℕ → ℕ
-place_by (Some up) known = up.journal
+abbrev pub place_by : Option (Box Working Global) → ℕ → ℕ
+place_by (Some up) known = up.value.journal
 place_by None known = known
 
 -- this node's own log, in range
@@ -58,10 +60,10 @@ pub record IsAtWork (u : ℕ) (t : Tier) (x : ℕ) (gone doubt : Bool) (up : Wor
   pub sure : doubt ≡ false
   pub log : IsOwnLog u t x up.log
 
-pub record IsLogNode (u : ℕ) (t : Tier) (x : ℕ) (gone doubt : Bool) (up : Option Working) : Type 0 where
+pub record IsLogNode (u : ℕ) (t : Tier) (x : ℕ) (gone doubt : Bool) (up : Option (Box Working Global)) : Type 0 where
   pub few : u ≤ MAX_FAULTS
   pub node : x < 2 * u + 1
-  pub own : IfSome up (IsAtWork u t x gone doubt)
+  pub own : IfSome up (λ at_work. IsAtWork u t x gone doubt at_work.value)
 
 -- a node of which a call has taken log and journal, until they are put back
 abbrev pub without_log : LogView → LogView

@@ -21,7 +21,7 @@ ghost use Rattle.world.specs.LogNodes.{IsRanged, IsSameNode, MakesTurn, WasAtWor
 use super::condition::Condition;
 use super::restoring::{fault_of, leaves_doubt, list_found, log_facts, opening_fault};
 use super::telling::{answer_of, facts_of, send_all};
-use super::working::Working;
+use super::working::{Working, at_work};
 use aeg_base::limits::{MAX_FAULTS, POSITIONS};
 use aeg_base::{End, Memory, NodeId, Pos, Seq, Tier};
 use aeg_disk::Disk;
@@ -42,7 +42,7 @@ pub struct LogNode {
     known: u64,
     doubt: bool,
     gone: bool,
-    up: Option<Working>,
+    up: Option<Box<Working>>,
 }
 
 impl Model for LogNode {
@@ -103,9 +103,9 @@ impl LogNode {
 
     /// Takes the log and the journal of a node that is up.
     #[inline(always)]
-    fn take_up(&mut self) -> Working
+    fn take_up(&mut self) -> Box<Working>
         requires { is_up self.old.part ≡ true }
-        ensures taken { WasAtWork self.old result }
+        ensures taken { WasAtWork self.old result.value }
         ensures left { self.new ≡ without_log self.old }
     {
         let Some(up) = self.up.take() else {
@@ -254,20 +254,20 @@ impl LogNode {
     #[inline(always)]
     fn settle<D: Disk>(
         &mut self,
-        up: Working,
+        up: Box<Working>,
         turn: LogTurn<AnyValue>,
         disk: &mut D,
         out: &mut Outbox,
     ) -> Result<Turn, Fault>
         requires down { self.old.part.mode ≡ Down }
         requires sure { self.old.part.doubt ≡ false }
-        requires place { up.journal ≡ self.old.part.place }
-        requires own { (up.log.faults ≡ self.old.faults) × (up.log.me ≡ self.old.me) }
-        requires range { IsTurnIn self.old.faults (CanStand self.old.tier) FitsBallot (whole_turn up.log.state turn) }
+        requires place { up.value.journal ≡ self.old.part.place }
+        requires own { (up.value.log.faults ≡ self.old.faults) × (up.value.log.me ≡ self.old.me) }
+        requires range { IsTurnIn self.old.faults (CanStand self.old.tier) FitsBallot (whole_turn up.value.log.state turn) }
         requires short { length turn.facts ≤ 1 }
         requires disk { MayWrite self.old.part (D.state disk.old) }
-        ensures row { MakesTurn self.old self.new out.old out.new (whole_turn up.log.state turn) result }
-        ensures disk { WritesTurn self.old self.new (D.state disk.old) (D.state disk.new) (whole_turn up.log.state turn) result }
+        ensures row { MakesTurn self.old self.new out.old out.new (whole_turn up.value.log.state turn) result }
+        ensures disk { WritesTurn self.old self.new (D.state disk.old) (D.state disk.new) (whole_turn up.value.log.state turn) result }
         ensures later { Later (D.state disk.old) (D.state disk.new) }
         ensures same { IsSameNode self.old self.new }
     {
@@ -306,8 +306,8 @@ impl LogNode {
         let mut log = TierLog::new(self.alloc, self.faults, self.me.index);
         log.restore(&log_facts(self.alloc, facts)?)?;
         let found = list_found(self.doubt, self.known, journal.place());
+        self.up = Some(at_work(self.alloc, log, journal)?);
         self.doubt = false;
-        self.up = Some(Working { log, journal });
         Ok(found)
     }
 }
