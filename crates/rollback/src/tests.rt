@@ -15,7 +15,7 @@ use kv_store::Store;
 use log_values::{Token, Verdict};
 use std::alloc::Global;
 use std::test::Fail;
-use svc_api::{Ending, Service};
+use svc_api::{Ending, Outcome, Service};
 
 /// A client's request with its number.
 type Ask = (u8, u32, &'static str);
@@ -25,6 +25,12 @@ const OPENS: [Ask; 3] = [
     (2, 1, "open 2 5 10 3"),
     (3, 1, "open 3 1 10 0"),
 ];
+
+/// Two clients open one trip.
+const SAME_TRIP: [Ask; 2] = [(1, 1, "open 1 5 10 0"), (2, 1, "open 1 5 10 0")];
+
+/// A schedule with the first turns for the second segment.
+const SECOND_FIRST: [(u8, usize); 2] = [(1, 5), (0, 5)];
 
 /// Both want the one seat of the trip that theirs are linked to.
 const BOOKS: [Ask; 2] = [(1, 2, "book 1 1"), (2, 2, "book 2 1")];
@@ -105,6 +111,11 @@ fn linked<S: Service>(alloc: Global, svc: &S) -> Result<Store, Fail>
     Ok(store)
 }
 
+/// Whether the run took these steps, in this order, with so many runs again.
+fn is_run(ran: &Ran, steps: &[u8], order: &[u8], redo: u8) -> bool {
+    ran.steps.items() == steps && ran.order.items() == order && ran.redo == redo
+}
+
 fn text_of(ending: &Ending) -> &[u8] {
     match ending {
         Ending::Reply(text) => text.items(),
@@ -112,37 +123,65 @@ fn text_of(ending: &Ending) -> &[u8] {
     }
 }
 
+/// Whether the end of the segment with this number has this text.
+fn tells(outcome: &Outcome, number: usize, text: &str) -> bool {
+    match outcome.ends.items().get(number) {
+        Some(ending) => text_of(ending) == text.as_bytes(),
+        None => false,
+    }
+}
+
+fn are_same(a: &Store, b: &Store) -> Result<bool, Fail> {
+    Ok(a.pairs()? == b.pairs()?)
+}
+
 #[test]
 fn one_trip_is_opened_once(rt: HostRuntime) -> Result<(), Fail> {
     let svc = Booking::new(rt.alloc());
     let mut store = blank(rt.alloc());
-    let asks = [(1, 1, "open 1 5 10 0"), (2, 1, "open 1 5 10 0")];
-    let ran = run_asks(rt.alloc(), &svc, &asks, &[(1, 5), (0, 5)], &mut store)?;
-    assert_eq!(rt; ran.steps.items(), [0, 0, 0, 0, 0, 1, 1].as_slice());
-    assert_eq!(rt; ran.order.items(), [0, 1].as_slice());
-    assert_eq!(rt; ran.redo, 0);
-    let mut replies = ran.outcome.ends.items().iter();
-    assert_eq!(rt;
-        text_of(replies.next().ok_or("an end")?),
-        "opened 1".as_bytes()
-    );
-    assert_eq!(rt;
-        text_of(replies.next().ok_or("an end")?),
-        "refused 1 AlreadyOpen".as_bytes()
-    );
+    let ran = run_asks(rt.alloc(), &svc, &SAME_TRIP, &SECOND_FIRST, &mut store)?;
+    assert!(rt; is_run(&ran, &[0, 0, 0, 0, 0, 1, 1], &[0, 1], 0));
+    assert!(rt; tells(&ran.outcome, 0, "opened 1"));
+    assert!(rt; tells(&ran.outcome, 1, "refused 1 AlreadyOpen"));
     Ok(())
+}
+
+/// The steps of an executor with a given schedule.
+fn given_run<S: Service>(
+    alloc: Global,
+    svc: &S,
+    asks: &[Ask],
+    items: &[(u8, usize)],
+) -> Result<Ran, Fail>
+    requires { length asks.now ≤ 32 }
+{
+    let job = job_of_asks(alloc, svc, asks)?;
+    let mut exec = GivenExec::new(alloc, schedule(alloc, items)?);
+    let ran = exec.run(svc, &job, &mut blank(alloc))?;
+    Ok(ran)
 }
 
 #[test]
 fn an_executor_goes_by_its_schedule(rt: HostRuntime) -> Result<(), Fail> {
     let svc = Booking::new(rt.alloc());
-    let mut store = blank(rt.alloc());
-    let asks = [(1, 1, "open 1 5 10 0"), (2, 1, "open 1 5 10 0")];
-    let job = job_of_asks(rt.alloc(), &svc, &asks)?;
-    let mut exec = GivenExec::new(rt.alloc(), schedule(rt.alloc(), &[(1, 5), (0, 5)])?);
-    let ran = exec.run(&svc, &job, &mut store)?;
-    assert_eq!(rt; ran.steps.items(), [0, 0, 0, 0, 0, 1, 1].as_slice());
+    let ran = given_run(rt.alloc(), &svc, &SAME_TRIP, &SECOND_FIRST)?;
+    assert!(rt; is_run(&ran, &[0, 0, 0, 0, 0, 1, 1], &[0, 1], 0));
     Ok(())
+}
+
+/// Whether both bookings, run by a schedule, take these steps, in this order, with so many runs again.
+fn books_so<S: Service>(
+    alloc: Global,
+    svc: &S,
+    base: &Store,
+    row: (&[(u8, usize)], &[(u8, usize)], &[u8], u8),
+) -> Result<bool, Fail>
+    requires { AreNumbers base.now.map }
+{
+    let (by, steps, order, redo) = row;
+    let mut store = base.copy()?;
+    let ran = run_asks(alloc, svc, &BOOKS, by, &mut store)?;
+    Ok(is_run(&ran, &schedule(alloc, steps)?, order, redo))
 }
 
 #[test]
@@ -154,12 +193,8 @@ fn turns_decide_who_gets_the_seat(rt: HostRuntime) -> Result<(), Fail> {
         (&[(1, 13), (0, 7)], &[(1, 13), (0, 7)], &[1, 0], 0),
         (&[(0, 6), (1, 6)], &[(0, 6), (1, 5)], &[0, 1], 1),
     ];
-    for (by, steps, order, redo) in rows {
-        let mut store = base.copy()?;
-        let ran = run_asks(rt.alloc(), &svc, &BOOKS, by, &mut store)?;
-        assert_eq!(rt; ran.steps.items(), schedule(rt.alloc(), steps)?.as_slice());
-        assert_eq!(rt; ran.order.items(), order);
-        assert_eq!(rt; ran.redo, redo);
+    for row in rows {
+        assert!(rt; books_so(rt.alloc(), &svc, &base, row)?);
     }
     Ok(())
 }
@@ -218,18 +253,42 @@ fn committed(alloc: Global, token: Token) -> Result<Verdict, Fail>
     Ok(Verdict::Commit { token, order })
 }
 
+/// What is left where the second booking's run meets a verdict.
+fn other_settled<S: Service>(
+    alloc: Global,
+    svc: &S,
+    base: &Store,
+    verdict: &Verdict,
+) -> Result<(Store, Outcome), Fail>
+    requires numbers { AreNumbers base.now.map }
+    requires verdict { IsReadable verdict.now 2 }
+{
+    let mut here = base.copy()?;
+    let spec = other(alloc, svc, &mut here)?;
+    let outcome = spec.settle(svc, verdict, &mut here)?;
+    Ok((here, outcome))
+}
+
+#[test]
+fn turns_that_differ_leave_other_stores(rt: HostRuntime) -> Result<(), Fail> {
+    let svc = Booking::new(rt.alloc());
+    let base = linked(rt.alloc(), &svc)?;
+    let (there, _) = agreed(rt.alloc(), &svc, &base)?;
+    let mut here = base.copy()?;
+    other(rt.alloc(), &svc, &mut here)?;
+    assert!(rt; !are_same(&here, &there)?);
+    Ok(())
+}
+
 #[test]
 fn a_commit_replaces_another_run(rt: HostRuntime) -> Result<(), Fail> {
     let svc = Booking::new(rt.alloc());
     let base = linked(rt.alloc(), &svc)?;
     let (there, token) = agreed(rt.alloc(), &svc, &base)?;
-    let mut here = base.copy()?;
-    let spec = other(rt.alloc(), &svc, &mut here)?;
-    assert!(rt; here.pairs()? != there.pairs()?);
-    let outcome = spec.settle(&svc, &committed(rt.alloc(), token)?, &mut here)?;
-    assert_eq!(rt; here.pairs()?, there.pairs()?);
-    let second = outcome.ends.items().iter().nth(1).ok_or("an end")?;
-    assert_eq!(rt; text_of(second), "refused 5 LinkFull".as_bytes());
+    let verdict = committed(rt.alloc(), token)?;
+    let (here, outcome) = other_settled(rt.alloc(), &svc, &base, &verdict)?;
+    assert!(rt; are_same(&here, &there)?);
+    assert!(rt; tells(&outcome, 1, "refused 5 LinkFull"));
     Ok(())
 }
 
@@ -238,11 +297,26 @@ fn serial_replaces_another_run(rt: HostRuntime) -> Result<(), Fail> {
     let svc = Booking::new(rt.alloc());
     let base = linked(rt.alloc(), &svc)?;
     let (there, _) = agreed(rt.alloc(), &svc, &base)?;
-    let mut here = base.copy()?;
-    let spec = other(rt.alloc(), &svc, &mut here)?;
-    spec.settle(&svc, &Verdict::Serial, &mut here)?;
-    assert_eq!(rt; here.pairs()?, there.pairs()?);
+    let (here, _) = other_settled(rt.alloc(), &svc, &base, &Verdict::Serial)?;
+    assert!(rt; are_same(&here, &there)?);
     Ok(())
+}
+
+/// What is left where a run with one run again meets a verdict.
+fn same_settled<S: Service>(
+    alloc: Global,
+    svc: &S,
+    base: &Store,
+    verdict: &Verdict,
+) -> Result<Store, Fail>
+    requires numbers { AreNumbers base.now.map }
+    requires verdict { IsReadable verdict.now 2 }
+{
+    let mut here = base.copy()?;
+    let job = job_of_asks(alloc, svc, &BOOKS)?;
+    let spec = speculate(alloc, svc, job, &[(0, 6), (1, 6)], &mut here)?;
+    spec.settle(svc, verdict, &mut here)?;
+    Ok(here)
 }
 
 #[test]
@@ -250,12 +324,26 @@ fn a_run_with_the_agreed_token_is_kept(rt: HostRuntime) -> Result<(), Fail> {
     let svc = Booking::new(rt.alloc());
     let base = linked(rt.alloc(), &svc)?;
     let (there, token) = agreed(rt.alloc(), &svc, &base)?;
-    let mut here = base.copy()?;
-    let job = job_of_asks(rt.alloc(), &svc, &BOOKS)?;
-    let spec = speculate(rt.alloc(), &svc, job, &[(0, 6), (1, 6)], &mut here)?;
-    spec.settle(&svc, &committed(rt.alloc(), token)?, &mut here)?;
-    assert_eq!(rt; here.pairs()?, there.pairs()?);
+    let verdict = committed(rt.alloc(), token)?;
+    let here = same_settled(rt.alloc(), &svc, &base, &verdict)?;
+    assert!(rt; are_same(&here, &there)?);
     Ok(())
+}
+
+/// What a verdict leaves at a node that has not run the round.
+fn settled_cold<S: Service>(
+    alloc: Global,
+    svc: &S,
+    base: &Store,
+    verdict: &Verdict,
+) -> Result<Store, Fail>
+    requires numbers { AreNumbers base.now.map }
+    requires verdict { IsReadable verdict.now 2 }
+{
+    let mut store = base.copy()?;
+    let job = job_of_asks(alloc, svc, &BOOKS)?;
+    settle_cold(alloc, svc, &job, verdict, &mut store)?;
+    Ok(store)
 }
 
 #[test]
@@ -263,19 +351,11 @@ fn a_node_without_a_run_takes_the_verdict(rt: HostRuntime) -> Result<(), Fail> {
     let svc = Booking::new(rt.alloc());
     let base = linked(rt.alloc(), &svc)?;
     let (there, token) = agreed(rt.alloc(), &svc, &base)?;
-    let job = job_of_asks(rt.alloc(), &svc, &BOOKS)?;
-    let mut written = base.copy()?;
-    settle_cold(
-        rt.alloc(),
-        &svc,
-        &job,
-        &committed(rt.alloc(), token)?,
-        &mut written,
-    )?;
-    assert_eq!(rt; written.pairs()?, there.pairs()?);
-    let mut run = base.copy()?;
-    settle_cold(rt.alloc(), &svc, &job, &Verdict::Serial, &mut run)?;
-    assert_eq!(rt; run.pairs()?, there.pairs()?);
+    let verdict = committed(rt.alloc(), token)?;
+    let written = settled_cold(rt.alloc(), &svc, &base, &verdict)?;
+    assert!(rt; are_same(&written, &there)?);
+    let run = settled_cold(rt.alloc(), &svc, &base, &Verdict::Serial)?;
+    assert!(rt; are_same(&run, &there)?);
     Ok(())
 }
 
@@ -285,8 +365,8 @@ fn dropping_a_run_restores_the_start(rt: HostRuntime) -> Result<(), Fail> {
     let base = linked(rt.alloc(), &svc)?;
     let mut here = base.copy()?;
     let spec = other(rt.alloc(), &svc, &mut here)?;
-    assert!(rt; here.pairs()? != base.pairs()?);
+    assert!(rt; !are_same(&here, &base)?);
     spec.drop_all(&mut here);
-    assert_eq!(rt; here.pairs()?, base.pairs()?);
+    assert!(rt; are_same(&here, &base)?);
     Ok(())
 }
