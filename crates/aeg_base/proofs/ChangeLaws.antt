@@ -1,12 +1,12 @@
 -- The pairs in which two stores differ, written to the one, give the other.
-use Rattle.std.proofs.Common.{◌≡◌, ℕ, Bool, true, false, cond, List, [], ◌∷◌, refl, sym, ap, ◌∙◌, subst, inl, inr, Option, Some, None, unwrap_or}
+use Rattle.std.proofs.Common.{◌≡◌, ℕ, Bool, true, false, cond, T, List, [], ◌∷◌, refl, sym, ap, ◌∙◌, subst, inl, inr, Option, Some, None, unwrap_or}
 use Rattle.std.specs.Prelude.{◌⊎◌, ◌==◌, if◌then◌else◌}
 use Rattle.std.proofs.lemmas.Bool.{cond-true, cond-false, and_parts, and_from, eqb-true, eq-eqb}
 use Rattle.std.specs.List.{AllByRecursion}
 use Rattle.std.specs.Ordering.{eq_by_cmp, is_eq}
 use Rattle.std.specs.declared.cmp.Ordering.{Ordering}
 use Rattle.std.specs.declared.cmp.Ordering.TheVariants.{Less, Equal, Greater}
-use Rattle.std.specs.FinMap.Entries.{find, put, by_order, find-put}
+use Rattle.std.specs.FinMap.Entries.{find, put, by_order, is_sorted, find-put, is_sorted-put}
 use Rattle.aeg_base.specs.declared.names.Key.{Key}
 use Rattle.aeg_base.specs.Store.{Store, key_cmp, same_key, value_at, written, written_all, pairs_of}
 use Rattle.aeg_base.proofs.NumberLaws.{number_at-entries}
@@ -139,3 +139,16 @@ all_true s t =
 
 pub written-changes : (s t : Store) → written_all s (changes s t) ≡ t
 written-changes s t = same_store (written_all s (changes s t)) t (λ q. written-true t (changes s t) s q (all_true s t) (covered s t q))
+
+-- WHAT CHANGED IS IN ORDER
+
+pub sorted_among : (s t : Store) (es pairs : List (Key × ℕ)) → T (is_sorted key_cmp pairs) → T (is_sorted key_cmp (changed_among s t es pairs))
+sorted_among s t [] pairs h = h
+sorted_among s t (e ∷ es) pairs h = sorted_among s t es _ (at (value_at s e.0 == value_at t e.0))
+  where
+    at : (c : Bool) → T (is_sorted key_cmp (cond c pairs (put key_cmp e.0 (value_at t e.0) pairs)))
+    at true = h
+    at false = is_sorted-put key_cmp key_cmp_total e.0 (value_at t e.0) pairs h
+
+pub sorted_changes : (s t : Store) → T (is_sorted key_cmp (changes s t))
+sorted_changes s t = sorted_among s t (pairs_of t) _ (sorted_among s t (pairs_of s) [] tt)

@@ -4,3 +4,4 @@ pub mod Locks
 pub mod Numbers
 pub mod Store
 pub mod Changes
+pub mod Faults

@@ -1,5 +1,6 @@
 -- What a disk is to its callers, and what each call does to it.
-use Rattle.std.specs.Prelude.{◌≡◌, ◌≢◌, ◌⊎◌, ℕ, ◌+◌, ◌-◌, ◌≤◌, ◌^◌, min, max, List, [], ◌∷◌, ◌++◌, length, take, drop, Bool, true, false, cond, Result, Ok, Err}
+pub use Rattle.aeg_base.specs.Faults.{Rose}
+use Rattle.std.specs.Prelude.{◌≡◌, ◌≢◌, ◌⊎◌, ℕ, ◌+◌, ◌-◌, ◌≤◌, min, max, List, [], ◌∷◌, ◌++◌, length, take, drop, Bool, true, false, cond, Result, Ok, Err}
 use Rattle.std.specs.Prelude.{replicate}
 use Rattle.aeg_disk.specs.declared.disk.DiskErr.{DiskErr}
 use Rattle.aeg_disk.specs.declared.disk.DiskErr.TheVariants.{Failed, Memory}
@@ -48,10 +49,6 @@ Image s c = IsImage s.kept s.ranges c
 -- the bytes with others written over them; a gap before them is filled with 0
 abbrev pub written : ℕ → List ℕ → List ℕ → List ℕ
 written at bytes old = take at (old ++ replicate (at - length old) 0) ++ bytes ++ drop (at + length bytes) old
-
--- A count rises, or stays at its greatest value.
-abbrev pub Rose : ℕ → ℕ → Type 0
-Rose before now = min (before + 1) (2 ^ 64 - 1) ≤ now
 
 -- a write that was done
 pub record Put (at : ℕ) (piece : List ℕ) (a b : DiskState) : Type 0 where

@@ -1,10 +1,7 @@
 -- When a call may answer that it failed.
-use Rattle.std.specs.Prelude.{ℕ, ◌+◌, ◌-◌, ◌^◌, ◌≤◌, min, OnErr}
+pub use Rattle.aeg_base.specs.Faults.{Rose}
+use Rattle.std.specs.Prelude.{ℕ, ◌≤◌, OnErr}
 use Rattle.std.specs.declared.result.Result.{Result}
-
--- a count of faults rose; at the greatest number of 64 bits it stays, and standing there counts as a rise
-abbrev pub Rose : ℕ → ℕ → Type 0
-Rose before now = min (before + 1) (2 ^ 64 - 1) ≤ now
 
 -- the count never falls, and a call fails only where it rose
 pub record HasCause {T E : Type 0} (before now : ℕ) (result : Result T E) : Type 0 where

@@ -19,6 +19,7 @@ use Rattle.log_values.specs.Fields.{FitsBallot}
 use Rattle.log_values.proofs.BoolTests.{and_true, and_is}
 use Rattle.frames.specs.LogMessages.{is_carried, IsCarried}
 use Rattle.tier_model.specs.Moves.{as_fact, log_facts}
+use Rattle.tier_model.proofs.Facts.{log_facts-onto}
 use Rattle.paxos_log.specs.TierLog.{IsNext, AreInOrder, newest_first}
 use Rattle.fact_journal.specs.Fitting.{open_after_all, FactsFit, all_facts}
 
@@ -59,18 +60,11 @@ newest_is : (rs : List (List Fact)) (older : List Fact) → newest_onto rs older
 newest_is [] older = refl
 newest_is (r ∷ rs) older = newest_is rs (onto r older) ∙ sym (onto_then r (all_facts rs) older)
 
-log_onto : (fs older : List Fact) → log_facts (onto fs older) ≡ onto (log_facts fs) (log_facts older)
-log_onto [] older = refl
-log_onto (Promised b ∷ fs) older = log_onto fs (Promised b ∷ older)
-log_onto (Accepted p b v ∷ fs) older = log_onto fs (Accepted p b v ∷ older)
-log_onto (Learned p v ∷ fs) older = log_onto fs (Learned p v ∷ older)
-log_onto (Held t number code ∷ fs) older = log_onto fs (Held t number code ∷ older)
-
 pub newest_facts : (rs : List (List Fact)) → newest rs ≡ onto (all_facts rs) []
 newest_facts rs = newest_is rs []
 
 pub newest_log : (rs : List (List Fact)) → log_facts (newest rs) ≡ newest_first (log_facts (all_facts rs))
-newest_log rs = ap log_facts (newest_is rs []) ∙ log_onto (all_facts rs) []
+newest_log rs = ap log_facts (newest_is rs []) ∙ log_facts-onto (all_facts rs) []
 
 -- as many positions are learned as there are Learned facts
 count_onto : (fs : List Fact) (older : List (LogFact AnyValue)) → open_after_all (length (learned_in older)) fs ≡ length (learned_in (onto (log_facts fs) older))

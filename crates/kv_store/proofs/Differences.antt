@@ -2,13 +2,13 @@
 use Rattle.std.proofs.Common.{◌≡◌, ◌≢◌, ℕ, zero, suc, ◌==◌, Bool, true, false, cond, not, T, List, [], ◌∷◌, Option, Some, None, is_some, unwrap_or, if◌then◌else◌, refl, sym, ap, subst, ◌∙◌, arith}
 use Rattle.std.proofs.lemmas.Bool.Decides.{nat_tests}
 use Rattle.std.specs.Ordering.{eq_by_cmp, is_lt}
-use Rattle.std.specs.FinMap.Entries.{find, put, is_sorted, below_all, find-put, is_sorted-put, same_entries}
+use Rattle.std.specs.FinMap.Entries.{find, put, is_sorted, below_all, find-put, same_entries}
 use Rattle.aeg_base.specs.declared.names.Key.{Key}
 use Rattle.aeg_base.specs.Numbers.{no_zeros}
 use Rattle.aeg_base.specs.Store.{Store, key_cmp, same_key, value_at, empty, pairs_of}
 use Rattle.aeg_base.proofs.NumberLaws.{both, first, second, not_found_zero, number_at-entries}
 use Rattle.aeg_base.proofs.StoreLaws.{key_cmp_total, key_cmp-IsAntisymmetric, value_at-written, value_at-empty}
-use Rattle.aeg_base.proofs.ChangeLaws.{same_key_eq}
+use Rattle.aeg_base.proofs.ChangeLaws.{same_key_eq, sorted_changes}
 use Rattle.kv_store.specs.Stores.{unwound, touched}
 use Rattle.aeg_base.specs.Changes.{changed_among, changes}
 use Rattle.kv_store.specs.Changes.{picked}
@@ -70,17 +70,6 @@ find-changes s t q =
     ∙ ap (λ b. cond (is_some (find key_cmp q (pairs_of t))) (cond (value_at s q == value_at t q) (cond b (cond (value_at s q == value_at t q) None (Some (value_at t q))) None) (Some (value_at t q))) (cond b (cond (value_at s q == value_at t q) None (Some (value_at t q))) None)) (found_at s q)
     ∙ ap (λ b. cond b (cond (value_at s q == value_at t q) (cond (not (value_at s q == 0)) (cond (value_at s q == value_at t q) None (Some (value_at t q))) None) (Some (value_at t q))) (cond (not (value_at s q == 0)) (cond (value_at s q == value_at t q) None (Some (value_at t q))) None)) (found_at t q)
     ∙ either (value_at s q) (value_at t q) None
-
-sorted_among : (s t : Store) (es pairs : List (Key × ℕ)) → T (is_sorted key_cmp pairs) → T (is_sorted key_cmp (changed_among s t es pairs))
-sorted_among s t [] pairs h = h
-sorted_among s t (e ∷ es) pairs h = sorted_among s t es _ (at (value_at s e.0 == value_at t e.0))
-  where
-    at : (c : Bool) → T (is_sorted key_cmp (cond c pairs (put key_cmp e.0 (value_at t e.0) pairs)))
-    at true = h
-    at false = is_sorted-put key_cmp key_cmp_total e.0 (value_at t e.0) pairs h
-
-pub sorted_changes : (s t : Store) → T (is_sorted key_cmp (changes s t))
-sorted_changes s t = sorted_among s t (pairs_of t) _ (sorted_among s t (pairs_of s) [] tt)
 
 -- WHAT IS PICKED
 
@@ -146,7 +135,7 @@ same_answer false b s t h = let e : (t == b) ≡ (s == t) = grind (arith, nat_te
 pub picked_changes : (es : List (Key × ℕ)) (t : Store) → picked (unwound es empty) t (pairs_of (touched es empty)) ≡ changes (unwound es t) t
 picked_changes es t = same_entries key_cmp key_cmp_total key_cmp-IsAntisymmetric _ _
     (sorted_picked (unwound es empty) t (pairs_of (touched es empty)) (sorted (touched es empty)))
-    (sorted_among (unwound es t) t (pairs_of t) _ (sorted_among (unwound es t) t (pairs_of (unwound es t)) [] tt))
+    (sorted_changes (unwound es t) t)
     (λ q. find-picked (unwound es empty) t q (pairs_of (touched es empty))
     ∙ ap (λ b. cond b (cond (value_at t q == value_at (unwound es empty) q) None (Some (value_at t q))) None) (found_at (touched es empty) q)
     ∙ same_answer (value_at (touched es empty) q == 0) (value_at (unwound es empty) q) (value_at (unwound es t) q) (value_at t q) (kept_or_back es t q)

@@ -27,12 +27,21 @@ get_left [] ys k x e = absurd (cc)
 get_left (y ∷ xs) ys zero x e = e
 get_left (y ∷ xs) ys (suc k) x e = get_left xs ys k x e
 
+pub get_cases : {X : Type 0} (xs ys : List X) (i : ℕ) (a : X) → slice_get (xs ++ ys) i ≡ Some a → (slice_get xs i ≡ Some a) ⊎ ((j : ℕ) × (slice_get ys j ≡ Some a))
+get_cases [] ys i a e = inr (i, e)
+get_cases (x ∷ xs) ys zero a e = inl e
+get_cases (x ∷ xs) ys (suc i) a e = get_cases xs ys i a e
+
 pub get_within : {X : Type 0} (xs : List X) (k : ℕ) → k < length xs → (x : X) × (slice_get xs k ≡ Some x)
 get_within [] k l = absurd (omega arith)
 get_within (x ∷ xs) zero l = (x, refl)
 get_within (x ∷ xs) (suc k) l = get_within xs k (omega arith)
 
 -- one item more
+pub get_end : {X : Type 0} (xs : List X) (a : X) → slice_get (xs ++ a ∷ []) (length xs) ≡ Some a
+get_end [] a = refl
+get_end (x ∷ xs) a = get_end xs a
+
 pub get_push : {X : Type 0} (xs : List X) (y : X) (k : ℕ) (x : X) → slice_get (xs ++ y ∷ []) k ≡ Some x → (slice_get xs k ≡ Some x) ⊎ ((k ≡ length xs) × (y ≡ x))
 get_push [] y zero x e = inr (refl, cc)
 get_push [] y (suc k) x e = absurd (cc)

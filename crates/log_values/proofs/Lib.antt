@@ -11,3 +11,4 @@ pub mod CommitGrammar
 pub mod ValueGrammar
 pub mod RecordGrammar
 pub mod Leads
+pub mod Rising

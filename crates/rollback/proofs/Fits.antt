@@ -1,24 +1,22 @@
 -- The outcome of a run has a token.
-use Rattle.std.proofs.Common.{◌≡◌, ℕ, zero, suc, ◌≤◌, ◌==◌, Bool, true, false, cond, ◌&&◌, ◌||◌, T, List, [], ◌∷◌, length, map, Some, None, unwrap_or, refl, sym, ap, ◌∙◌, subst, length-append, arith}
-use Rattle.std.proofs.lemmas.Bool.{and_from}
+use Rattle.std.proofs.Common.{◌≡◌, ℕ, zero, suc, ◌≤◌, ◌==◌, Bool, true, false, cond, List, [], ◌∷◌, length, map, unwrap_or, refl, sym, ap, ◌∙◌, subst, length-append, arith}
 use Rattle.std.proofs.lemmas.List.{length-map}
-use Rattle.std.specs.Prelude.{nat_lt}
 use Rattle.std.specs.List.{All, AllByRecursion}
-use Rattle.std.specs.Ordering.{nat_cmp, ordering_then, is_lt}
 use Rattle.std.specs.declared.cmp.Ordering.{Ordering}
 use Rattle.std.specs.declared.cmp.Ordering.TheVariants.{Less, Equal, Greater}
-use Rattle.std.specs.FinMap.Entries.{put, by_order, below_all, is_sorted}
+use Rattle.std.specs.FinMap.Entries.{put, by_order}
 use Rattle.aeg_base.specs.declared.names.Key.{Key}
 use Rattle.aeg_base.specs.Store.{Store, key_cmp, value_at, empty, pairs_of}
 use Rattle.aeg_base.specs.Changes.{changes}
-use Rattle.aeg_base.proofs.NumberLaws.{first, second, entries-with_number}
+use Rattle.aeg_base.proofs.NumberLaws.{entries-with_number}
 use Rattle.aeg_base.proofs.StoreLaws.{key_cmp_total}
+use Rattle.aeg_base.proofs.ChangeLaws.{sorted_changes}
 use Rattle.svc_api.specs.Plan.{IsKey, IsEnding}
 use Rattle.svc_api.specs.declared.action.Ending.{Ending}
 use Rattle.kv_store.specs.Stores.{size, unwound, touched}
 use Rattle.kv_store.specs.Changes.{picked}
 use Rattle.kv_store.proofs.Sizes.{size-written}
-use Rattle.kv_store.proofs.Differences.{picked_changes, sorted_changes}
+use Rattle.kv_store.proofs.Differences.{picked_changes}
 use Rattle.exec_model.specs.declared.job.Seg.{Seg}
 use Rattle.exec_model.specs.declared.job.Job.{Job}
 use Rattle.exec_model.specs.Outcomes.{outcome}
@@ -29,7 +27,8 @@ use Rattle.exec_model.specs.Serial.{serial, serial_end}
 use Rattle.exec_model.specs.Jobs.{Beginnings, plan_at, said_nothing, below, run_job, serial_store, serial_ends}
 use Rattle.exec_core.specs.Jobs.{BeginsWell}
 use Rattle.exec_core.proofs.Orders.{length_order}
-use Rattle.log_values.specs.Outcomes.{is_key_below, rises, FitsPair, FitsOutcome}
+use Rattle.log_values.specs.Outcomes.{FitsPair, FitsOutcome}
+use Rattle.log_values.proofs.Rising.{rises_sorted}
 use Rattle.rollback.specs.Settled.{serial_outcome}
 use Rattle.rollback.specs.Runs.{AreNumbers, AreProper, WasRun}
 use Rattle.rollback.proofs.Bounded.{log_all, unwound-all, DoAll, do_all, bounded_at}
@@ -68,31 +67,6 @@ pairs_picked s t (e ∷ es) n h = at (value_at t e.0 == value_at s e.0) (pairs_p
     at : (c : Bool) → AllByRecursion FitsPair (picked s t es) → AllByRecursion FitsPair (cond c (picked s t es) ((e.0, value_at t e.0) ∷ picked s t es))
     at true r = r
     at false r = ((h.0, n e.0), r)
-
-order_is : (a b c d : ℕ) → is_lt (ordering_then (nat_cmp a b) (nat_cmp c d)) ≡ (nat_lt a b || ((a == b) && nat_lt c d))
-order_is a b c d = at (nat_lt a b) (a == b) (nat_lt c d) (c == d)
-  where
-    at : (x y z w : Bool) → is_lt (ordering_then (cond x Less (cond y Equal Greater)) (cond z Less (cond w Equal Greater))) ≡ (x || (y && z))
-    at true y z w = refl
-    at false true true w = refl
-    at false true false true = refl
-    at false true false false = refl
-    at false false z w = refl
-
-true_of : (b : Bool) → T b → b ≡ true
-true_of true h = refl
-true_of false h = absurd h
-
-rises_after : (last : Key) (es : List (Key × ℕ)) → T (below_all key_cmp last es) → T (is_sorted key_cmp es) → rises (Some last) es ≡ true
-rises_after last [] b s = refl
-rises_after last (e ∷ es) b s =
-    and_from (is_key_below last e.0) (rises (Some e.0) es)
-    (sym (order_is last.class e.0.class last.id e.0.id) ∙ true_of (is_lt (key_cmp last e.0)) (first (is_lt (key_cmp last e.0)) (below_all key_cmp last es) b))
-    (rises_after e.0 es (first (below_all key_cmp e.0 es) (is_sorted key_cmp es) s) (second (below_all key_cmp e.0 es) (is_sorted key_cmp es) s))
-
-rises_sorted : (es : List (Key × ℕ)) → T (is_sorted key_cmp es) → rises None es ≡ true
-rises_sorted [] s = refl
-rises_sorted (e ∷ es) s = rises_after e.0 es (first (below_all key_cmp e.0 es) (is_sorted key_cmp es) s) (second (below_all key_cmp e.0 es) (is_sorted key_cmp es) s)
 
 -- THE ENDS
 

@@ -10,3 +10,4 @@ mod ScriptExamples
 pub mod Sole
 pub mod Standing
 mod TextExamples
+pub mod Soups

@@ -1,6 +1,6 @@
 -- Items by index, and tiers.
 pub use Rattle.log_model.proofs.Step.{put_same as put_here}
-pub use Rattle.log_model.proofs.Basics.{get_left, get_within, get_push, length_push}
+pub use Rattle.log_model.proofs.Basics.{get_left, get_cases, get_within, get_end, get_push, length_push}
 pub use Rattle.server_model.proofs.Tiers.{tier_same, tier_eq}
 use Rattle.std.proofs.Common.{◌≡◌, ℕ, Bool, true, false, cond, List, [], ◌∷◌, ◌++◌, length, map, refl, sym, ap, subst, inl, inr, Option, Some, None, zero, suc, ◌<◌, arith}
 use Rattle.std.specs.Prelude.{slice_get, ◌⊎◌, replicate, take}
@@ -19,11 +19,6 @@ pub get_right : {A : Type 0} (xs ys : List A) (i : ℕ) (a : A) → slice_get ys
 get_right [] ys i a e = (i, e)
 get_right (x ∷ xs) ys i a e = let r = get_right xs ys i a e in (suc r.0, r.1)
 
-pub get_cases : {A : Type 0} (xs ys : List A) (i : ℕ) (a : A) → slice_get (xs ++ ys) i ≡ Some a → (slice_get xs i ≡ Some a) ⊎ ((j : ℕ) × (slice_get ys j ≡ Some a))
-get_cases [] ys i a e = inr (i, e)
-get_cases (x ∷ xs) ys zero a e = inl e
-get_cases (x ∷ xs) ys (suc i) a e = get_cases xs ys i a e
-
 pub joined : {A : Type 0} (G : A → Type 0) (xs ys : List A) → ((i : ℕ) (a : A) → slice_get xs i ≡ Some a → G a) → ((i : ℕ) (a : A) → slice_get ys i ≡ Some a → G a) → (i : ℕ) (a : A) → slice_get (xs ++ ys) i ≡ Some a → G a
 joined {A} G xs ys f g i a e = go (get_cases xs ys i a e)
   where
@@ -32,10 +27,6 @@ joined {A} G xs ys f g i a e = go (get_cases xs ys i a e)
     go (inr h) = g h.0 a h.1
 
 -- one item more
-pub get_end : {A : Type 0} (xs : List A) (a : A) → slice_get (xs ++ a ∷ []) (length xs) ≡ Some a
-get_end [] a = refl
-get_end (x ∷ xs) a = get_end xs a
-
 pub pushed : {A : Type 0} (G : A → Type 0) (xs : List A) (a : A) → ((i : ℕ) (b : A) → slice_get xs i ≡ Some b → G b) → G a → (i : ℕ) (b : A) → slice_get (xs ++ a ∷ []) i ≡ Some b → G b
 pushed {A} G xs a k g i b e = go (get_push xs a i b e)
   where

@@ -54,13 +54,6 @@ held_in-onto (Accepted p b v ∷ fs) F = held_in-onto fs (Accepted p b v ∷ F)
 held_in-onto (Learned p v ∷ fs) F = held_in-onto fs (Learned p v ∷ F)
 held_in-onto (Held t n code ∷ fs) F = held_in-onto fs (Held t n code ∷ F) ∙ append_assoc (held_in F) _ (helds fs)
 
-pub log_facts-onto : (fs F : List Fact) → log_facts (onto fs F) ≡ onto (log_facts fs) (log_facts F)
-log_facts-onto [] F = refl
-log_facts-onto (Promised b ∷ fs) F = log_facts-onto fs (Promised b ∷ F)
-log_facts-onto (Accepted p b v ∷ fs) F = log_facts-onto fs (Accepted p b v ∷ F)
-log_facts-onto (Learned p v ∷ fs) F = log_facts-onto fs (Learned p v ∷ F)
-log_facts-onto (Held t n code ∷ fs) F = log_facts-onto fs (Held t n code ∷ F)
-
 pub log_facts-map : (fs : List (LogFact AnyValue)) → log_facts (map as_fact fs) ≡ fs
 log_facts-map [] = refl
 log_facts-map (logs.Promised b ∷ fs) = ap (λ z. logs.Promised b ∷ z) (log_facts-map fs)

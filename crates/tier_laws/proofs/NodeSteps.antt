@@ -14,7 +14,8 @@ use Rattle.round_model.specs.Answers.{Code}
 use Rattle.run_model.specs.World.{crashed, found_at, is_well, moved, restarted, sent, up_as, up_from}
 use Rattle.run_model.specs.declared.trace.Found.{Found}
 use Rattle.run_model.specs.declared.trace.Found.TheVariants.{Reads, Fault as Fails}
-use Rattle.tier_laws.proofs.Moves.{held_in-onto, helds, log_facts-onto}
+use Rattle.tier_laws.proofs.Moves.{held_in-onto, helds}
+use Rattle.tier_model.proofs.Facts.{log_facts-onto}
 use Rattle.tier_laws.specs.Said.{StandsFor}
 use Rattle.tier_model.specs.Moves.{Move, Packet, held_in, log_facts}
 

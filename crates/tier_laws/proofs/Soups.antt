@@ -1,7 +1,6 @@
 -- The packets of the logs among all packets.
-use Rattle.std.proofs.Common.{◌≡◌, ℕ, Bool, false, List, [], ◌∷◌, ◌++◌, refl, sym, ap, ◌∙◌, zero, suc}
+use Rattle.std.proofs.Common.{◌≡◌, ℕ, Bool, false, List, [], ◌∷◌, ◌++◌, refl, ap, ◌∙◌, zero, suc}
 use Rattle.std.proofs.lemmas.Bool.{cond_both}
-use Rattle.std.proofs.lemmas.List.{append_assoc}
 use Rattle.aeg_base.specs.declared.names.Tier.{Tier}
 use Rattle.aeg_base.specs.declared.names.Tier.TheVariants.{Mid as MidTier, Inv, Pay}
 use Rattle.server_model.specs.Server.{same_tier}
@@ -11,7 +10,8 @@ use Rattle.log_model.proofs.Basics.{Every}
 use Rattle.log_values.specs.declared.any_value.AnyValue.{AnyValue}
 use Rattle.round_model.specs.Lists.{each}
 use Rattle.tier_model.specs.Moves.{Packet, log_packets}
-use Rattle.run_model.specs.Runs.{log_part, log_soup}
+use Rattle.run_model.specs.Runs.{log_soup}
+use Rattle.run_model.proofs.Soups.{log_soup-append}
 use Rattle.run_model.specs.World.{Config}
 use Rattle.tier_laws.proofs.Past.{Past, SentOk}
 
@@ -23,10 +23,6 @@ abbrev pub back_soup : Tier → List Packet → List (LogPacket AnyValue)
 back_soup MidTier ks = []
 back_soup Inv ks = log_soup Inv ks
 back_soup Pay ks = log_soup Pay ks
-
-pub log_soup-append : (t : Tier) (xs ys : List Packet) → log_soup t (xs ++ ys) ≡ log_soup t xs ++ log_soup t ys
-log_soup-append t [] ys = refl
-log_soup-append t (k ∷ xs) ys = ap (λ z. log_part t k.from k.to k.message ++ z) (log_soup-append t xs ys) ∙ sym (append_assoc (log_part t k.from k.to k.message) (log_soup t xs) (log_soup t ys))
 
 pub mid_soup-append : (xs ys : List Packet) → mid_soup (xs ++ ys) ≡ mid_soup xs ++ mid_soup ys
 mid_soup-append xs ys = log_soup-append MidTier xs ys

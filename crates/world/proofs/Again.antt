@@ -1,6 +1,5 @@
 -- The frames of a list of messages, where one that is the message before again is a copy of the packet before.
 use Rattle.std.proofs.Common.{◌≡◌, ℕ, ◌+◌, ◌-◌, ◌<◌, List, [], ◌∷◌, ◌++◌, map, take, length, refl, sym, ap, ◌∙◌, arith, append_assoc, Some, zero, suc}
-use Rattle.world.proofs.Lists.{last_at}
 use Rattle.std.specs.Prelude.{slice_get, IfOk}
 use Rattle.std.specs.declared.result.Result.{Result}
 use Rattle.std.specs.declared.result.Result.TheVariants.{Ok, Err}
@@ -15,6 +14,7 @@ use Rattle.frames.specs.Frames.{frame}
 use Rattle.tier_model.specs.Moves.{node, log_packet, log_packets}
 use Rattle.world.specs.Parts.{sealed}
 use Rattle.world.specs.LogNodes.{HasSent, IsFrameAt}
+use Rattle.log_model.proofs.Basics.{get_end}
 
 abbrev Send : Type 0
 Send = ℕ × PaxMsg AnyValue
@@ -31,7 +31,7 @@ sealed_last t x (r ∷ rs) s = ap (λ z. sealed (log_packet t x r) ∷ z) (seale
 last_is : {A : Type 0} (xs : List A) (y : A) → slice_get (xs ++ y ∷ []) (length (xs ++ y ∷ []) - 1) ≡ Some y
 last_is xs y =
     let size : length (xs ++ y ∷ []) - 1 ≡ length xs = omega (arith, length-append xs (y ∷ [])) in
-    ap (λ k. slice_get (xs ++ y ∷ []) k) size ∙ last_at xs y
+    ap (λ k. slice_get (xs ++ y ∷ []) k) size ∙ get_end xs y
 
 -- a frame of the message with this number
 pub written : {E : Type 0} (t : Tier) (x : ℕ) (sends : List Send) (i : ℕ) (s : Send) (r : Result (List ℕ) E) → slice_get sends i ≡ Some s → IfOk r (λ bytes. bytes ≡ frame (node t x) (Log s.1)) → IfOk r (λ bytes. IsFrameAt t x sends i bytes)

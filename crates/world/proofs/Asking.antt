@@ -1,7 +1,6 @@
 -- Clients that ask: what their requests make of the world.
 use Rattle.std.proofs.Common.{◌≡◌, ℕ, ◌+◌, ◌*◌, ◌<◌, ◌≤◌, Bool, true, false, cond, List, [], ◌∷◌, ◌++◌, length, refl, sym, ap, ◌∙◌, subst, inl, inr, append-nil, arith, get_or, Option, Some, None, Result, Ok, Err, zero, suc}
 use Rattle.std.proofs.lemmas.List.{map-append}
-use Rattle.world.proofs.Lists.{get_last}
 use Rattle.std.specs.Prelude.{slice_get, slice_set, map, option_map, nat_lt, nat_le, not, ◌&&◌, ◌⊎◌}
 use Rattle.std.proofs.lemmas.Bool.{cond-true, and_from, lt-ltb, le-leb}
 use Rattle.aeg_base.specs.declared.limits.TheConstants.{PACKETS}
@@ -40,11 +39,12 @@ use Rattle.world.proofs.Places.{request_short}
 use Rattle.world.proofs.Counted.{falls_none}
 use Rattle.world.proofs.Grown.{grown_disks}
 use Rattle.world.proofs.Events.{Leads, Ended, ends}
+use Rattle.log_model.proofs.Basics.{get_push}
 
 -- each of so many
 each_all : {A : Type 0} (P : A → Type 0) (n : ℕ) (f : ℕ → A) → ((x : ℕ) → x < n → P (f x)) → (i : ℕ) (a : A) → slice_get (each n nobody f) i ≡ Some a → P a
 each_all P zero f h i a e = absurd (cc)
-each_all {A} P (suc n) f h i a e = go (get_last (each n nobody f) (f n) i a e) (λ g. each_all P n f (λ x l. h x (omega arith)) i a g)
+each_all {A} P (suc n) f h i a e = go (get_push (each n nobody f) (f n) i a e) (λ g. each_all P n f (λ x l. h x (omega arith)) i a g)
   where
     go : (slice_get (each n nobody f) i ≡ Some a) ⊎ ((i ≡ length (each n nobody f)) × (f n ≡ a)) → (slice_get (each n nobody f) i ≡ Some a → P a) → P a
     go (inl g) rec = rec g

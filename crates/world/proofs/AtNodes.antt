@@ -1,6 +1,6 @@
 -- A call at a node of a list is one at the list.
 use Rattle.std.proofs.Common.{◌≡◌, ℕ, ◌<◌, true, List, [], ◌∷◌, length, refl, sym, ap, ◌∙◌, subst, Some, zero, suc, get_or}
-use Rattle.world.proofs.Lists.{passes}
+use Rattle.world.proofs.Passing.{passes}
 use Rattle.std.proofs.lemmas.Option.{slice_get_within, slice_get-get_or, get_or_from_slice_get}
 use Rattle.std.specs.Prelude.{slice_get, slice_set}
 use Rattle.std.specs.declared.result.Result.{Result}

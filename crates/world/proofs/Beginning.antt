@@ -1,6 +1,5 @@
 -- A run before its first event.
 use Rattle.std.proofs.Common.{◌≡◌, ℕ, ◌+◌, ◌*◌, ◌≤◌, List, [], ◌∷◌, refl, sym, ap, ◌∙◌, subst, inl, inr, length, arith, Some, None, zero, suc, length-append, add-one}
-use Rattle.world.proofs.Lists.{get_last}
 use Rattle.std.specs.Prelude.{slice_get, ◌⊎◌}
 use Rattle.aeg_base.specs.declared.names.Tier.{Tier}
 use Rattle.aeg_base.specs.declared.names.Tier.TheVariants as tiers
@@ -20,6 +19,7 @@ use Rattle.world.specs.NodeLists.{new_mid, new_back, AreNew}
 use Rattle.world.specs.Watching.{new_watch}
 use Rattle.world.specs.Standing.{open_of_mid, IsNode, IsMid, IsBack, IsClientEnd, AreAll, Shows}
 use Rattle.world.proofs.Wiping.{none_stand, blank_within}
+use Rattle.log_model.proofs.Basics.{get_push}
 
 each_size : {A : Type 0} (n : ℕ) (f : ℕ → A) → length (each n nobody f) ≡ n
 each_size zero f = refl
@@ -27,7 +27,7 @@ each_size (suc n) f = length-append (each n nobody f) (f n ∷ []) ∙ add-one (
 
 each_at : {A : Type 0} (n : ℕ) (f : ℕ → A) (i : ℕ) (a : A) → slice_get (each n nobody f) i ≡ Some a → a ≡ f i
 each_at zero f i a e = absurd (cc)
-each_at {A} (suc n) f i a e = go (get_last (each n nobody f) (f n) i a e) (λ g. each_at n f i a g)
+each_at {A} (suc n) f i a e = go (get_push (each n nobody f) (f n) i a e) (λ g. each_at n f i a g)
   where
     go : (slice_get (each n nobody f) i ≡ Some a) ⊎ ((i ≡ length (each n nobody f)) × (f n ≡ a)) → (slice_get (each n nobody f) i ≡ Some a → a ≡ f i) → a ≡ f i
     go (inl g) rec = rec g

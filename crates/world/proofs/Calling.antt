@@ -1,6 +1,6 @@
 -- A call at a node, as its steps make it; and what it asks.
 use Rattle.std.proofs.Common.{◌≡◌, ℕ, ◌+◌, ◌*◌, ◌<◌, ◌≤◌, Bool, true, false, List, [], ◌∷◌, refl, sym, ap, ◌∙◌, subst, length, arith, slice_index_or, Option, Some, zero, suc}
-use Rattle.world.proofs.Lists.{passes}
+use Rattle.world.proofs.Passing.{passes}
 use Rattle.std.proofs.lemmas.Option.{slice_get_within}
 use Rattle.std.specs.Prelude.{slice_get, slice_set, map}
 use Rattle.std.proofs.lemmas.List.{length-map, length-set}
@@ -30,7 +30,7 @@ use Rattle.world.specs.NodeLists.{mid_up, back_up, up_in, size_of, MidsMove, Bac
 use Rattle.world.specs.Standing.{IsNode, AreNodes}
 use Rattle.world.proofs.Moving.{up_has, armed_content}
 use Rattle.world.proofs.Doing.{up_state}
-use Rattle.world.proofs.Present.{some_get}
+use Rattle.log_model.proofs.Basics.{get_within}
 
 -- the disk was armed first, and then the power was put back
 pub called_by : (old between new : Nodes) (n : NodeId) (stop : Option StopAt) (disk armed called disk_after : DiskState) (before after : List (End × List ℕ)) (mid : MidView → Mid → Move Mid) (back : BackView → Back Amounts → Move (Back Amounts)) (answer : Result Answer Fault) (met : Bool)
@@ -78,9 +78,9 @@ may_write_at u depth w nodes tiers.Pay x disks disk stop few k d l e up = λ m f
 
 -- a disk for each node
 pub disk_of : (w : BookingWorld) (u x : ℕ) (t : Tier) (disks : List DiskState) → u ≤ 2 → AreDisks w disks → x < 2 * u + 1 → (disk : DiskState) × (slice_get disks (first_of t + x) ≡ Some disk)
-disk_of w u x tiers.Mid disks few d l = some_get disks (0 + x) (omega (arith, d.all, few, l))
-disk_of w u x tiers.Inv disks few d l = some_get disks (5 + x) (omega (arith, d.all, few, l))
-disk_of w u x tiers.Pay disks few d l = some_get disks (10 + x) (omega (arith, d.all, few, l))
+disk_of w u x tiers.Mid disks few d l = get_within disks (0 + x) (omega (arith, d.all, few, l))
+disk_of w u x tiers.Inv disks few d l = get_within disks (5 + x) (omega (arith, d.all, few, l))
+disk_of w u x tiers.Pay disks few d l = get_within disks (10 + x) (omega (arith, d.all, few, l))
 
 -- some disk
 pub a_disk : DiskState

@@ -14,7 +14,7 @@ use Rattle.run_model.specs.World.{start}
 use Rattle.run_model.specs.Resolving.{Becomes}
 use Rattle.run_model.specs.BookingRuns.{BookingWorld}
 use Rattle.world.specs.Disks.{RoseAt, HasCause, AllCaused, NoneFell}
-use Rattle.world.proofs.Present.{some_get}
+use Rattle.log_model.proofs.Basics.{get_within}
 
 -- what is read twice
 same_read : (o : Option DiskState) (a b : DiskState) → o ≡ Some a → o ≡ Some b → a ≡ b
@@ -37,7 +37,7 @@ pub falls_then : (before mid after : List DiskState) → NoneFell before mid →
 falls_then before mid after h k = (
   k.0 ∙ h.0,
   λ x a b e f.
-      let c = some_get mid x (omega (arith, h.0, slice_get_within before x a e)) in
+      let c = get_within mid x (omega (arith, h.0, slice_get_within before x a e)) in
       let l : a.faults ≤ c.0.faults = h.1 x a c.0 e c.1 in
       let m : c.0.faults ≤ b.faults = k.1 x c.0 b c.1 f in
       omega (arith, l, m),
@@ -54,12 +54,12 @@ rose_then a b c d l r m =
 
 later_rose : (before mid after : List DiskState) (x : ℕ) → NoneFell mid after → RoseAt before mid x → RoseAt before after x
 later_rose before mid after x k r =
-    let c = some_get after x (omega (arith, k.0, slice_get_within mid x r.1 r.3)) in
+    let c = get_within after x (omega (arith, k.0, slice_get_within mid x r.1 r.3)) in
     (r.0, c.0, r.2, c.1, rose_then r.0.faults r.0.faults r.1.faults c.0.faults (omega arith) r.4 (k.1 x r.1 c.0 r.3 c.1))
 
 sooner_rose : (before mid after : List DiskState) (x : ℕ) → NoneFell before mid → RoseAt mid after x → RoseAt before after x
 sooner_rose before mid after x k r =
-    let a = some_get before x (omega (arith, k.0, slice_get_within mid x r.0 r.2)) in
+    let a = get_within before x (omega (arith, k.0, slice_get_within mid x r.0 r.2)) in
     (a.0, r.1, a.1, r.3, rose_then a.0.faults r.0.faults r.1.faults r.1.faults (k.1 x a.0 r.0 a.1 r.2) r.4 (omega arith))
 
 -- CAUSES OF RESTARTS

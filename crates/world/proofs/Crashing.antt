@@ -29,7 +29,8 @@ use Rattle.world.proofs.Calling.{disk_of}
 use Rattle.world.proofs.Commands.{Commanded}
 use Rattle.world.proofs.AtNodes.{set_same}
 use Rattle.world.proofs.Placing.{mid_placed, back_placed, mid_kept, back_kept}
-use Rattle.world.proofs.Present.{some_get, node_up, node_condition}
+use Rattle.world.proofs.Present.{node_up, node_condition}
+use Rattle.log_model.proofs.Basics.{get_within}
 
 -- A NODE THAT IS UP
 
@@ -50,7 +51,7 @@ back_crash u depth w old new n disks t back few k d l c h =
     let x = n.index in
     let all = backs_all u depth w old t back k in
     let change = backs_change t old new x (λ S. goes_down {S = S}) back h in
-    let m = some_get (backs_of old t) x (omega (arith, all.size, l)) in
+    let m = get_within (backs_of old t) x (omega (arith, all.size, l)) in
     let b = disk_of w u x t disks few d l in
     let i = all.each x m.0 m.1 in
     let s = up_state m.0.part (sym (ap back_up m.1) ∙ sym (backs_up old t x back) ∙ c) in
@@ -63,8 +64,8 @@ pub crash_by : (u depth : ℕ) (w : BookingWorld) (old new : Nodes) (n : NodeId)
     → Commanded u depth w (worlds.crashes (config u depth) w t n.index) new disks [] (texts.by_mode w (λ S. texts.crash_text {S = S} (texts.node_name n)) t n.index) []
 crash_by u depth w old new n disks MidTier few k d l c h =
     let x = n.index in
-    let m = some_get old.mids.items x (omega (arith, k.mids.size, l)) in
-    let b = some_get disks (0 + x) (omega (arith, d.all, few, l)) in
+    let m = get_within old.mids.items x (omega (arith, k.mids.size, l)) in
+    let b = get_within disks (0 + x) (omega (arith, d.all, few, l)) in
     let i = k.mids.each x m.0 m.1 in
     let s = up_state m.0.part (sym (ap mid_up m.1) ∙ c) in
     let r = crashed_is MidTier (as_mid depth) open_of_mid (w.mids x) m.0.part b.0 s.0 i.part (d.mids x b.0 (omega (arith, few, l)) b.1) s.1 in

@@ -1,6 +1,6 @@
 -- A call at a node is the node's event in the world, on the node's disk.
 use Rattle.std.proofs.Common.{◌≡◌, ℕ, ◌+◌, ◌*◌, ◌<◌, Bool, true, false, List, [], ◌∷◌, refl, sym, ap, ◌∙◌, subst, inl, inr, arith, Option, Some, None, Result, zero, suc}
-use Rattle.world.proofs.Lists.{passes}
+use Rattle.world.proofs.Passing.{passes}
 use Rattle.std.specs.Prelude.{slice_get, slice_set, map, ◌==◌, ◌⊎◌}
 use Rattle.std.proofs.lemmas.Bool.{cond-true, cond-false, eq-eqb, ne_eqb}
 use Rattle.std.proofs.lemmas.List.{length-set}

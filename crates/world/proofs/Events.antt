@@ -1,5 +1,5 @@
 -- An event ends: its packets join all others, the logs go on, and the parts are again the world's.
-use Rattle.std.proofs.Common.{◌≡◌, ℕ, ◌≤◌, length, List, [], ◌∷◌, ◌++◌, sym, ap, ◌∙◌, subst, inl, inr, Some, zero, suc}
+use Rattle.std.proofs.Common.{◌≡◌, ℕ, ◌≤◌, length, List, [], ◌++◌, sym, ap, ◌∙◌, subst, inl, inr, Some}
 use Rattle.std.proofs.lemmas.List.{map-append}
 use Rattle.std.specs.Prelude.{slice_get, map, ◌⊎◌}
 use Rattle.aeg_base.specs.declared.limits.TheConstants.{PACKETS}
@@ -17,6 +17,7 @@ use Rattle.world.specs.Watching.{hears_packets, all_grown, seen_in}
 use Rattle.world.specs.Standing.{IsClientEnd, AreAll, AreNodes, Shows}
 use Rattle.world.proofs.Growing.{Carry, grown_is, growth_is_silent, watch_grows}
 use Rattle.world.proofs.Hearing.{heard_in, carries}
+use Rattle.log_model.proofs.Basics.{get_cases}
 
 -- What an event makes of a world before its packets let something be chosen: the nodes and clients, and the packets that
 -- it sends.
@@ -28,11 +29,6 @@ pub record Leads (u depth : ℕ) (w new : BookingWorld) (nodes : Nodes) (ks : Li
   pub hist : new.hist ≡ w.hist
   pub fit : AreFit ks
   pub reach : AllReach u ks
-
-get_cases : {A : Type 0} (xs ys : List A) (i : ℕ) (a : A) → slice_get (xs ++ ys) i ≡ Some a → (slice_get xs i ≡ Some a) ⊎ ((j : ℕ) × (slice_get ys j ≡ Some a))
-get_cases [] ys i a e = inr (i, e)
-get_cases (x ∷ xs) ys zero a e = inl e
-get_cases (x ∷ xs) ys (suc i) a e = get_cases xs ys i a e
 
 fit-append : (xs ys : List Packet) → AreFit xs → AreFit ys → AreFit (xs ++ ys)
 fit-append xs ys f g i k e = go (get_cases xs ys i k e)

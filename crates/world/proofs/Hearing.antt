@@ -7,6 +7,7 @@ use Rattle.aeg_base.specs.declared.names.Tier.TheVariants.{Mid, Inv, Pay}
 use Rattle.aeg_base.specs.declared.names.End.{End}
 use Rattle.aeg_base.specs.declared.names.End.TheVariants.{Node, Client}
 use Rattle.server_model.specs.Server.{same_tier}
+use Rattle.server_model.proofs.Tiers.{tier_eq}
 use Rattle.log_model.specs.declared.message.PaxMsg.{PaxMsg}
 use Rattle.log_model.specs.declared.message.PaxMsg.TheVariants.{Prepare, Promise, Accept, Accepted, Ask, Learn, Behind}
 use Rattle.log_model.specs.World.{Packet as LogPacket}
@@ -22,6 +23,7 @@ use Rattle.round_model.specs.Lists.{OfTiers}
 use Rattle.tier_model.specs.Moves.{index_of, Packet}
 use Rattle.run_model.specs.World.{Config, World}
 use Rattle.run_model.specs.Runs.{log_part, log_soup}
+use Rattle.run_model.proofs.Soups.{log_soup-append}
 use Rattle.world.specs.Parts.{CanStand, IsLogMessage, Reaches, AllReach, sealed, AreFit}
 use Rattle.world.specs.Tallies.{Seen, seen_of, hears}
 use Rattle.world.specs.Watching.{hears_log, hears_message, hears_found, hears_frame, hears_packets, seen_in}
@@ -31,12 +33,8 @@ use Rattle.world.proofs.Growing.{IsBatch, IsNothing, VotesAre, AllVotes, Carry}
 
 -- LISTS OF PACKETS
 
-log-append : (t : Tier) (xs ys : List Packet) → log_soup t (xs ++ ys) ≡ log_soup t xs ++ log_soup t ys
-log-append t [] ys = refl
-log-append t (k ∷ xs) ys = ap (λ z. log_part t k.from k.to k.message ++ z) (log-append t xs ys) ∙ sym (append_assoc (log_part t k.from k.to k.message) (log_soup t xs) (log_soup t ys))
-
 log-last : (t : Tier) (xs : List Packet) (k : Packet) → log_soup t (xs ++ k ∷ []) ≡ log_soup t xs ++ log_part t k.from k.to k.message
-log-last t xs k = log-append t xs (k ∷ []) ∙ ap (λ z. log_soup t xs ++ z) (append-nil (log_part t k.from k.to k.message))
+log-last t xs k = log_soup-append t xs (k ∷ []) ∙ ap (λ z. log_soup t xs ++ z) (append-nil (log_part t k.from k.to k.message))
 
 -- WHAT IS HEARD
 
@@ -111,17 +109,6 @@ heard_in c old new ks f s l m =
 
 -- WHAT THE LOGS CARRY
 
-tier_is : (s t : Tier) → same_tier s t ≡ true → s ≡ t
-tier_is Mid Mid e = refl
-tier_is Inv Inv e = refl
-tier_is Pay Pay e = refl
-tier_is Mid Inv e = absurd (cc)
-tier_is Mid Pay e = absurd (cc)
-tier_is Inv Mid e = absurd (cc)
-tier_is Inv Pay e = absurd (cc)
-tier_is Pay Mid e = absurd (cc)
-tier_is Pay Inv e = absurd (cc)
-
 abbrev Carried : Tier → AnyValue → Type 0
 Carried Mid v = IsBatch v
 Carried Inv v = IsNothing v
@@ -152,7 +139,7 @@ node_rides : (u : ℕ) (t v s : Tier) (x to : ℕ) (m : PaxMsg AnyValue) → (sa
 node_rides u t v s x to m f k false e = tt
 node_rides u t v s x to m f k true e =
     let r = and_parts (same_tier s v) (nat_lt x (2 * u + 1)) f in
-    let same : v ≡ t = sym (tier_is s v r.0) ∙ tier_is s t e in
+    let same : v ≡ t = sym (tier_eq s v r.0) ∙ tier_eq s t e in
     (record { from = ltb-true x (2 * u + 1) r.1; votes = message_is t m (subst (λ z. IsLogMessage z m) same k) }, tt)
 
 log_rides : (u : ℕ) (t : Tier) (from to : End) (m : PaxMsg AnyValue) → Reaches u from to (msgs.Log m) → Every (Rides u t) (log_part t from to (msgs.Log m))

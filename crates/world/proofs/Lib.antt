@@ -1,4 +1,4 @@
-pub mod Lists
+pub mod Passing
 pub mod Senders
 pub mod Counts
 pub mod Seeing

@@ -23,7 +23,7 @@ use Rattle.world.proofs.Calling.{disk_of}
 use Rattle.world.proofs.Doing.{set_one}
 use Rattle.world.proofs.Commands.{Commanded, mid_put, back_put, mid_disk_put, back_disk_put}
 use Rattle.world.proofs.AtNodes.{set_same}
-use Rattle.world.proofs.Present.{some_get}
+use Rattle.log_model.proofs.Basics.{get_within}
 
 -- A NODE IN ITS PLACE
 
@@ -42,8 +42,8 @@ mid_placed u depth w old new x disks disk node v text told few l k d is on s e t
 pub mid_kept : (u depth : ℕ) (w : BookingWorld) (old : Nodes) (x : ℕ) (disks : List DiskState) (node : NodeOf Mid Fact) (text told : List ℕ) → u ≤ 2 → x < 2 * u + 1 → AreNodes u depth w old → AreDisks w disks → node ≡ w.mids x → text ≡ told
     → Commanded u depth w (worlds.mid_node (config u depth) w x node) old disks [] text told
 mid_kept u depth w old x disks node text told few l k d e t =
-    let v = some_get old.mids.items x (omega (arith, k.mids.size, l)) in
-    let b = some_get disks (0 + x) (omega (arith, d.all, few, l)) in
+    let v = get_within old.mids.items x (omega (arith, k.mids.size, l)) in
+    let b = get_within disks (0 + x) (omega (arith, d.all, few, l)) in
     let r = mid_placed u depth w old old x disks b.0 node v.0 text told few l k d (subst (λ z. IsMid u depth x z v.0) (sym e) (k.mids.each x v.0 v.1)) (subst (λ z. IsDiskOf z b.0) (sym e) (d.mids x b.0 (omega (arith, few, l)) b.1)) (set_same old.mids.items x v.0 v.1) (refl, refl) t in
     subst (λ z. Commanded u depth w (worlds.mid_node (config u depth) w x node) old z [] text told) (sym (set_same disks (first_of MidTier + x) b.0 b.1)) r
 
@@ -63,7 +63,7 @@ pub back_kept : (u depth : ℕ) (w : BookingWorld) (old : Nodes) (t : Tier) (x :
     → Commanded u depth w (worlds.back_node (config u depth) w t x node) old disks [] text told
 back_kept u depth w old t x disks node text told r few l k d e f =
     let all = backs_all u depth w old t r k in
-    let v = some_get (backs_of old t) x (omega (arith, all.size, l)) in
+    let v = get_within (backs_of old t) x (omega (arith, all.size, l)) in
     let b = disk_of w u x t disks few d l in
     let placed = back_placed u depth w old old t x disks b.0 node v.0 text told r few l k d (subst (λ z. IsBack u t x z v.0) (sym e) (all.each x v.0 v.1)) (subst (λ z. IsDiskOf z b.0) (sym e) (backs_disks w disks t r d x b.0 (omega (arith, few, l)) b.1)) (set_same (backs_of old t) x v.0 v.1) (keeps_refl t old) f in
     subst (λ z. Commanded u depth w (worlds.back_node (config u depth) w t x node) old z [] text told) (sym (set_same disks (first_of t + x) b.0 b.1)) placed

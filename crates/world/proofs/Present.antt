@@ -1,6 +1,5 @@
 -- Which nodes are there, in the parts as in the world.
-use Rattle.std.proofs.Common.{◌≡◌, ℕ, ◌+◌, ◌*◌, ◌<◌, List, [], ◌∷◌, refl, sym, ap, ◌∙◌, length, arith, Some, zero, suc}
-use Rattle.std.specs.Prelude.{slice_get}
+use Rattle.std.proofs.Common.{◌≡◌, ℕ, ◌+◌, ◌*◌, ◌<◌, refl, sym, ap, ◌∙◌, arith}
 use Rattle.svc_api.specs.Plan.{IsBackend}
 use Rattle.aeg_base.specs.declared.names.Tier.{Tier}
 use Rattle.aeg_base.specs.declared.names.Tier.TheVariants.{Mid as MidTier, Inv, Pay}
@@ -15,11 +14,7 @@ use Rattle.world.specs.declared.nodes.condition.Condition.{Condition}
 use Rattle.world.specs.NodeLists.{mid_up, back_up, up_in, condition_in, mid_condition, back_condition, condition_at, size_of}
 use Rattle.world.specs.Parts.{NodePart, is_up, is_up_in}
 use Rattle.world.specs.Standing.{mode_by, IsNode, AreNodes}
-
-pub some_get : {A : Type 0} (xs : List A) (x : ℕ) → x < length xs → (a : A) × (slice_get xs x ≡ Some a)
-some_get [] x l = absurd (omega arith)
-some_get (a ∷ xs) zero l = (a, refl)
-some_get (a ∷ xs) (suc x) l = some_get xs x (omega arith)
+use Rattle.log_model.proofs.Basics.{get_within}
 
 mode_up : {S T : Type 0} (whole : S → T) (m : Mode S) → is_up_in m ≡ resolving.is_up (mode_by whole m)
 mode_up whole (Up s) = refl
@@ -31,13 +26,13 @@ part_up t whole open_of node part k = mode_up whole part.mode ∙ ap resolving.i
 
 pub node_up : (u depth : ℕ) (w : BookingWorld) (nodes : Nodes) (t : Tier) (x : ℕ) → AreNodes u depth w nodes → x < 2 * u + 1 → up_in nodes t x ≡ is_node_up w t x
 node_up u depth w nodes MidTier x k l =
-    let m = some_get nodes.mids.items x (omega (arith, k.mids.size, l)) in
+    let m = get_within nodes.mids.items x (omega (arith, k.mids.size, l)) in
     ap mid_up m.1 ∙ part_up _ _ _ (w.mids x) m.0.part (k.mids.each x m.0 m.1).part
 node_up u depth w nodes Inv x k l =
-    let b = some_get nodes.invs.items x (omega (arith, k.invs.size, l)) in
+    let b = get_within nodes.invs.items x (omega (arith, k.invs.size, l)) in
     ap back_up b.1 ∙ part_up _ _ _ (w.backs Inv x) b.0.part (k.invs.each x b.0 b.1).part
 node_up u depth w nodes Pay x k l =
-    let b = some_get nodes.pays.items x (omega (arith, k.pays.size, l)) in
+    let b = get_within nodes.pays.items x (omega (arith, k.pays.size, l)) in
     ap back_up b.1 ∙ part_up _ _ _ (w.backs Pay x) b.0.part (k.pays.each x b.0 b.1).part
 
 -- the condition of a node of the world
@@ -56,13 +51,13 @@ part_condition t whole open_of node part k = mode_condition whole part.mode ∙ 
 
 pub node_condition : (u depth : ℕ) (w : BookingWorld) (nodes : Nodes) (t : Tier) (x : ℕ) → AreNodes u depth w nodes → x < 2 * u + 1 → condition_at nodes t x ≡ condition_of w t x
 node_condition u depth w nodes MidTier x k l =
-    let m = some_get nodes.mids.items x (omega (arith, k.mids.size, l)) in
+    let m = get_within nodes.mids.items x (omega (arith, k.mids.size, l)) in
     ap mid_condition m.1 ∙ part_condition _ _ _ (w.mids x) m.0.part (k.mids.each x m.0 m.1).part
 node_condition u depth w nodes Inv x k l =
-    let b = some_get nodes.invs.items x (omega (arith, k.invs.size, l)) in
+    let b = get_within nodes.invs.items x (omega (arith, k.invs.size, l)) in
     ap back_condition b.1 ∙ part_condition _ _ _ (w.backs Inv x) b.0.part (k.invs.each x b.0 b.1).part
 node_condition u depth w nodes Pay x k l =
-    let b = some_get nodes.pays.items x (omega (arith, k.pays.size, l)) in
+    let b = get_within nodes.pays.items x (omega (arith, k.pays.size, l)) in
     ap back_condition b.1 ∙ part_condition _ _ _ (w.backs Pay x) b.0.part (k.pays.each x b.0 b.1).part
 
 pub back_condition_is : (w : BookingWorld) (t : Tier) (x : ℕ) → IsBackend t → condition_of w t x ≡ condition_in (w.backs t x).mode

@@ -42,7 +42,8 @@ use Rattle.world.proofs.Moving.{journal-last, size_is, rest_content, stand_alone
 use Rattle.world.proofs.Backends.{backs_all, backs_disks, backs_condition, backs_restart}
 use Rattle.world.proofs.Commands.{Commanded}
 use Rattle.world.proofs.Placing.{mid_placed, back_placed, mid_kept, back_kept}
-use Rattle.world.proofs.Present.{some_get, node_condition}
+use Rattle.world.proofs.Present.{node_condition}
+use Rattle.log_model.proofs.Basics.{get_within}
 
 -- ONE OF THE LISTS
 
@@ -184,12 +185,12 @@ rest_stands node disk d = same_stands (node.records ∷ node.others) disk (at_re
 back_reads : (u depth : ℕ) (w : BookingWorld) (nodes : Nodes) (t : Tier) (x : ℕ) (disks : List DiskState) (disk : DiskState) → IsBackend t → u ≤ 2 → AreNodes u depth w nodes → AreDisks w disks → x < 2 * u + 1 → slice_get disks (first_of t + x) ≡ Some disk → MayRead t (at_rest disk)
 back_reads u depth w nodes t x disks disk r few k d l e =
     let all = backs_all u depth w nodes t r k in
-    let m = some_get (backs_of nodes t) x (omega (arith, all.size, l)) in
+    let m = get_within (backs_of nodes t) x (omega (arith, all.size, l)) in
     ((w.backs t x).records ∷ (w.backs t x).others, rest_stands (w.backs t x) disk (backs_disks w disks t r d x disk (omega (arith, few, l)) e), (all.each x m.0 m.1).part.stand)
 
 pub may_read : (u depth : ℕ) (w : BookingWorld) (nodes : Nodes) (t : Tier) (x : ℕ) (disks : List DiskState) (disk : DiskState) → u ≤ 2 → AreNodes u depth w nodes → AreDisks w disks → x < 2 * u + 1 → slice_get disks (first_of t + x) ≡ Some disk → MayRead t (at_rest disk)
 may_read u depth w nodes MidTier x disks disk few k d l e =
-    let m = some_get nodes.mids.items x (omega (arith, k.mids.size, l)) in
+    let m = get_within nodes.mids.items x (omega (arith, k.mids.size, l)) in
     ((w.mids x).records ∷ (w.mids x).others, rest_stands (w.mids x) disk (d.mids x disk (omega (arith, few, l)) e), (k.mids.each x m.0 m.1).part.stand)
 may_read u depth w nodes Inv x disks disk few k d l e = back_reads u depth w nodes Inv x disks disk tt few k d l e
 may_read u depth w nodes Pay x disks disk few k d l e = back_reads u depth w nodes Pay x disks disk tt few k d l e
@@ -204,13 +205,13 @@ down_by Gone e = absurd (cc)
 
 pub is_down_there : (u depth : ℕ) (w : BookingWorld) (nodes : Nodes) (t : Tier) (x : ℕ) → AreNodes u depth w nodes → x < 2 * u + 1 → condition_at nodes t x ≡ conditions.Down → down_in nodes t x ≡ true
 is_down_there u depth w nodes MidTier x k l e =
-    let m = some_get nodes.mids.items x (omega (arith, k.mids.size, l)) in
+    let m = get_within nodes.mids.items x (omega (arith, k.mids.size, l)) in
     ap mid_down m.1 ∙ down_by m.0.part.mode (sym (ap mid_condition m.1) ∙ e)
 is_down_there u depth w nodes Inv x k l e =
-    let m = some_get nodes.invs.items x (omega (arith, k.invs.size, l)) in
+    let m = get_within nodes.invs.items x (omega (arith, k.invs.size, l)) in
     ap back_down m.1 ∙ down_by m.0.part.mode (sym (ap back_condition m.1) ∙ e)
 is_down_there u depth w nodes Pay x k l e =
-    let m = some_get nodes.pays.items x (omega (arith, k.pays.size, l)) in
+    let m = get_within nodes.pays.items x (omega (arith, k.pays.size, l)) in
     ap back_down m.1 ∙ down_by m.0.part.mode (sym (ap back_condition m.1) ∙ e)
 
 -- THE NODE'S EVENT
@@ -220,7 +221,7 @@ back_restart : (u depth : ℕ) (w : BookingWorld) (old new : Nodes) (n : NodeId)
 back_restart u depth w old new n disks disk disk_after result t back few k d l b c memory move =
     let x = n.index in
     let all = backs_all u depth w old t back k in
-    let m = some_get (backs_of old t) x (omega (arith, all.size, l)) in
+    let m = get_within (backs_of old t) x (omega (arith, all.size, l)) in
     let i = all.each x m.0 m.1 in
     let moves = backs_restart t old new x (at_rest disk) disk_after result back move in
     let v = moves.0 m.0 m.1 in
@@ -241,7 +242,7 @@ pub restart_by : (u depth : ℕ) (w : BookingWorld) (old new : Nodes) (n : NodeI
     → Commanded u depth w (worlds.restarts (config u depth) w (found_of result) t n.index) new (slice_set disks (first_of t + n.index) disk_after) [] (texts.by_mode w (λ S. texts.restart_text {S = S} (texts.node_name n) (found_of result)) t n.index) (told_restart n result) × IsAmong (others_at w t n.index) (found_of result) × (is_failing (found_of result) ≡ true → Rose disk.faults disk_after.faults) × (disk.faults ≤ disk_after.faults)
 restart_by u depth w old new n disks disk disk_after result MidTier few k d l b c memory move =
     let x = n.index in
-    let m = some_get old.mids.items x (omega (arith, k.mids.size, l)) in
+    let m = get_within old.mids.items x (omega (arith, k.mids.size, l)) in
     let i = k.mids.each x m.0 m.1 in
     let v = move.0 m.0 m.1 in
     let h : MidRestarts (record { faults = u; depth = depth; me = x; part = m.0.part }) v.0 (at_rest disk) disk_after result = subst (λ z. MidRestarts z v.0 (at_rest disk) disk_after result) (λ j. record { faults = i.faults j; depth = i.deep j; me = i.me j; part = m.0.part }) v.2 in

@@ -1,6 +1,6 @@
 -- What an event sends has room where it may begin.
 use Rattle.std.proofs.Common.{◌≡◌, ℕ, ◌+◌, ◌*◌, ◌≤◌, true, List, [], ◌++◌, length, map, refl, ap, ◌∙◌, subst, arith, Result, Ok, Err}
-use Rattle.world.proofs.Lists.{passes}
+use Rattle.world.proofs.Passing.{passes}
 use Rattle.world.proofs.Doing.{up_state}
 use Rattle.std.specs.Prelude.{slice_get, OnOk}
 use Rattle.std.proofs.lemmas.List.{length-map}

@@ -25,7 +25,8 @@ use Rattle.world.proofs.Moving.{sure_alone, stand_alone}
 use Rattle.world.proofs.Backends.{backs_all, backs_disks, backs_condition, backs_change}
 use Rattle.world.proofs.Commands.{Commanded}
 use Rattle.world.proofs.Placing.{mid_placed, back_placed, mid_kept, back_kept}
-use Rattle.world.proofs.Present.{some_get, node_condition}
+use Rattle.world.proofs.Present.{node_condition}
+use Rattle.log_model.proofs.Basics.{get_within}
 
 -- A NODE THAT ISN'T GONE YET
 
@@ -51,7 +52,7 @@ back_wipe : (u depth : ℕ) (w : BookingWorld) (old new : Nodes) (n : NodeId) (d
 back_wipe u depth w old new n disks disk disk_after t r few k d l b h e told =
     let all = backs_all u depth w old t r k in
     let change = backs_change t old new n.index (λ S. is_wiped {S = S}) r h in
-    let m = some_get (backs_of old t) n.index (omega (arith, all.size, l)) in
+    let m = get_within (backs_of old t) n.index (omega (arith, all.size, l)) in
     let i = all.each n.index m.0 m.1 in
     let to : IsBack u t n.index (stands Gone []) (record { faults = m.0.faults; tier = m.0.tier; me = m.0.me; part = is_wiped m.0.part }) = record { faults = i.faults; tier = i.tier; me = i.me; part = wiped_is t (as_back u t) open_at m.0.part } in
     back_placed u depth w old new t n.index disks disk_after (stands Gone []) _ _ [] r few l k d to (wiped_disk disk disk_after (w.backs t n.index) (backs_disks w disks t r d n.index disk (omega (arith, few, l)) b) e) (change.0 m.0 m.1) change.1 told
@@ -59,7 +60,7 @@ back_wipe u depth w old new n disks disk disk_after t r few k d l b h e told =
 pub wipe_by : (u depth : ℕ) (w : BookingWorld) (old new : Nodes) (n : NodeId) (disks : List DiskState) (disk disk_after : DiskState) (t : Tier) → u ≤ 2 → AreNodes u depth w old → AreDisks w disks → n.index < 2 * u + 1 → slice_get disks (first_of t + n.index) ≡ Some disk → is_gone_in (condition_at old t n.index) ≡ false → ChangedIn old new t n.index (λ S. is_wiped {S = S}) → Blank disk disk_after
     → Commanded u depth w (worlds.wipes (config u depth) w t n.index) new (slice_set disks (first_of t + n.index) disk_after) [] (texts.by_mode w (λ S. texts.wipe_text {S = S} (texts.node_name n)) t n.index) []
 wipe_by u depth w old new n disks disk disk_after MidTier few k d l b c h e =
-    let m = some_get old.mids.items n.index (omega (arith, k.mids.size, l)) in
+    let m = get_within old.mids.items n.index (omega (arith, k.mids.size, l)) in
     let i = k.mids.each n.index m.0 m.1 in
     let to : IsMid u depth n.index (stands Gone []) (record { faults = m.0.faults; depth = m.0.depth; me = m.0.me; part = is_wiped m.0.part }) = record { faults = i.faults; deep = i.deep; me = i.me; part = wiped_is MidTier (as_mid depth) open_of_mid m.0.part } in
     mid_placed u depth w old new n.index disks disk_after (stands Gone []) _ _ [] few l k d to (wiped_disk disk disk_after (w.mids n.index) (d.mids n.index disk (omega (arith, few, l)) b) e) (h.0 m.0 m.1) h.1
@@ -87,14 +88,14 @@ back_rests : (u depth : ℕ) (w : BookingWorld) (old : Nodes) (n : NodeId) (disk
     → Commanded u depth w (worlds.back_node (config u depth) w t n.index (stands Gone [])) old disks [] (texts.wipe_text (texts.node_name n) (w.backs t n.index).mode) (texts.gone_line (texts.node_name n))
 back_rests u depth w old n disks t r few k d l gone e =
     let all = backs_all u depth w old t r k in
-    let m = some_get (backs_of old t) n.index (omega (arith, all.size, l)) in
+    let m = get_within (backs_of old t) n.index (omega (arith, all.size, l)) in
     back_kept u depth w old t n.index disks (stands Gone []) _ (texts.gone_line (texts.node_name n)) r few l k d (gone_is _ _ _ (w.backs t n.index) m.0.part (all.each n.index m.0 m.1).part (ap is_gone_in (sym (ap back_condition m.1) ∙ sym (backs_condition old t n.index r)) ∙ e))
     (ap (texts.wipe_text (texts.node_name n)) (gone_mode (w.backs t n.index).mode gone))
 
 pub wipe_rests : (u depth : ℕ) (w : BookingWorld) (old : Nodes) (n : NodeId) (disks : List DiskState) (t : Tier) → u ≤ 2 → AreNodes u depth w old → AreDisks w disks → n.index < 2 * u + 1 → is_gone_in (condition_at old t n.index) ≡ true
     → Commanded u depth w (worlds.wipes (config u depth) w t n.index) old disks [] (texts.by_mode w (λ S. texts.wipe_text {S = S} (texts.node_name n)) t n.index) (texts.gone_line (texts.node_name n))
 wipe_rests u depth w old n disks MidTier few k d l e =
-    let m = some_get old.mids.items n.index (omega (arith, k.mids.size, l)) in
+    let m = get_within old.mids.items n.index (omega (arith, k.mids.size, l)) in
     let gone : is_gone_in (condition_in (w.mids n.index).mode) ≡ true = ap is_gone_in (sym (node_condition u depth w old MidTier n.index k l)) ∙ e in
     mid_kept u depth w old n.index disks (stands Gone []) _ (texts.gone_line (texts.node_name n)) few l k d (gone_is _ _ _ (w.mids n.index) m.0.part (k.mids.each n.index m.0 m.1).part (ap is_gone_in (sym (ap mid_condition m.1)) ∙ e))
     (ap (texts.wipe_text (texts.node_name n)) (gone_mode (w.mids n.index).mode gone))

@@ -1,16 +1,15 @@
 -- The outcome of a job has a spelling, so that its token is read as that outcome.
-use Rattle.std.proofs.Common.{◌≡◌, ℕ, zero, suc, ◌+◌, ◌*◌, ◌<◌, ◌≤◌, Bool, true, false, cond, List, [], ◌∷◌, length, map, refl, sym, ap, ◌∙◌, subst, Some, None, arith, lit≤}
-use Rattle.std.specs.Prelude.{slice_get, T, nat_lt, ◌==◌, ◌&&◌, ◌||◌}
-use Rattle.std.proofs.lemmas.Bool.{and_from, and_parts, eq-eqb, eqb-true, ltb-true}
+use Rattle.std.proofs.Common.{◌≡◌, ℕ, zero, suc, ◌+◌, ◌*◌, ◌<◌, ◌≤◌, Bool, true, false, cond, List, [], ◌∷◌, length, map, refl, sym, ap, ◌∙◌, subst, Some, arith, lit≤}
+use Rattle.std.specs.Prelude.{slice_get, T, nat_lt, ◌==◌, ◌||◌}
+use Rattle.std.proofs.lemmas.Bool.{and_parts, eq-eqb, eqb-true, ltb-true}
 use Rattle.std.proofs.lemmas.Bool.Decides.{nat_tests}
 use Rattle.std.proofs.lemmas.List.{append-nil, length-map}
 use Rattle.std.specs.List.{AllByRecursion}
-use Rattle.std.specs.Ordering.{ordering_then, is_lt}
-use Rattle.std.specs.declared.cmp.Ordering.TheVariants.{Less, Equal, Greater}
-use Rattle.std.specs.FinMap.Entries.{put, is_sorted, below_all, is_sorted-put}
+use Rattle.std.specs.Ordering.{is_lt}
+use Rattle.std.specs.FinMap.Entries.{is_sorted, below_all}
 use Rattle.aeg_base.specs.Store.{Store, key_cmp, same_key, value_at, pairs_of}
 use Rattle.aeg_base.specs.declared.names.Key.{Key}
-use Rattle.aeg_base.proofs.StoreLaws.{key_cmp_total}
+use Rattle.aeg_base.proofs.NumberLaws.{first, second}
 use Rattle.svc_api.specs.Plan.{IsKey, IsEnding}
 use Rattle.svc_api.specs.Segment.{Segment}
 use Rattle.svc_api.specs.declared.outcome.Outcome.{Outcome}
@@ -18,60 +17,20 @@ use Rattle.exec_model.specs.declared.job.Seg.{Seg}
 use Rattle.exec_model.specs.Jobs.{plan_at}
 use Rattle.aeg_base.specs.Changes.{changed_among, changes}
 use Rattle.exec_model.specs.Outcomes as outcomes
-use Rattle.log_values.specs.Outcomes.{outcome, outcome_at, is_key_below, rises, FitsPair, FitsOutcome}
+use Rattle.log_values.specs.Outcomes.{outcome, outcome_at, is_key_below, FitsPair, FitsOutcome}
+use Rattle.log_values.proofs.Rising.{below_is, rises_sorted}
 use Rattle.log_values.specs.Reading.{whole}
 use Rattle.log_values.proofs.OutcomeGrammar.{outcome_grammar}
 use Rattle.aeg_wire.specs.Fields.{Read}
 use Rattle.round_model.specs.Lists.{tabulate}
 use Rattle.round_model.specs.Service.{Service, segment, serial, serial_end, times, all_below, each_once, is_order, finish}
 use Rattle.tier_laws.specs.Said.{IsStore, IsJob}
-use Rattle.aeg_base.proofs.ChangeLaws.{all_among, key_parts, same_itself}
+use Rattle.aeg_base.proofs.ChangeLaws.{all_among, key_parts, same_itself, sorted_changes}
 use Rattle.tier_laws.proofs.Legal.{once-at}
 use Rattle.tier_laws.proofs.Services.Pigeons.{has, IsOnce, Tells, no_longer}
 use Rattle.tier_laws.proofs.Services.Serial.{Agrees, segment_is, serial_is}
 use Rattle.tier_laws.proofs.Services.Stores.{AreProper, AreBounded, bounded, one_store_in, one_end_in, serial_in, all_wrote, few_keys, kept_value}
 use Rattle.tier_laws.proofs.Lists.{length-tabulate}
-
--- THE KEYS RISE
-
-first : (a b : Bool) → T (a && b) → T a
-first true b p = tt
-first false b p = p
-
-second : (a b : Bool) → T (a && b) → T b
-second true b p = p
-second false b p = absurd p
-
-below_is : (a b : Key) → T (is_lt (key_cmp a b)) → is_key_below a b ≡ true
-below_is a b h = at (nat_lt a.class b.class) (a.class == b.class) (nat_lt a.id b.id) (a.id == b.id) h
-  where
-    at : (c d e f : Bool) → T (is_lt (ordering_then (cond c Less (cond d Equal Greater)) (cond e Less (cond f Equal Greater)))) → (c || (d && e)) ≡ true
-    at true d e f h = refl
-    at false true true f h = refl
-    at false true false true h = absurd h
-    at false true false false h = absurd h
-    at false false e f h = absurd h
-
-rises_from : (last : Key) (es : List (Key × ℕ)) → T (below_all key_cmp last es) → T (is_sorted key_cmp es) → rises (Some last) es ≡ true
-rises_from last [] b s = refl
-rises_from last (e ∷ es) b s =
-    and_from (is_key_below last e.0) (rises (Some e.0) es) (below_is last e.0 (first (is_lt (key_cmp last e.0)) (below_all key_cmp last es) b))
-    (rises_from e.0 es (first (below_all key_cmp e.0 es) (is_sorted key_cmp es) s) (second (below_all key_cmp e.0 es) (is_sorted key_cmp es) s))
-
-rises_all : (es : List (Key × ℕ)) → T (is_sorted key_cmp es) → rises None es ≡ true
-rises_all [] s = refl
-rises_all (e ∷ es) s = rises_from e.0 es (first (below_all key_cmp e.0 es) (is_sorted key_cmp es) s) (second (below_all key_cmp e.0 es) (is_sorted key_cmp es) s)
-
-sorted_among : (s t : Store) (es ps : List (Key × ℕ)) → T (is_sorted key_cmp ps) → T (is_sorted key_cmp (changed_among s t es ps))
-sorted_among s t [] ps h = h
-sorted_among s t (e ∷ es) ps h = sorted_among s t es (cond (value_at s e.0 == value_at t e.0) ps (put key_cmp e.0 (value_at t e.0) ps)) (at (value_at s e.0 == value_at t e.0))
-  where
-    at : (c : Bool) → T (is_sorted key_cmp (cond c ps (put key_cmp e.0 (value_at t e.0) ps)))
-    at true = h
-    at false = is_sorted-put key_cmp key_cmp_total e.0 (value_at t e.0) ps h
-
-pub sorted_changes : (s t : Store) → T (is_sorted key_cmp (changes s t))
-sorted_changes s t = sorted_among s t (pairs_of t) (changed_among s t (pairs_of s) []) (sorted_among s t (pairs_of s) [] tt)
 
 -- THEY ARE KEYS OF STORES, WHOSE VALUES DIFFER
 
@@ -213,7 +172,7 @@ pub outcome_fits : {B : Type 0} (m : Service B) → Agrees m → AreProper m.beg
 outcome_fits {B} m a p J order s job o st = record {
   count = omega (arith, few, short, order_short (length J) order o, job.short);
   pairs = all_fit s (serial m J order s) (changes s (serial m J order s)) (changes_fit s (serial m J order s) st after);
-  sorted = rises_all (changes s (serial m J order s)) (sorted_changes s (serial m J order s));
+  sorted = rises_sorted (changes s (serial m J order s)) (sorted_changes s (serial m J order s));
   end_count = omega (arith, length-tabulate (length J) (serial_end m J order s), job.short);
   ends = all_tabulate IsEnding (length J) (serial_end m J order s) (λ k. serial_end_in m a J b order s k st);
 }
