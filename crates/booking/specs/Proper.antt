@@ -231,7 +231,7 @@ opens_bounded t h =
       ),
     )
 
--- a booking's numbers are in range
+-- no number of a booking is past its range
 record IsNewBooking (b : NewBooking) : Type 0 where
   client : b.client ≤ 16
   booking : b.booking ≤ 1048576

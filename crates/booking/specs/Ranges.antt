@@ -1,4 +1,4 @@
--- The numbers of a request are in their ranges.
+-- No number of a request is past its range.
 use Rattle.std.proofs.Common.{◌≡◌, ℕ, ◌≤◌, ◌&&◌, Bool, true, false, List, [], ◌∷◌, Option, None, Some, if◌then◌else◌, arith, refl}
 use Rattle.std.specs.Prelude.{nat_le, codes}
 use Rattle.std.specs.Option.{option_and_then, option_map}

@@ -1,9 +1,10 @@
 // The bodies of a log's messages.
 ghost use Rattle.std.specs.Prelude.{◌≡◌, ◌++◌, OnOk, ℕ};
 ghost use Rattle.log_values.specs.Reading.{Found, Gives};
+ghost use Rattle.log_values.specs.Values.{FitsAny};
 ghost use Rattle.log_values.specs.declared.any_value.AnyValue.{AnyValue};
 ghost use Rattle.frames.specs.LogMessages.{is_carried, is_at_parity, carried_at, open_at, report, report_at, FitsReport, vote_at, log_kind, log_body, log_body_at, FitsLog};
-ghost use Rattle.frames.specs.Votes.{IsVote, vote};
+ghost use Rattle.frames.specs.Votes.{vote};
 
 use aeg_base::limits::POSITIONS;
 use aeg_base::{Ballot, Bytes, Memory, Pos, Tier};
@@ -188,7 +189,7 @@ fn put_report(
 }
 
 fn put_vote(out: &mut Bytes, ballot: Ballot, pos: Pos, value: &AnyValue) -> Result<(), Memory>
-    requires { IsVote value.now }
+    requires { FitsAny value.now }
     ensures { OnOk result (out.new ≡ out.old ++ vote ballot pos value.now) }
 {
     put_ballot(out, ballot)?;

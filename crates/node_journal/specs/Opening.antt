@@ -35,7 +35,7 @@ Next bytes at None = get_or bytes at 0 ≢ 1
 Next bytes at (Some body) = (get_or bytes at 0 ≡ 1) × (is_whole (drop (at + 1) bytes) ≡ true) × (body ≡ body_of (drop (at + 1) bytes))
 
 -- the gate there is open, and no whole entry follows
-pub record Torn_off (bytes : List ℕ) (at : ℕ) : Type 0 where
+pub record IsTornOff (bytes : List ℕ) (at : ℕ) : Type 0 where
   pub open_gate : get_or bytes at 0 ≡ 1
   pub none : is_whole (drop (at + 1) bytes) ≡ false
 

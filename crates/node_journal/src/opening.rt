@@ -2,7 +2,7 @@
 ghost use Rattle.std.specs.Prelude.{◌≡◌, ◌≢◌, ◌⊎◌, ℕ, ◌+◌, ◌-◌, ◌<◌, ◌≤◌, List, [], ◌∷◌, ◌++◌, true, false, length, get_or, take, drop, IfOk, IfSome, OnOk, MatchOption};
 ghost use Rattle.aeg_disk.specs.Disk.{Looks, Rose, Later};
 ghost use Rattle.node_journal.specs.Journal.{told_length, body_of, is_whole, records, size_of, Ends, IsBadAt};
-ghost use Rattle.node_journal.specs.Opening.{Entry, LooksTo, Next, Torn_off, Read, Shuts, WasThere, opened_bytes};
+ghost use Rattle.node_journal.specs.Opening.{Entry, LooksTo, Next, IsTornOff, Read, Shuts, WasThere, opened_bytes};
 ghost use Rattle.node_journal.specs.Append.{LeavesOnly, HasList};
 
 use crate::journal::Journal;
@@ -128,7 +128,7 @@ fn next_entry<D: Disk>(
     ensures looks { LooksTo (D.state disk.old) (D.state disk.new) result }
     ensures next { IfOk result (λ r. (D.state disk.old).tells ≡ true → length (D.state disk.old).bytes ≡ len → Next (D.state disk.old).bytes at r) }
     ensures fits { IfOk result (λ r. IfSome r (λ b. at + 5 + length b < len)) }
-    ensures bad { (n : ℕ) → result ≡ Err (OpenErr.BadRecord n) → (n ≡ at) × ((D.state disk.old).tells ≡ true → length (D.state disk.old).bytes ≡ len → Torn_off (D.state disk.old).bytes at) }
+    ensures bad { (n : ℕ) → result ≡ Err (OpenErr.BadRecord n) → (n ≡ at) × ((D.state disk.old).tells ≡ true → length (D.state disk.old).bytes ≡ len → IsTornOff (D.state disk.old).bytes at) }
 {
     if byte_at(disk, at)? != 1 {
         return Ok(None);

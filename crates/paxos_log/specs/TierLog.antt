@@ -46,10 +46,11 @@ sent (Some l) p = Some (record { ballot = l.ballot; led_at = l.led_at; promisers
 abbrev pub joined : {V : Type 0} → AcceptorState V → LearnerState V → Option (Leading V) → LogState V
 joined a n leader = record { promised = a.promised; accepted = voted_at a.vote (length n.learned); learned = n.learned; seen = n.seen; leader = option_map as_leader leader }
 
--- what holds between them: a leader leads with the promised ballot, and nothing is accepted past the open position
+-- a leader leads with the promised ballot, and has a place for what each node promised
 abbrev pub IsLed : {V : Type 0} → AcceptorState V → LearnerState V → Option (Leading V) → Type 0
 IsLed a n leader = IfSome leader (λ l. (length l.promisers ≡ 2 * n.faults + 1) × (l.ballot ≡ a.promised))
 
+-- nothing is accepted past the first open position
 abbrev pub IsOpen : {V : Type 0} → AcceptorState V → LearnerState V → Type 0
 IsOpen a n = IfSome a.vote (λ vote. vote.at ≤ length n.learned)
 

@@ -3,8 +3,8 @@ use Rattle.std.specs.Prelude.{ℕ, ◌+◌, ◌*◌, Bool, List, [], ◌∷◌, 
 use Rattle.aeg_base.specs.declared.names.Ballot.{Ballot}
 use Rattle.log_model.specs.Log.{count_below, seen_at, is_from, noted, with_ballot}
 
--- the number u of a tier of 2u+1 nodes, the learned values from position 0 on, and what each node accepted at the first
--- open position
+-- the number u of a tier of 2u+1 nodes, the learned values from position 0 on, and the ballot with which each node is
+-- heard to have accepted at the first open position
 pub record LearnerState (V : Type 0) : Type 0 where
   pub faults : ℕ
   pub learned : List V

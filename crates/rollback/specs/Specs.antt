@@ -1,4 +1,4 @@
--- A speculative state, as its callers see it.
+-- What a run leaves in a store, until a verdict.
 use Rattle.std.specs.Prelude.{◌≡◌, ◌≤◌}
 use Rattle.aeg_base.specs.Changes.{changes}
 use Rattle.kv_store.specs.Stores.{Holding, unwound, StaysWithin}

@@ -24,7 +24,7 @@ abbrev pub armed_with : Option StopAt → DiskState → DiskState
 armed_with None disk = disk
 armed_with (Some s) disk = record disk { armed = s.nth; keep = s.keep }
 
--- the disk failed, and no armed stop was met
+-- how an event fared that was asked to stop like that: the disk failed and no armed stop was met, or it went as asked
 abbrev pub fared_by : Option StopAt → Bool → Result Turn NodeFault → Fared
 fared_by stop false (Err faults.Disk) = Fault
 fared_by stop true (Err faults.Disk) = asked_of stop

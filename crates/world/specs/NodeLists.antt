@@ -31,7 +31,7 @@ new_mid u depth x = record { faults = u; depth = depth; me = x; part = new_part 
 abbrev pub new_back : ℕ → Tier → ℕ → BackView
 new_back u t x = record { faults = u; tier = t; me = x; part = new_part }
 
--- all are down, on blank disks
+-- all are down, with journals that have not begun
 pub record AreNew (u depth : ℕ) (nodes : Nodes) : Type 0 where
   pub mids : nodes.mids.items ≡ each (2 * u + 1) nobody (new_mid u depth)
   pub invs : nodes.invs.items ≡ each (2 * u + 1) nobody (new_back u tiers.Inv)
