@@ -15,6 +15,7 @@ use Rattle.aeg_wire.proofs.Lists.{with_front}
 use Rattle.log_values.specs.Outcomes.{pair, pair_at, pairs_at, is_after, rises, FitsPair}
 use Rattle.log_values.specs.Reading.{left_after}
 use Rattle.log_values.proofs.BoolTests.{lt_true, lt_is, and_true, and_is}
+use Rattle.log_values.proofs.Passing.{left_made, none_left}
 
 pub pair_grammar : (last : Option Key) → IsGrammar (λ p. FitsPair p × (is_after last p.0 ≡ true)) pair (pair_at last)
 unfolding pair_at
@@ -94,14 +95,6 @@ pairs_done front last count i bytes total le so_far =
     sym so_far ∙ step
 
 -- ---- a loop that passes over so many pairs
-
-left_made : {A B : Type 0} (f : A → B) (read : Read A) → left_after (made f read) ≡ left_after read
-left_made f (Some field) = refl
-left_made f None = refl
-
-none_left : {A : Type 0} (read : Read A) → left_after read ≡ None → read ≡ None
-none_left None e = refl
-none_left (Some field) e = absurd cc
 
 pub pairs_pass_on : (last : Option Key) (count i : ℕ) (bytes : List ℕ) (p : Key × ℕ) (after : List ℕ) (total : Option (List ℕ)) → i < count → pair_at last bytes ≡ Some (p, after)
     → left_after (pairs_at last (count - i) bytes) ≡ total → left_after (pairs_at (Some p.0) (count - (i + 1)) after) ≡ total

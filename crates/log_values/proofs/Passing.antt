@@ -5,11 +5,11 @@ use Rattle.aeg_wire.specs.Formats.{made, list_at}
 use Rattle.aeg_wire.proofs.Grammar.{some_is, bind_some, made_some}
 use Rattle.log_values.specs.Reading.{left_after}
 
-left_made : {A B : Type 0} (f : A → B) (read : Read A) → left_after (made f read) ≡ left_after read
+pub left_made : {A B : Type 0} (f : A → B) (read : Read A) → left_after (made f read) ≡ left_after read
 left_made f (Some field) = refl
 left_made f None = refl
 
-none_left : {A : Type 0} (read : Read A) → left_after read ≡ None → read ≡ None
+pub none_left : {A : Type 0} (read : Read A) → left_after read ≡ None → read ≡ None
 none_left None e = refl
 none_left (Some field) e = absurd cc
 
