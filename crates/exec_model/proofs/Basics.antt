@@ -1,4 +1,5 @@
 -- Lists of segments, and what a serial run does at an append.
+pub use Rattle.svc_api.proofs.Orders.{times-append}
 use Rattle.std.proofs.Common.{◌≡◌, ℕ, ◌+◌, ◌<◌, ◌==◌, Bool, true, false, ◌||◌, List, [], ◌∷◌, ◌++◌, Option, Some, None, refl, cond, arith}
 use Rattle.std.proofs.lemmas.Bool.{or_left, eq-eqb}
 use Rattle.std.proofs.lemmas.Bool.Decides.{nat_tests}
@@ -27,10 +28,6 @@ pub serial_end-append : (plan : ℕ → Plan) (s : Store) (xs ys : List ℕ) (j 
 serial_end-append plan s [] ys j = refl
 serial_end-append plan s (x ∷ xs) ys j =
     or_else-if (x == j) (ending_of (plan x) s) _ _ _ (serial_end-append plan (store_after (plan x) s) xs ys j)
-
-pub times-append : (i : ℕ) (xs ys : List ℕ) → times i (xs ++ ys) ≡ times i xs + times i ys
-times-append i [] ys = grind arith
-times-append i (x ∷ xs) ys = let h = times-append i xs ys in omega arith
 
 -- the first of a list is in it
 pub mem-first : (x : ℕ) (xs : List ℕ) → mem x (x ∷ xs) ≡ true

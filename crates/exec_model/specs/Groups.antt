@@ -1,14 +1,6 @@
 -- The groups of a job: segments whose declared locks don't meet.
-use Rattle.std.specs.Prelude.{◌≡◌, ℕ, zero, suc, ◌+◌, ◌==◌, Bool, true, false, ◌&&◌, ◌||◌, not, List, [], ◌∷◌, ◌++◌, if◌then◌else◌, nat_lt}
-
--- how often i stands in the list
-abbrev pub times : ℕ → List ℕ → ℕ
-times i [] = 0
-times i (j ∷ js) = (if j == i then 1 else 0) + times i js
-
--- each number below n once, and no others
-abbrev pub IsOrder : ℕ → List ℕ → Type 0
-IsOrder n order = (i : ℕ) → times i order ≡ (if nat_lt i n then 1 else 0)
+pub use Rattle.svc_api.specs.Orders.{times, IsOrder}
+use Rattle.std.specs.Prelude.{ℕ, zero, suc, ◌+◌, Bool, true, false, ◌&&◌, ◌||◌, not, List, [], ◌∷◌, ◌++◌, if◌then◌else◌}
 
 -- no group is empty
 abbrev pub AreFull : List (List ℕ) → Type 0

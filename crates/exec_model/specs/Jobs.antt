@@ -1,5 +1,6 @@
 -- A job, and what a run of it comes to: by a schedule, and one segment after another.
-use Rattle.std.specs.Prelude.{ℕ, zero, suc, Bool, List, [], ◌∷◌, ◌++◌, length, map, Option, Some, None, unwrap_or}
+pub use Rattle.svc_api.specs.Orders.{below}
+use Rattle.std.specs.Prelude.{ℕ, zero, suc, Bool, List, [], ◌∷◌, length, map, Option, Some, None, unwrap_or}
 use Rattle.aeg_base.specs.Store.{Store}
 use Rattle.aeg_base.specs.Locks.{no_locks}
 use Rattle.aeg_base.specs.declared.names.ReqId.{ReqId}
@@ -41,11 +42,6 @@ locks_at begins (x ∷ xs) (suc i) = locks_at begins xs i
 
 abbrev pub groups_of : Beginnings → List Seg → List (List ℕ)
 groups_of begins segs = mix (locks_at begins segs) (length segs)
-
--- the numbers below n, in order
-abbrev pub below : ℕ → List ℕ
-below zero = []
-below (suc n) = below n ++ n ∷ []
 
 -- a run: the steps made, the order of finishing, how many groups were run again, the store, and the ends in job order
 pub record Run : Type 0 where

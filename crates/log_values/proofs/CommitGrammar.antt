@@ -2,12 +2,13 @@
 use Rattle.std.proofs.Common.{◌≡◌, ℕ, ◌<◌, true, eqb, List, [], ◌∷◌, ◌++◌, length, Some, refl, sym, ap, subst, ◌∙◌, append_assoc, arith}
 use Rattle.std.specs.Prelude.{◌&&◌, ◌==◌}
 use Rattle.std.proofs.lemmas.Bool.{eqb-true}
+use Rattle.svc_api.specs.Orders.{is_order}
 use Rattle.svc_api.specs.declared.outcome.Outcome.{Outcome}
 use Rattle.aeg_wire.specs.Fields.{◌>>=◌, byte_at, bytes_at}
 use Rattle.aeg_wire.specs.Formats.{made}
 use Rattle.aeg_wire.proofs.Grammar.{IsBytes, Takes, Takes-then, IsGrammar, bind_some, made_some, kept_grammar}
 use Rattle.aeg_wire.proofs.Numbers.{one_byte, bytes_take, bytes_again}
-use Rattle.log_values.specs.Outcomes.{outcome, outcome_at, token_at, is_order, order_text, order_at, commit, commit_at, FitsOutcome, IsCommit}
+use Rattle.log_values.specs.Outcomes.{outcome, outcome_at, token_at, order_text, order_at, commit, commit_at, FitsOutcome, IsCommit}
 use Rattle.log_values.proofs.OutcomeGrammar.{outcome_grammar}
 use Rattle.log_values.proofs.BoolTests.{and_true, and_is}
 
@@ -25,9 +26,9 @@ numbers_grammar = record {
   again = λ o rest small. bytes_again o rest;
 }
 
-order_grammar : (n : ℕ) → IsGrammar (λ o. (length o < 256) × (((length o == n) && is_order o) ≡ true)) (λ o. order_text o) (order_at n)
+order_grammar : (n : ℕ) → IsGrammar (λ o. (length o < 256) × (((length o == n) && is_order (length o) o) ≡ true)) (λ o. order_text o) (order_at n)
 unfolding order_at
-order_grammar n = kept_grammar (λ o. length o < 256) (λ o. order_text o) (λ bytes. byte_at bytes >>= λ k. bytes_at k.0 k.1) (λ o. (length o == n) && is_order o) numbers_grammar
+order_grammar n = kept_grammar (λ o. length o < 256) (λ o. order_text o) (λ bytes. byte_at bytes >>= λ k. bytes_at k.0 k.1) (λ o. (length o == n) && is_order (length o) o) numbers_grammar
 
 commit_takes : (bytes : List ℕ) (c : List ℕ × List ℕ) (rest : List ℕ) → IsBytes bytes → commit_at bytes ≡ Some (c, rest) → Takes bytes (commit c) rest × IsCommit c.0 c.1
 unfolding commit_at token_at
@@ -39,7 +40,7 @@ commit_takes bytes c rest are e =
     let there = subst (λ (t : (List ℕ × ℕ) × List ℕ). made (λ order. (t.0.0, order)) (order_at t.0.1 t.1) ≡ Some (c, rest)) (sym m.2) b.2 in
     let k = made_some (λ order. (outcome o, order)) (order_at (length o.ends) m.0.1) (c, rest) there in
     let second = (order_grammar (length o.ends)).takes m.0.1 k.0.0 k.0.1 first.0.rest_fits k.1 in
-    let tests = and_true (length k.0.0 == length o.ends) (is_order k.0.0) second.1.1 in
+    let tests = and_true (length k.0.0 == length o.ends) (is_order (length k.0.0) k.0.0) second.1.1 in
     let all = Takes-then bytes (outcome o) m.0.1 (order_text k.0.0) k.0.1 first.0 second.0 in
     let is : IsCommit (outcome o) k.0.0 = record { told = o; fits = first.1; spelled = refl; count = eqb-true (length k.0.0) (length o.ends) tests.0; permutes = tests.1 } in
     subst (λ (p : (List ℕ × List ℕ) × List ℕ). Takes bytes (commit p.0) p.1 × IsCommit p.0.0 p.0.1) k.2 (all, is)
@@ -47,13 +48,13 @@ commit_takes bytes c rest are e =
     token_of : Outcome → List ℕ × ℕ
     token_of o = (outcome o, length o.ends)
 
-commit_again_told : (o : Outcome) (order rest : List ℕ) → FitsOutcome o → length order ≡ length o.ends → is_order order ≡ true → commit_at (commit (outcome o, order) ++ rest) ≡ Some ((outcome o, order), rest)
+commit_again_told : (o : Outcome) (order rest : List ℕ) → FitsOutcome o → length order ≡ length o.ends → is_order (length order) order ≡ true → commit_at (commit (outcome o, order) ++ rest) ≡ Some ((outcome o, order), rest)
 unfolding commit_at token_at
 commit_again_told o order rest fits count permutes =
     let small : length order < 256 = omega (arith, count, fits.end_count) in
     let regrouped : commit (outcome o, order) ++ rest ≡ outcome o ++ (order_text order ++ rest) = append_assoc (outcome o) (order_text order) rest in
     let first = outcome_grammar.again o (order_text order ++ rest) fits in
-    let second = (order_grammar (length o.ends)).again order rest (small, and_is (length order == length o.ends) (is_order order) (eq_is (length order) (length o.ends) count) permutes) in
+    let second = (order_grammar (length o.ends)).again order rest (small, and_is (length order == length o.ends) (is_order (length order) order) (eq_is (length order) (length o.ends) count) permutes) in
     ap (λ (w : List ℕ). commit_at w) regrouped ∙ rw (first, second) refl
 
 commit_again : (c : List ℕ × List ℕ) (rest : List ℕ) → IsCommit c.0 c.1 → commit_at (commit c ++ rest) ≡ Some (c, rest)

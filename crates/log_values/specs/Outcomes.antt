@@ -1,5 +1,5 @@
 -- Tokens: the text of a job's outcome. Orders of segments.
-use Rattle.std.specs.Prelude.{◌≡◌, ℕ, zero, suc, ◌<◌, ◌≤◌, ◌^◌, List, [], ◌∷◌, ◌++◌, length, Option, Some, None, Bool, true, nat_lt, nat_le, not, ◌&&◌, ◌||◌, ◌==◌, if◌then◌else◌}
+use Rattle.std.specs.Prelude.{◌≡◌, ℕ, zero, suc, ◌<◌, ◌≤◌, ◌^◌, List, [], ◌∷◌, ◌++◌, length, Option, Some, None, Bool, true, nat_lt, nat_le, ◌&&◌, ◌||◌, ◌==◌, if◌then◌else◌}
 use Rattle.std.specs.List.{flat_map, list_any, AllByRecursion}
 use Rattle.std.specs.Int.{w16, w32, w64, to_be_bytes}
 use Rattle.aeg_base.specs.declared.limits.TheConstants.{KEY_CLASSES}
@@ -7,6 +7,7 @@ use Rattle.aeg_base.specs.declared.names.Key.{Key}
 use Rattle.svc_api.specs.declared.action.Ending.{Ending}
 use Rattle.svc_api.specs.declared.action.Ending.TheVariants as ends
 use Rattle.svc_api.specs.declared.outcome.Outcome.{Outcome}
+use Rattle.svc_api.specs.Orders.{is_order}
 use Rattle.svc_api.specs.Plan.{IsEnding, IsKey}
 use Rattle.aeg_wire.specs.Fields.{Read, ◌>>=◌, byte_at, bytes_at, number_at, text, text_at}
 use Rattle.aeg_wire.specs.Formats.{made, kept, both, counted_at}
@@ -88,22 +89,13 @@ outcome_at bytes = made (λ p. record { pairs = p.0; ends = p.1 }) (both all_pai
 abbrev pub is_in : ℕ → List ℕ → Bool
 is_in n numbers = list_any (λ m. m == n) numbers
 
--- each number is below the count, and comes once
-abbrev pub is_order_from : ℕ → List ℕ → List ℕ → Bool
-is_order_from count earlier [] = true
-is_order_from count earlier (n ∷ numbers) = nat_lt n count && (not (is_in n earlier) && is_order_from count (earlier ++ n ∷ []) numbers)
-
--- a permutation of the numbers from 0 to the count less 1
-abbrev pub is_order : List ℕ → Bool
-is_order order = is_order_from (length order) [] order
-
 -- the count in a byte, and the numbers
 abbrev pub order_text : List ℕ → List ℕ
 order_text order = length order ∷ order
 
 -- an order of so many segments
 unfoldable pub order_at : ℕ → List ℕ → Read (List ℕ)
-order_at count bytes = kept (λ order. (length order == count) && is_order order) (byte_at bytes >>= λ n. bytes_at n.0 n.1)
+order_at count bytes = kept (λ order. (length order == count) && is_order (length order) order) (byte_at bytes >>= λ n. bytes_at n.0 n.1)
 
 -- ---- a token with an order of its segments
 
@@ -116,7 +108,7 @@ pub record IsCommit (token order : List ℕ) : Type 0 where
   pub fits : FitsOutcome told
   pub spelled : token ≡ outcome told
   pub count : length order ≡ length told.ends
-  pub permutes : is_order order ≡ true
+  pub permutes : is_order (length order) order ≡ true
 
 -- a token, and how many ends it has
 unfoldable pub token_at : List ℕ → Read (List ℕ × ℕ)

@@ -1,8 +1,9 @@
 // Orders of a job's segments.
 ghost use Rattle.std.specs.Prelude.{◌≡◌, ◌++◌, OnOk, OnErr, ◌≤◌, length};
 ghost use Rattle.aeg_wire.specs.Fields.{IsBegun};
-ghost use Rattle.log_values.specs.Outcomes.{is_in, is_order, order_at, order_text, commit, commit_at};
+ghost use Rattle.log_values.specs.Outcomes.{is_in, order_at, order_text, commit, commit_at};
 ghost use Rattle.log_values.specs.Reading.{Found, Gives};
+ghost use Rattle.svc_api.specs.Orders.{is_order};
 
 use crate::token::pass_token;
 use crate::{Misread, Token};
@@ -18,7 +19,7 @@ fn has(numbers: &[u8], number: u8) -> bool
 
 /// Whether each number is below the count, and comes once.
 pub fn is_permutation(order: &[u8]) -> bool
-    ensures { result ≡ is_order order.now }
+    ensures { result ≡ is_order (length order.now) order.now }
 {
     let count = order.len();
     for i in 0..count {

@@ -1,5 +1,5 @@
 -- A Commit's token, read again.
-use Rattle.std.proofs.Common.{◌≡◌, ℕ, ◌≤◌, List, length, map, Some, refl, sym, ap, ◌∙◌}
+use Rattle.std.proofs.Common.{◌≡◌, ℕ, ◌≤◌, List, length, Some, refl, sym, ap, ◌∙◌}
 use Rattle.std.proofs.lemmas.List.{length-map}
 use Rattle.aeg_base.specs.Store.{Store, written_all}
 use Rattle.aeg_base.specs.Changes.{changes}

@@ -1,16 +1,11 @@
--- Pairs written one after another, and the order of a job.
-use Rattle.std.proofs.Common.{◌≡◌, ℕ, zero, suc, ◌+◌, ◌<◌, ◌≤◌, ◌==◌, cond, List, [], ◌∷◌, length, drop, get_or, sym, ap, ◌∙◌, arith}
-use Rattle.std.specs.Prelude.{nat_lt}
+-- Pairs written one after another.
+use Rattle.std.proofs.Common.{◌≡◌, ℕ, zero, suc, ◌+◌, ◌<◌, ◌≤◌, List, [], ◌∷◌, length, drop, get_or, sym, ap, ◌∙◌, arith}
 use Rattle.std.proofs.lemmas.List.{drop_more}
 use Rattle.std.specs.List.{AllByRecursion}
-use Rattle.std.proofs.lemmas.Bool.Decides.{nat_tests}
 use Rattle.aeg_base.specs.declared.names.Key.{Key}
 use Rattle.aeg_base.specs.Store.{Store, written, written_all}
 use Rattle.kv_store.specs.Stores.{size}
 use Rattle.kv_store.proofs.Sizes.{size-written}
-use Rattle.exec_model.specs.Groups.{IsOrder}
-use Rattle.exec_model.specs.Jobs.{below}
-use Rattle.exec_model.proofs.Basics.{times-append}
 use Rattle.log_values.specs.Outcomes.{FitsPair}
 
 -- one more pair is written
@@ -26,10 +21,3 @@ pub class_at : (ps : List (Key × ℕ)) (k : ℕ) (d : Key × ℕ) → AllByRecu
 class_at [] k d h lt = absurd (omega arith)
 class_at (x ∷ xs) zero d h lt = h.0.0.0
 class_at (x ∷ xs) (suc k) d h lt = class_at xs k d h.1 (omega arith)
-
-one_more : (i n : ℕ) → cond (nat_lt i n) 1 0 + (cond (n == i) 1 0 + 0) ≡ cond (nat_lt i (suc n)) 1 0
-one_more i n = grind (arith, nat_tests)
-
-pub below_order : (n : ℕ) → IsOrder n (below n)
-below_order zero i = grind (arith, nat_tests)
-below_order (suc n) i = times-append i (below n) (n ∷ []) ∙ ap (λ m. m + (cond (n == i) 1 0 + 0)) (below_order n i) ∙ one_more i n

@@ -1,4 +1,5 @@
 -- Words on lists, on numbers, and on what there is for each tier.
+pub use Rattle.svc_api.specs.Orders.{below}
 use Rattle.std.specs.Prelude.{ℕ, zero, suc, Bool, true, false, ◌||◌, not, ◌==◌, List, [], ◌∷◌, ◌++◌, Option, Some, None, if◌then◌else◌}
 use Rattle.aeg_base.specs.declared.names.Tier.{Tier}
 use Rattle.aeg_base.specs.declared.names.Tier.TheVariants.{Mid, Inv, Pay}
@@ -48,10 +49,6 @@ mem i (j ∷ js) = (j == i) || mem i js
 abbrev pub tabulate : {A : Type 0} → ℕ → (ℕ → A) → List A
 tabulate zero f = []
 tabulate (suc n) f = f 0 ∷ tabulate n (λ i. f (suc i))
-
--- the numbers below n, in order
-abbrev pub below : ℕ → List ℕ
-below n = tabulate n (λ i. i)
 
 -- f of each number below n that isn't skipped, in order
 abbrev pub each : {A : Type 0} → ℕ → (ℕ → Bool) → (ℕ → A) → List A

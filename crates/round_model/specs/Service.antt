@@ -1,8 +1,9 @@
 -- What a replicated tier runs: the service's table with the backends', the programs that its executor interleaves, and
 -- the spelling of a job's outcome. What its segments and jobs come to.
-use Rattle.std.specs.Prelude.{ℕ, zero, suc, ◌+◌, Bool, true, ◌&&◌, ◌==◌, nat_lt, List, [], ◌∷◌, length, slice_get, Option, Some, None, if◌then◌else◌}
+use Rattle.std.specs.Prelude.{ℕ, Bool, ◌==◌, List, [], ◌∷◌, length, slice_get, Option, Some, None, if◌then◌else◌}
 use Rattle.aeg_base.specs.Store.{Store, written_all}
 use Rattle.aeg_base.specs.declared.names.ReqId.{ReqId}
+pub use Rattle.svc_api.specs.Orders.{times, all_below, each_once, is_order}
 use Rattle.svc_api.specs.Segment.{Segment}
 use Rattle.svc_api.specs.declared.action.Ending.{Ending}
 use Rattle.svc_api.specs.declared.action.Ending.TheVariants.{Reply}
@@ -10,7 +11,6 @@ use Rattle.svc_api.specs.declared.outcome.Outcome.{Outcome}
 use Rattle.server_model.specs.Server.{Meaning}
 use Rattle.exec_model.specs.declared.job.Seg.{Seg}
 use Rattle.exec_model.specs.Jobs.{Beginnings}
-pub use Rattle.exec_model.specs.Groups.{times}
 use Rattle.exec_model.specs.Outcomes as changes
 use Rattle.round_model.specs.Lists.{is_some, tabulate}
 
@@ -62,18 +62,6 @@ pub record Finish : Type 0 where
 
 abbrev pub finish : {B : Type 0} → Service B → List Seg → List ℕ → Store → Finish
 finish m J order s = record { store = serial m J order s; ends = tabulate (length J) (serial_end m J order s) }
-
-abbrev pub all_below : ℕ → List ℕ → Bool
-all_below n [] = true
-all_below n (i ∷ is) = nat_lt i n && all_below n is
-
-abbrev pub each_once : ℕ → List ℕ → Bool
-each_once zero order = true
-each_once (suc n) order = (times n order == 1) && each_once n order
-
--- each number below n stands in it once, and no others do
-abbrev pub is_order : ℕ → List ℕ → Bool
-is_order n order = all_below n order && each_once n order
 
 -- TOKENS
 

@@ -1,3 +1,4 @@
+pub mod Orders
 pub mod Plan
 pub mod Requests
 pub mod Segment

@@ -1,7 +1,6 @@
 -- The logs grow, and with them the history.
-use Rattle.std.proofs.Common.{◌≡◌, ℕ, ◌+◌, ◌*◌, ◌<◌, ◌≤◌, Bool, true, false, cond, List, [], ◌∷◌, ◌++◌, length, map, refl, sym, ap, ◌∙◌, subst, inl, inr, Option, Some, None, zero, suc, arith}
-use Rattle.std.specs.Prelude.{slice_get, ◌⊎◌, ◌==◌, nat_lt}
-use Rattle.std.proofs.lemmas.Bool.{cond-true, cond-false, lt-ltb, eq-eqb, ne_eqb, cases_eq, and_from}
+use Rattle.std.proofs.Common.{◌≡◌, ℕ, ◌*◌, ◌<◌, Bool, true, false, cond, List, [], ◌∷◌, ◌++◌, length, map, refl, sym, ap, ◌∙◌, subst, inl, inr, Option, Some, None, zero, suc}
+use Rattle.std.specs.Prelude.{slice_get, ◌⊎◌}
 use Rattle.aeg_base.specs.declared.names.Tier.{Tier}
 use Rattle.aeg_base.specs.declared.names.Tier.TheVariants.{Inv, Pay}
 use Rattle.log_model.proofs.Invariant.{all_same, soup-refl}
@@ -16,10 +15,11 @@ use Rattle.log_values.specs.declared.mid_value.Verdict.{Verdict}
 use Rattle.log_values.specs.declared.mid_value.Verdict.TheVariants.{Commit, Serial}
 use Rattle.round_model.specs.After.{Round, after, batch_in, round_at}
 use Rattle.round_model.specs.Answers.{Code}
-use Rattle.round_model.specs.Lists.{at, below, half, head_of, tabulate}
-use Rattle.round_model.specs.Service.{all_below, each_once, finish, is_order, times}
+use Rattle.round_model.specs.Lists.{at, half, head_of}
+use Rattle.round_model.specs.Service.{finish, is_order}
 use Rattle.round_model.specs.Tables.{Number, Tables, Want, fresh_of, numbers, resumed, started, wants}
 use Rattle.run_model.specs.Histories.{back_steps, is_called, step_of, steps_by, value_steps, verdict_steps}
+use Rattle.svc_api.proofs.Orders.{job_order}
 use Rattle.run_model.specs.Runs.{back_chosen, back_grows, grows, mid_chosen, mid_grows}
 use Rattle.run_model.specs.World.{Config, World, put_tier}
 use Rattle.server_model.specs.History.{History as History_}
@@ -43,39 +43,7 @@ use Rattle.run_model.specs.Histories.{HistoryStep}
 use Rattle.tier_laws.proofs.Shows.{shown}
 use Rattle.tier_laws.proofs.Soups.{mid_soup, back_soup}
 
--- JOB ORDER IS AN ORDER
-
-times-low : (n : ℕ) (f : ℕ → ℕ) (a k : ℕ) → ((i : ℕ) → f i ≡ a + i) → k < a → times k (tabulate n f) ≡ 0
-times-low zero f a k e l = refl
-times-low (suc n) f a k e l =
-    let first : cond (f 0 == k) 1 0 ≡ 0 = cond-false {A = ℕ} (f 0 == k) 1 0 (ne_eqb (f 0) k (λ g. let h = e 0 in omega arith)) in
-    omega (arith, first, times-low n (λ i. f (suc i)) (suc a) k (λ i. let h = e (suc i) in omega arith) (omega arith))
-
-times-in : (n : ℕ) (f : ℕ → ℕ) (a k : ℕ) → ((i : ℕ) → f i ≡ a + i) → a ≤ k → k < a + n → times k (tabulate n f) ≡ 1
-times-in zero f a k e l m = absurd (omega arith)
-times-in (suc n) f a k e l m = go (cases_eq k a) (times-in n (λ i. f (suc i)) (suc a) k (λ i. let h = e (suc i) in omega arith))
-  where
-    rest : (i : ℕ) → f (suc i) ≡ suc a + i
-    rest i = let h = e (suc i) in omega arith
-
-    go : (k ≡ a) ⊎ (k ≡ a → ⊥) → (suc a ≤ k → k < suc a + n → times k (tabulate n (λ i. f (suc i))) ≡ 1) → times k (tabulate (suc n) f) ≡ 1
-    go (inl g) r =
-        let first : cond (f 0 == k) 1 0 ≡ 1 = cond-true {A = ℕ} (f 0 == k) 1 0 (eq-eqb (f 0) k (let h = e 0 in omega arith)) in
-        omega (arith, first, times-low n (λ i. f (suc i)) (suc a) k rest (omega arith))
-    go (inr g) r =
-        let first : cond (f 0 == k) 1 0 ≡ 0 = cond-false {A = ℕ} (f 0 == k) 1 0 (ne_eqb (f 0) k (λ q. let h = e 0 in g (omega arith))) in
-        omega (arith, first, r (omega arith) (omega arith))
-
-inside-all : (n : ℕ) (f : ℕ → ℕ) (a N : ℕ) → ((i : ℕ) → f i ≡ a + i) → a + n ≤ N → all_below N (tabulate n f) ≡ true
-inside-all zero f a N e l = refl
-inside-all (suc n) f a N e l = and_from (nat_lt (f 0) N) (all_below N (tabulate n (λ i. f (suc i)))) (lt-ltb (f 0) N (let h = e 0 in omega arith)) (inside-all n (λ i. f (suc i)) (suc a) N (λ i. let h = e (suc i) in omega arith) (omega arith))
-
-once-all : (j n : ℕ) → j ≤ n → each_once j (below n) ≡ true
-once-all zero n l = refl
-once-all (suc j) n l = and_from (times j (below n) == 1) (each_once j (below n)) (eq-eqb (times j (below n)) 1 (times-in n (λ i. i) 0 j (λ i. omega arith) (omega arith) (omega arith))) (once-all j n (omega arith))
-
-pub job_order : (n : ℕ) → is_order n (below n) ≡ true
-job_order n = and_from (all_below n (below n)) (each_once n (below n)) (inside-all n (λ i. i) 0 n (λ i. omega arith) (omega arith)) (once-all n n (omega arith))
+-- A VERDICT'S ORDER IS ONE OF THE JOB
 
 pub is_ordered : {B : Type 0} (c : Config B) (P : Past B) (r : ℕ) (R : Round) (v : Verdict) → VerdictBy c P r R v → is_order (length R.job) (ordered R v) ≡ true
 is_ordered c P r R (Commit o order) k = k.0

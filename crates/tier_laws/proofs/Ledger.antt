@@ -24,7 +24,8 @@ use Rattle.server_model.specs.declared.history.Hist.TheVariants.{Serve}
 use Rattle.svc_api.specs.declared.action.Ending.{Ending}
 use Rattle.svc_api.specs.declared.action.Ending.TheVariants.{Call, Reply}
 use Rattle.tier_laws.proofs.Acts.{Act, Distinct, NoneOf, acts, acts_want, find_client, kept-in, kept-out, last-in, last-out, want_acts}
-use Rattle.tier_laws.proofs.Legal.{RoundDone, Setting, ends_of, job-length, once-at, round_legal}
+use Rattle.svc_api.proofs.Orders.{once-at}
+use Rattle.tier_laws.proofs.Legal.{RoundDone, Setting, ends_of, job-length, round_legal}
 use Rattle.tier_laws.proofs.Mirrors.{Mirrors, mirrors_kept, setting}
 use Rattle.tier_laws.proofs.Rounds.{Kept, ToldOne, told-kept, kept-refl}
 use Rattle.tier_laws.proofs.Stable.{MoreAnswers, MoreLog, RoundParts, after-more, after-step, round-more, round_parts, then_parts, verdict-more}

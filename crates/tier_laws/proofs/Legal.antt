@@ -1,7 +1,7 @@
 -- All steps of a round, in any order of its job.
 use Rattle.std.proofs.Common.{◌≡◌, ℕ, ◌<◌, ◌≤◌, true, List, [], ◌∷◌, ◌++◌, length, refl, sym, ap, ◌∙◌, subst, inl, inr, Option, Some, None, zero, suc, arith}
 use Rattle.std.specs.Prelude.{slice_get, ◌⊎◌, ◌==◌, nat_lt}
-use Rattle.std.proofs.lemmas.Bool.{eq-eqb, eqb-true, ne_eqb, cond-true, cond-false, cases_eq, and_parts, ltb-true}
+use Rattle.std.proofs.lemmas.Bool.{eq-eqb, ne_eqb, cond-true, cond-false, cases_eq, and_parts, ltb-true}
 use Rattle.std.proofs.lemmas.List.{append-nil, append_assoc}
 use Rattle.aeg_base.specs.Store.{Store}
 use Rattle.aeg_base.specs.declared.names.Tier.{Tier}
@@ -12,6 +12,7 @@ use Rattle.round_model.specs.Service.{Service, all_below, each_once, run, segmen
 use Rattle.round_model.specs.Tables.{Codes as Answers, Number, Want, answered, bump, job_of, numbers}
 use Rattle.run_model.specs.Histories.{step_of, steps_by}
 use Rattle.server_model.specs.History.{History as History_}
+use Rattle.svc_api.proofs.Orders.{once-at}
 use Rattle.svc_api.specs.declared.action.Ending.{Ending}
 use Rattle.svc_api.specs.declared.action.Ending.TheVariants.{Call, Reply}
 use Rattle.run_model.specs.Histories.{HistoryStep}
@@ -23,14 +24,6 @@ use Rattle.tier_laws.proofs.Maps.Result.{Done}
 use Rattle.tier_laws.proofs.Lists.{get_within, get-tabulate, length-tabulate}
 
 -- ORDERS
-
-pub once-at : (n i : ℕ) (order : List ℕ) → i < n → each_once n order ≡ true → times i order ≡ 1
-once-at zero i order l e = absurd (omega arith)
-once-at (suc n) i order l e = go (and_parts (times n order == 1) (each_once n order) e) (cases_eq i n) (once-at n i order)
-  where
-    go : ((times n order == 1) ≡ true) × (each_once n order ≡ true) → (i ≡ n) ⊎ (i ≡ n → ⊥) → (i < n → each_once n order ≡ true → times i order ≡ 1) → times i order ≡ 1
-    go p (inl f) r = ap (λ z. times z order) f ∙ eqb-true (times n order) 1 p.0
-    go p (inr f) r = r (omega arith) p.1
 
 all-mid : (n i : ℕ) (done rest : List ℕ) → all_below n (done ++ i ∷ rest) ≡ true → i < n
 all-mid n i [] rest e = ltb-true i n (and_parts (nat_lt i n) (all_below n rest) e).0

@@ -15,7 +15,8 @@ use Rattle.svc_api.specs.declared.action.Ending.{Ending}
 use Rattle.svc_api.specs.declared.action.Ending.TheVariants.{Call, Reply}
 use Rattle.tier_laws.proofs.Acts.{Act, Distinct, NoneOf, Numbered, acts_want, find_client, last-in, last-out, next-raises, none_not, num-high, num-low, parked_by, parks-in, parks-out, want_acts}
 use Rattle.tier_laws.proofs.Lists.{at-replicate, get_cases, get_right, get_map, length-tabulate, map_get}
-use Rattle.tier_laws.proofs.Legal.{Setting, acts_of, ends_of, job-length, once-at}
+use Rattle.svc_api.proofs.Orders.{once-at}
+use Rattle.tier_laws.proofs.Legal.{Setting, acts_of, ends_of, job-length}
 use Rattle.tier_laws.proofs.Rounds.{Bounded, Partway, ToldOne, WantOk, progress_by}
 use Rattle.tier_laws.proofs.Wants.{IsFresh, in_range_parts, concat-head, concat-push, distinct-apart, distinct-join, distinct-left, distinct-right, fresh-at, fresh-distinct, is_fresh_parts, none-parts, none_from, none_parked, parked-skip, parked-stop, parked_at, parks-distinct, parks-none, parks_acts}
 use Rattle.tier_laws.proofs.Maps.{Progress, Server, empty_server}

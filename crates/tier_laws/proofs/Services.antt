@@ -1,9 +1,7 @@
 -- A service whose segments are programs, with tokens that have the spelling of outcomes, meets what the laws ask.
-pub mod Pigeons
 pub mod Serial
 pub mod Stores
 pub mod Tokens
-use Rattle.std.proofs.Common.{ap, ◌∙◌}
 use Rattle.server_model.specs.Server.{Meaning}
 use Rattle.server_model.specs.Single.{booking_meaning}
 use Rattle.booking.specs.Again.{booking_again}

@@ -1,7 +1,6 @@
 -- A run comes to what its segments come to one after another, by the table.
-use Rattle.std.proofs.Common.{◌≡◌, ℕ, zero, suc, ◌<◌, Bool, true, false, cond, List, [], ◌∷◌, ◌++◌, length, map, refl, sym, ap, ◌∙◌, Option, Some, None, unwrap_or, arith}
-use Rattle.std.specs.Prelude.{slice_get, ◌==◌, nat_lt}
-use Rattle.std.proofs.lemmas.Bool.{and_from, eq-eqb, lt-ltb, ltb-true}
+use Rattle.std.proofs.Common.{◌≡◌, ℕ, zero, suc, Bool, true, false, cond, List, [], ◌∷◌, ◌++◌, length, map, refl, sym, ap, ◌∙◌, Option, Some, None, unwrap_or}
+use Rattle.std.specs.Prelude.{slice_get, ◌==◌}
 use Rattle.std.proofs.lemmas.List.{map-append}
 use Rattle.aeg_base.specs.Store.{Store}
 use Rattle.aeg_base.specs.declared.names.ReqId.{ReqId}
@@ -9,12 +8,12 @@ use Rattle.svc_api.specs.Plan.{Plan, store_after, ending_of}
 use Rattle.svc_api.specs.Segment.{Segment, Beginning, Folds, segment_of}
 use Rattle.svc_api.specs.declared.action.Ending.{Ending}
 use Rattle.exec_model.specs.declared.job.Seg.{Seg}
-use Rattle.exec_model.specs.Groups.{IsOrder}
+use Rattle.svc_api.proofs.Orders.{order_in}
 use Rattle.exec_model.specs.Jobs.{Beginnings, said_nothing, plan_in, plan_at, below, run_job, serial_store, serial_ends}
 use Rattle.exec_model.specs.Serial as plans
 use Rattle.exec_model.proofs.Outcome.{run_job-order, run_job-store, run_job-ends}
 use Rattle.round_model.specs.Lists.{tabulate}
-use Rattle.round_model.specs.Service.{Service, row_of, segment, serial, serial_end, times, all_below, each_once, is_order}
+use Rattle.round_model.specs.Service.{Service, row_of, segment, serial, serial_end, is_order}
 
 -- the programs come to the table
 abbrev pub Agrees : {B : Type 0} → Service B → Type 0
@@ -64,26 +63,6 @@ map-below f (suc n) = map-append f (below n) (n ∷ []) ∙ ap (λ xs. xs ++ f n
 tabulate-same : {A : Type 0} (n : ℕ) (f g : ℕ → A) → ((i : ℕ) → f i ≡ g i) → tabulate n f ≡ tabulate n g
 tabulate-same zero f g h = refl
 tabulate-same (suc n) f g h = λ i. h 0 i ∷ tabulate-same n (λ k. f (suc k)) (λ k. g (suc k)) (λ k. h (suc k)) i
-
--- ORDERS
-
-all_in : (n : ℕ) (order : List ℕ) → ((i : ℕ) → 0 < times i order → i < n) → all_below n order ≡ true
-all_in n [] h = refl
-all_in n (x ∷ xs) h = and_from (nat_lt x n) (all_below n xs) (lt-ltb x n (h x here)) (all_in n xs (λ i l. h i (omega (arith, l))))
-  where
-    here : 0 < times x (x ∷ xs)
-    here = let e : ◌≡◌ {A = ℕ} (cond (x == x) 1 0) 1 = ap {B = ℕ} (λ b. cond b 1 0) (eq-eqb x x refl) in omega (arith, e)
-
-each_in : (n : ℕ) (order : List ℕ) → ((i : ℕ) → i < n → times i order ≡ 1) → each_once n order ≡ true
-each_in zero order h = refl
-each_in (suc n) order h = and_from (times n order == 1) (each_once n order) (eq-eqb (times n order) 1 (h n (omega arith))) (each_in n order (λ i l. h i (omega (arith, l))))
-
-order_in : (n : ℕ) (order : List ℕ) → IsOrder n order → is_order n order ≡ true
-order_in n order h = and_from (all_below n order) (each_once n order) (all_in n order (λ i l. inside i (nat_lt i n) refl l)) (each_in n order (λ i l. h i ∙ ap {B = ℕ} (λ b. cond b 1 0) (lt-ltb i n l)))
-  where
-    inside : (i : ℕ) (b : Bool) → nat_lt i n ≡ b → 0 < times i order → i < n
-    inside i true e l = ltb-true i n e
-    inside i false e l = let z : ◌≡◌ {A = ℕ} (times i order) 0 = h i ∙ ap {B = ℕ} (λ b. cond b 1 0) e in absurd (omega (arith, z, l))
 
 -- THE RUN OF A JOB
 

@@ -15,7 +15,7 @@ use Rattle.exec_model.specs.Jobs.{Beginnings, plan_in, plan_at}
 use Rattle.exec_model.specs.Serial.{serial}
 use Rattle.tier_laws.specs.Said.{IsStore, IsJob}
 use Rattle.aeg_base.proofs.ChangeLaws.{key_parts}
-use Rattle.tier_laws.proofs.Services.Pigeons.{has}
+use Rattle.svc_api.proofs.Pigeons.{has}
 
 -- ONE SEGMENT
 

@@ -1,7 +1,7 @@
 -- The outcome of a job has a spelling, so that its token is read as that outcome.
-use Rattle.std.proofs.Common.{◌≡◌, ℕ, zero, suc, ◌+◌, ◌*◌, ◌<◌, ◌≤◌, Bool, true, false, cond, List, [], ◌∷◌, length, map, refl, sym, ap, ◌∙◌, subst, Some, arith, lit≤}
-use Rattle.std.specs.Prelude.{slice_get, T, nat_lt, ◌==◌, ◌||◌}
-use Rattle.std.proofs.lemmas.Bool.{and_parts, eq-eqb, eqb-true, ltb-true}
+use Rattle.std.proofs.Common.{◌≡◌, ℕ, zero, suc, ◌*◌, ◌≤◌, Bool, true, false, cond, List, [], ◌∷◌, length, map, refl, sym, ap, ◌∙◌, subst, Some, arith, lit≤}
+use Rattle.std.specs.Prelude.{slice_get, T, ◌==◌, ◌||◌}
+use Rattle.std.proofs.lemmas.Bool.{eq-eqb, eqb-true}
 use Rattle.std.proofs.lemmas.Bool.Decides.{nat_tests}
 use Rattle.std.proofs.lemmas.List.{append-nil, length-map}
 use Rattle.std.specs.List.{AllByRecursion}
@@ -23,11 +23,11 @@ use Rattle.log_values.specs.Reading.{whole}
 use Rattle.log_values.proofs.OutcomeGrammar.{outcome_grammar}
 use Rattle.aeg_wire.specs.Fields.{Read}
 use Rattle.round_model.specs.Lists.{tabulate}
-use Rattle.round_model.specs.Service.{Service, segment, serial, serial_end, times, all_below, each_once, is_order, finish}
+use Rattle.round_model.specs.Service.{Service, segment, serial, serial_end, is_order, finish}
 use Rattle.tier_laws.specs.Said.{IsStore, IsJob}
 use Rattle.aeg_base.proofs.ChangeLaws.{all_among, key_parts, same_itself, sorted_changes}
-use Rattle.tier_laws.proofs.Legal.{once-at}
-use Rattle.tier_laws.proofs.Services.Pigeons.{has, IsOnce, Tells, no_longer}
+use Rattle.svc_api.proofs.Pigeons.{has, IsOnce, Tells, no_longer}
+use Rattle.svc_api.proofs.Orders.{order_short}
 use Rattle.tier_laws.proofs.Services.Serial.{Agrees, segment_is, serial_is}
 use Rattle.tier_laws.proofs.Services.Stores.{AreProper, AreBounded, bounded, one_store_in, one_end_in, serial_in, all_wrote, few_keys, kept_value}
 use Rattle.tier_laws.proofs.Lists.{length-tabulate}
@@ -97,56 +97,6 @@ few_changes s t wrote a b kept = omega (arith, length-map (changes s t) (λ (p :
     at : (q : Key) (c : Bool) → has same_key wrote q ≡ c → (value_at s q == value_at t q) ≡ false → c ≡ true
     at q true e d = refl
     at q false e d = absurd (let f : (value_at s q == value_at t q) ≡ true = eq-eqb (value_at s q) (value_at t q) (sym (kept q e)) in cc)
-
--- AN ORDER IS NO LONGER THAN ITS JOB
-
-number_tells : Tells {A = ℕ} (λ a b. a == b)
-number_tells = record { equal = eqb-true; itself = λ x. eq-eqb x x refl }
-
-has_times : (x : ℕ) (xs : List ℕ) → has (λ a b. a == b) xs x ≡ true → 0 < times x xs
-has_times x [] h = absurd (cc)
-has_times x (y ∷ ys) h = at (x == y) refl h (has_times x ys)
-  where
-    at : (c : Bool) → (x == y) ≡ c → (c || has (λ a b. a == b) ys x) ≡ true → (has (λ a b. a == b) ys x ≡ true → 0 < times x ys) → 0 < cond (y == x) 1 0 + times x ys
-    at true e f rec = let g : ◌≡◌ {A = ℕ} (cond (y == x) 1 0) 1 = ap {B = ℕ} (λ b. cond b 1 0) (eq-eqb y x (sym (eqb-true x y e))) in omega (arith, g)
-    at false e f rec = let g = rec f in omega (arith, g)
-
-once_in : (n : ℕ) (xs : List ℕ) → all_below n xs ≡ true → ((i : ℕ) → i < n → times i xs ≤ 1) → IsOnce (λ a b. a == b) xs
-once_in n [] a h = tt
-once_in n (x ∷ xs) a h =
-    let p = and_parts (nat_lt x n) (all_below n xs) a in
-    (none (has (λ a b. a == b) xs x) refl (h x (omega (arith, ltb-true x n p.0))), once_in n xs p.1 (λ i l. omega (arith, h i l)))
-  where
-    none : (c : Bool) → has (λ a b. a == b) xs x ≡ c → times x (x ∷ xs) ≤ 1 → c ≡ false
-    none false e l = refl
-    none true e l = let g : ◌≡◌ {A = ℕ} (cond (x == x) 1 0) 1 = ap {B = ℕ} (λ b. cond b 1 0) (eq-eqb x x refl) in let k = has_times x xs e in absurd (omega (arith, g, k, l))
-
-member_below : (n : ℕ) (xs : List ℕ) (z : ℕ) → all_below n xs ≡ true → has (λ a b. a == b) xs z ≡ true → z < n
-member_below n [] z a h = absurd (cc)
-member_below n (x ∷ xs) z a h = at (z == x) refl h (member_below n xs z (and_parts (nat_lt x n) (all_below n xs) a).1)
-  where
-    at : (c : Bool) → (z == x) ≡ c → (c || has (λ a b. a == b) xs z) ≡ true → (has (λ a b. a == b) xs z ≡ true → z < n) → z < n
-    at true e f rec = omega (arith, eqb-true z x e, ltb-true x n (and_parts (nat_lt x n) (all_below n xs) a).0)
-    at false e f rec = rec f
-
-has_tabulate : (n : ℕ) (f : ℕ → ℕ) (i : ℕ) → i < n → has (λ a b. a == b) (tabulate n f) (f i) ≡ true
-has_tabulate zero f i l = absurd (omega (arith, l))
-has_tabulate (suc n) f zero l = ap (λ b. b || has (λ a b. a == b) (tabulate n (λ k. f (suc k))) (f 0)) (eq-eqb (f 0) (f 0) refl)
-has_tabulate (suc n) f (suc i) l = later (f (suc i) == f 0) (has_tabulate n (λ k. f (suc k)) i (omega (arith, l)))
-  where
-    later : (c : Bool) → has (λ a b. a == b) (tabulate n (λ k. f (suc k))) (f (suc i)) ≡ true → (c || has (λ a b. a == b) (tabulate n (λ k. f (suc k))) (f (suc i))) ≡ true
-    later true h = refl
-    later false h = h
-
-order_short : (n : ℕ) (order : List ℕ) → is_order n order ≡ true → length order ≤ n
-order_short n order e =
-    let p = and_parts (all_below n order) (each_once n order) e in
-    omega (
-      arith,
-      length-tabulate n (λ i. i),
-      no_longer (λ a b. a == b) number_tells order (tabulate n (λ i. i))
-          (once_in n order p.0 (λ i l. let o = once-at n i order l p.1 in omega (arith, o))) (λ z h. has_tabulate n (λ i. i) z (member_below n order z p.0 h)),
-    )
 
 -- THE ENDS
 

@@ -1,7 +1,7 @@
 use Rattle.std.proofs.Common.{◌∙◌, ap, length}
 use Rattle.exec_model.specs.Groups.{times}
 use Rattle.exec_model.specs.Jobs.{below}
-use Rattle.rollback.proofs.Writes.{below_order}
+use Rattle.svc_api.proofs.Orders.{below_order}
 use Rattle.rollback.proofs.cold.run_in_job_order.Goals as goal
 
 pub run_serial-requires-clause-order : goal.run_serial-requires-clause-order
