@@ -2,6 +2,7 @@
 use Rattle.std.proofs.Common.{◌≡◌, ◌≢◌, ℕ, ◌+◌, ◌-◌, ◌≤◌, min, max, List, [], ◌∷◌, ◌++◌, length, take, drop, Bool, true, false, cond, ◌&&◌, ◌||◌, nat_le, refl, ◌∙◌, ap, arith, length-drop, take-append-drop}
 use Rattle.std.proofs.lemmas.Bool.Decides.{nat_tests}
 use Rattle.std.proofs.lemmas.List.{take_at, take_all, append-nil, length-take}
+use Rattle.std.proofs.lemmas.Bool.{and_from}
 use Rattle.aeg_disk.specs.Disk.{DiskState, Put, Settled, Spoilt, Done, Fault, Stop, Rose, written}
 use Rattle.aeg_disk.specs.Memory.{Change, start_of, undone, kept_of, ranges_of, past_of, is_fit, is_logged, memory_state, write_of, mark_of, loss_of}
 use Rattle.aeg_disk.specs.Undo.{undo_written, written_long}
@@ -11,11 +12,7 @@ fit_true a b n l m k p q r s = grind (arith, nat_tests)
 
 logged_true : (p q r : Bool) → q ≡ true → r ≡ true → ((p || q) && r) ≡ true
 logged_true true q r e f = f
-logged_true false q r e f = cc_true q r e f
-  where
-    cc_true : (q r : Bool) → q ≡ true → r ≡ true → (q && r) ≡ true
-    cc_true true r e f = f
-    cc_true false r e f = cc
+logged_true false q r e f = and_from q r e f
 
 settled_true : (p q r : Bool) → p ≡ true → r ≡ true → ((p || q) && r) ≡ true
 settled_true true q r e f = f

@@ -1,7 +1,8 @@
 -- A grammar both ways: what is read was spelled so, and what is spelled so is read, whatever follows.
-use Rattle.std.proofs.Common.{◌≡◌, ℕ, suc, ◌+◌, ◌<◌, Bool, true, false, cond, List, ◌∷◌, ◌++◌, get_or, take, drop, Option, Some, None, refl, sym, ap, subst, ◌∙◌, append_assoc, arith, inl, inr}
+use Rattle.std.proofs.Common.{◌≡◌, ℕ, suc, ◌+◌, ◌<◌, Bool, true, List, ◌∷◌, ◌++◌, get_or, take, drop, Some, None, refl, sym, ap, subst, ◌∙◌, append_assoc, arith, inl, inr}
 use Rattle.std.proofs.lemmas.Bool.{cases_lt}
 use Rattle.std.proofs.lemmas.List.{length-take, get_or-drop, get_or-take, get_or_past}
+use Rattle.std.proofs.lemmas.Option.{same_Some, cond_some}
 use Rattle.aeg_wire.specs.Fields.{Read, ◌>>=◌}
 use Rattle.aeg_wire.specs.Formats.{made, kept, both}
 
@@ -35,23 +36,13 @@ pub record IsGrammar {A : Type 0} (fits : A → Type 0) (spelling : A → List �
 
 -- ---- steps that gave something
 
-abbrev found : {A : Type 0} → A → Option A
-found x = Some x
-
-pub some_is : {A : Type 0} (x y : A) → found x ≡ found y → x ≡ y
-some_is x y e = cc
-
 pub bind_some : {A B : Type 0} (r : Read A) (next : A × List ℕ → Read B) (y : B × List ℕ) → (r >>= next) ≡ Some y → (x : A × List ℕ) × (r ≡ Some x) × (next x ≡ Some y)
 bind_some (Some x) next y e = (x, refl, e)
 bind_some None next y e = absurd cc
 
 pub made_some : {A B : Type 0} (f : A → B) (r : Read A) (y : B × List ℕ) → made f r ≡ Some y → (x : A × List ℕ) × (r ≡ Some x) × ((f x.0, x.1) ≡ y)
-made_some f (Some x) y e = (x, refl, some_is (f x.0, x.1) y e)
+made_some f (Some x) y e = (x, refl, same_Some (f x.0, x.1) y e)
 made_some f None y e = absurd cc
-
-pub cond_some : {A : Type 0} (b : Bool) (x y : A) → cond b (found x) None ≡ Some y → (b ≡ true) × (x ≡ y)
-cond_some true x y e = (refl, some_is x y e)
-cond_some false x y e = absurd cc
 
 pub kept_some : {A : Type 0} (test : A → Bool) (r : Read A) (y : A × List ℕ) → kept test r ≡ Some y → (r ≡ Some y) × (test y.0 ≡ true)
 kept_some test (Some x) y e =
@@ -109,5 +100,5 @@ both_grammar fits spelling read fits2 spelling2 read2 g h = record {
 pub distinct : {A : Type 0} (fits : A → Type 0) (spelling : A → List ℕ) (read : List ℕ → Read A)
     → IsGrammar fits spelling read → (a b : A) (x y : List ℕ) → fits a → fits b → spelling a ++ x ≡ spelling b ++ y → (a ≡ b) × (x ≡ y)
 distinct fits spelling read g a b x y fa fb e =
-    let same = some_is (a, x) (b, y) (sym (g.again a x fa) ∙ ap read e ∙ g.again b y fb) in
+    let same = same_Some (a, x) (b, y) (sym (g.again a x fa) ∙ ap read e ∙ g.again b y fb) in
     (ap (λ (p : _ × List ℕ). p.0) same, ap (λ (p : _ × List ℕ). p.1) same)

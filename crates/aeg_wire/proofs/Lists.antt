@@ -1,12 +1,14 @@
 -- The grammars of lists of fields, and the loops that read them.
-use Rattle.std.proofs.Common.{◌≡◌, ℕ, zero, suc, ◌+◌, ◌-◌, ◌<◌, ◌≤◌, true, List, [], ◌∷◌, ◌++◌, length, Some, None, refl, sym, ap, subst, ◌∙◌, append_assoc, arith}
+use Rattle.std.proofs.Common.{◌≡◌, ℕ, zero, suc, ◌+◌, ◌-◌, ◌<◌, ◌≤◌, List, [], ◌∷◌, ◌++◌, length, Some, None, refl, sym, ap, subst, ◌∙◌, append_assoc, arith}
 use Rattle.std.specs.Prelude.{nat_le}
 use Rattle.std.specs.List.{flat_map, AllByRecursion}
 use Rattle.std.proofs.lemmas.List.{append-nil}
 use Rattle.std.proofs.lemmas.List.Concat.{flat_map-cons}
+use Rattle.std.proofs.lemmas.Bool.{le-leb, leb-true}
+use Rattle.std.proofs.lemmas.Option.{same_Some}
 use Rattle.aeg_wire.specs.Fields.{Read, byte_at}
 use Rattle.aeg_wire.specs.Formats.{made, kept, list_at, counted_at}
-use Rattle.aeg_wire.proofs.Grammar.{IsBytes, Takes, Takes-then, IsGrammar, some_is, bind_some, made_some, kept_some}
+use Rattle.aeg_wire.proofs.Grammar.{IsBytes, Takes, Takes-then, IsGrammar, bind_some, made_some, kept_some}
 use Rattle.aeg_wire.proofs.Numbers.{one_byte}
 
 list_takes : {A : Type 0} (fits : A → Type 0) (spelling : A → List ℕ) (one : List ℕ → Read A) → IsGrammar fits spelling one
@@ -14,7 +16,7 @@ list_takes : {A : Type 0} (fits : A → Type 0) (spelling : A → List ℕ) (one
     → Takes bytes (flat_map spelling xs) rest × ((length xs ≡ n) × AllByRecursion fits xs)
 unfolding list_at
 list_takes fits spelling one g zero bytes xs rest are e =
-    subst (λ (p : List _ × List ℕ). Takes bytes (flat_map spelling p.0) p.1 × ((length p.0 ≡ 0) × AllByRecursion fits p.0)) (some_is ([], bytes) (xs, rest) e)
+    subst (λ (p : List _ × List ℕ). Takes bytes (flat_map spelling p.0) p.1 × ((length p.0 ≡ 0) × AllByRecursion fits p.0)) (same_Some ([], bytes) (xs, rest) e)
     (record { parts = refl; rest_fits = are }, (refl, tt))
 list_takes fits spelling one g (suc n) bytes xs rest are e =
     let b = bind_some (one bytes) (λ x. made (λ others. x.0 ∷ others) (list_at one n x.1)) (xs, rest) e in
@@ -40,12 +42,6 @@ list_grammar fits spelling one g n = record {
   again = λ xs rest fit. subst (λ (k : ℕ). list_at one k (flat_map spelling xs ++ rest) ≡ Some (xs, rest)) fit.0 (list_again fits spelling one g xs rest fit.1);
 }
 
-leb-true : (a b : ℕ) → nat_le a b ≡ true → a ≤ b
-leb-true a b e = grind (arith)
-
-leb-is : (a b : ℕ) → a ≤ b → nat_le a b ≡ true
-leb-is a b e = grind (arith)
-
 pub counted_grammar : {A : Type 0} (fits : A → Type 0) (spelling : A → List ℕ) (one : List ℕ → Read A) → IsGrammar fits spelling one
     → (limit : ℕ) → limit < 256 → IsGrammar (λ xs. (length xs ≤ limit) × AllByRecursion fits xs) (λ xs. length xs ∷ flat_map spelling xs) (counted_at limit one)
 counted_grammar fits spelling one g limit small = record {
@@ -57,7 +53,7 @@ counted_grammar fits spelling one g limit small = record {
       let all = Takes-then bytes (b.0.0 ∷ []) b.0.1 (flat_map spelling xs) rest first.0 others.0 in
       let below : b.0.0 ≤ limit = leb-true b.0.0 limit k.1 in
       (subst (λ (n : ℕ). Takes bytes (n ∷ flat_map spelling xs) rest) (sym others.1.0) all, (subst (λ (n : ℕ). n ≤ limit) (sym others.1.0) below, others.1.1));
-  again = λ xs rest fit. rw (leb-is (length xs) limit fit.0, list_again fits spelling one g xs rest fit.1) refl;
+  again = λ xs rest fit. rw (le-leb (length xs) limit fit.0, list_again fits spelling one g xs rest fit.1) refl;
 }
 
 -- ---- a loop over so many fields

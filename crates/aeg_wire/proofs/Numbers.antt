@@ -4,9 +4,10 @@ use Rattle.std.specs.Int.{Width, w16, w32, w64, byte_len, from_be_bytes, to_be_b
 use Rattle.std.proofs.lemmas.Bool.{ltb-false, le-ltb}
 use Rattle.std.proofs.lemmas.List.{take_at, drop_at, take-append-drop, length-append, length-take}
 use Rattle.std.proofs.lemmas.Nat.{be_bytes_2, be_bytes_4, be_bytes_8, from_be_bytes-to_be_bytes_2, from_be_bytes-to_be_bytes_4, from_be_bytes-to_be_bytes_8}
+use Rattle.std.proofs.lemmas.Option.{same_Some}
 use Rattle.aeg_base.specs.declared.limits.TheConstants.{TEXT_BYTES}
 use Rattle.aeg_wire.specs.Fields.{Read, byte_at, number_at, bytes_at, text, text_at}
-use Rattle.aeg_wire.proofs.Grammar.{IsBytes, IsBytes-drop, IsBytes-take, IsBytes-rest, Takes, IsGrammar, some_is}
+use Rattle.aeg_wire.proofs.Grammar.{IsBytes, IsBytes-drop, IsBytes-take, IsBytes-rest, Takes, IsGrammar}
 
 pub record IsWide (w : Width) (limit : ℕ) : Type 0 where
   pub len : (n : ℕ) → length (to_be_bytes w n) ≡ byte_len w
@@ -47,7 +48,7 @@ bytes_take n bytes some rest fits e =
   where
     cond_not : {A : Type 0} (b : Bool) (x y : A) → cond b None (Some x) ≡ Some y → (b ≡ false) × (x ≡ y)
     cond_not true x y e = absurd cc
-    cond_not false x y e = (refl, some_is x y e)
+    cond_not false x y e = (refl, same_Some x y e)
 
 pub bytes_again : (some rest : List ℕ) → bytes_at (length some) (some ++ rest) ≡ Some (some, rest)
 bytes_again some rest =
@@ -57,7 +58,7 @@ bytes_again some rest =
 by_test : (b : Bool) (m n : ℕ) (front after rest : List ℕ) → cond {A = Read ℕ} b None (Some (m, after)) ≡ Some (n, rest) → (cond {A = Read (List ℕ)} b None (Some (front, after)) ≡ Some (front, rest)) × (n ≡ m)
 by_test true m n front after rest e = absurd cc
 by_test false m n front after rest e =
-    let same = some_is (m, after) (n, rest) e in
+    let same = same_Some (m, after) (n, rest) e in
     (ap (λ (p : ℕ × List ℕ). Some (front, p.1)) same, ap (λ (p : ℕ × List ℕ). p.0) (sym same))
 
 -- a number's bytes, before they are a number
@@ -89,7 +90,7 @@ eight_bytes = number_grammar w64 (2 ^ 64) wide64
 byte_takes : (bytes : List ℕ) (n : ℕ) (rest : List ℕ) → IsBytes bytes → byte_at bytes ≡ Some (n, rest) → Takes bytes (n ∷ []) rest × (n < 256)
 byte_takes [] n rest fits e = absurd cc
 byte_takes (b ∷ bytes) n rest fits e =
-    subst (λ (p : ℕ × List ℕ). Takes (b ∷ bytes) (p.0 ∷ []) p.1 × (p.0 < 256)) (some_is (b, bytes) (n, rest) e)
+    subst (λ (p : ℕ × List ℕ). Takes (b ∷ bytes) (p.0 ∷ []) p.1 × (p.0 < 256)) (same_Some (b, bytes) (n, rest) e)
     (record { parts = refl; rest_fits = IsBytes-rest b bytes fits }, fits 0)
 
 pub one_byte : IsGrammar (λ n. n < 256) (λ n. n ∷ []) byte_at

@@ -1,5 +1,6 @@
 -- The answer to an input, case by case.
-use Rattle.std.proofs.Common.{◌≡◌, ℕ, ◌+◌, ◌<◌, ◌≤◌, List, [], ◌∷◌, Ok, refl, sym, ap, ◌∙◌, length, nat_lt, true, false, cond, arith}
+use Rattle.std.proofs.Common.{◌≡◌, ℕ, ◌+◌, ◌<◌, ◌≤◌, List, [], ◌∷◌, Ok, refl, sym, ap, ◌∙◌, length, nat_lt, cond}
+use Rattle.std.proofs.lemmas.Bool.{lt-ltb, le-ltb}
 use Rattle.aeg_base.specs.declared.limits.TheConstants.{INPUT_BYTES, INPUT_LINES}
 use Rattle.server_model.specs.Backends.{Amounts}
 use Rattle.server_model.specs.Server.{Server, Step, Refused, Goes, opening_server, step}
@@ -11,28 +12,22 @@ use Rattle.aegean_main.specs.Running.{line_run, run_lines}
 use Rattle.aegean_main.specs.declared.status.LimitKind.TheVariants as limits
 use Rattle.aegean_main.specs.declared.status.Status.TheVariants.{Script, Limit}
 
-pub nat_lt-above : (a b : ℕ) → a < b → nat_lt a b ≡ true
-nat_lt-above a b h = grind arith
-
-pub nat_lt-within : (a b : ℕ) → b ≤ a → nat_lt a b ≡ false
-nat_lt-within a b h = grind arith
-
 -- more lines than the limit
 pub answer_of-lines : (input : List ℕ) → length input ≤ INPUT_BYTES → INPUT_LINES < length (lines_of input) → answer_of input ≡ refused_with (Limit limits.Lines)
 answer_of-lines input bytes lines =
-    ap (λ b. cond b (refused_with (Limit limits.Bytes)) (cond (nat_lt INPUT_LINES (length (lines_of input))) (refused_with (Limit limits.Lines)) (answer_judged (judgement input)))) (nat_lt-within INPUT_BYTES (length input) bytes)
-    ∙ ap (λ b. cond b (refused_with (Limit limits.Lines)) (answer_judged (judgement input))) (nat_lt-above INPUT_LINES (length (lines_of input)) lines)
+    ap (λ b. cond b (refused_with (Limit limits.Bytes)) (cond (nat_lt INPUT_LINES (length (lines_of input))) (refused_with (Limit limits.Lines)) (answer_judged (judgement input)))) (le-ltb INPUT_BYTES (length input) bytes)
+    ∙ ap (λ b. cond b (refused_with (Limit limits.Lines)) (answer_judged (judgement input))) (lt-ltb INPUT_LINES (length (lines_of input)) lines)
 
 -- an input within the limits
 pub answer_of-judged : (input : List ℕ) → length input ≤ INPUT_BYTES → length (lines_of input) ≤ INPUT_LINES → answer_of input ≡ answer_judged (judgement input)
 answer_of-judged input bytes lines =
-    ap (λ b. cond b (refused_with (Limit limits.Bytes)) (cond (nat_lt INPUT_LINES (length (lines_of input))) (refused_with (Limit limits.Lines)) (answer_judged (judgement input)))) (nat_lt-within INPUT_BYTES (length input) bytes)
-    ∙ ap (λ b. cond b (refused_with (Limit limits.Lines)) (answer_judged (judgement input))) (nat_lt-within INPUT_LINES (length (lines_of input)) lines)
+    ap (λ b. cond b (refused_with (Limit limits.Bytes)) (cond (nat_lt INPUT_LINES (length (lines_of input))) (refused_with (Limit limits.Lines)) (answer_judged (judgement input)))) (le-ltb INPUT_BYTES (length input) bytes)
+    ∙ ap (λ b. cond b (refused_with (Limit limits.Lines)) (answer_judged (judgement input))) (le-ltb INPUT_LINES (length (lines_of input)) lines)
 
 -- more bytes than the limit
 pub answer_of-bytes : (input : List ℕ) → INPUT_BYTES < length input → answer_of input ≡ refused_with (Limit limits.Bytes)
 answer_of-bytes input bytes =
-    ap (λ b. cond b (refused_with (Limit limits.Bytes)) (cond (nat_lt INPUT_LINES (length (lines_of input))) (refused_with (Limit limits.Lines)) (answer_judged (judgement input)))) (nat_lt-above INPUT_BYTES (length input) bytes)
+    ap (λ b. cond b (refused_with (Limit limits.Bytes)) (cond (nat_lt INPUT_LINES (length (lines_of input))) (refused_with (Limit limits.Lines)) (answer_judged (judgement input)))) (lt-ltb INPUT_BYTES (length input) bytes)
 
 pub answer_of-bad : (input : List ℕ) (line row : ℕ) → length input ≤ INPUT_BYTES → length (lines_of input) ≤ INPUT_LINES → judgement input ≡ Fails line row → answer_of input ≡ refused_with (Script line row)
 answer_of-bad input line row bytes lines e = answer_of-judged input bytes lines ∙ ap answer_judged e

@@ -1,11 +1,11 @@
 -- How the disks fare in a run, event by event.
-use Rattle.std.proofs.Common.{◌≡◌, ◌⊎◌, inl, inr, ℕ, zero, suc, ◌+◌, ◌<◌, ◌≤◌, ◌==◌, ◌&&◌, nat_le, Bool, true, false, List, [], ◌∷◌, ◌++◌, length, map, Option, Some, None, get_or, refl, sym, ap, subst, ◌∙◌, if◌then◌else◌, arith}
+use Rattle.std.proofs.Common.{◌≡◌, ◌⊎◌, inl, inr, ℕ, zero, suc, ◌+◌, ◌<◌, ◌≤◌, ◌&&◌, nat_le, Bool, true, false, List, [], ◌∷◌, ◌++◌, length, map, Option, Some, None, get_or, refl, sym, ap, subst, ◌∙◌, if◌then◌else◌, arith}
 use Rattle.std.specs.Prelude.{slice_get, min, ◌-◌, ◌^◌}
 use Rattle.std.proofs.lemmas.Option.{slice_get_within, slice_get-get_or}
+use Rattle.std.proofs.lemmas.Bool.{leb-true, and_parts, false_from_ne_true, eqb-true}
 use Rattle.aeg_base.specs.declared.names.NodeId.{NodeId}
 use Rattle.aeg_disk.specs.Disk.{DiskState, Rose}
 use Rattle.server_model.specs.Backends.{Amounts}
-use Rattle.log_values.proofs.BoolTests.{le_true, and_true}
 use Rattle.run_model.specs.declared.trace.Fared.{Fared}
 use Rattle.run_model.specs.declared.trace.Fared.TheVariants.{Fine, Cut, Fault}
 use Rattle.run_model.specs.declared.trace.Found.{Found}
@@ -27,6 +27,7 @@ use Rattle.world.specs.Disks.{AreDisks, is_fault, is_faulty, place_of, place_in,
 use Rattle.aegean_main.specs.DiskFaults.{is_place, fails_at, faults_at, CountsFaults, NoneRose}
 use Rattle.aegean_main.specs.Playing.{DisksStand}
 use Rattle.aegean_main.specs.Replay.{tiers}
+use Rattle.world.proofs.Counted.{same_read}
 
 -- PLACES
 
@@ -35,9 +36,6 @@ there : (xs ys : List DiskState) (x : ℕ) (a : DiskState) → length ys ≡ len
 there xs ys x a e h =
     let l : x < length xs = slice_get_within xs x a h in
     (get_or ys x a, slice_get-get_or ys x a (omega (arith, l, e)))
-
-same_some : (o : Option DiskState) (a b : DiskState) → o ≡ Some a → o ≡ Some b → a ≡ b
-same_some o a b e f = let both : Some a ≡ Some b = sym e ∙ f in cc
 
 -- COUNTS
 
@@ -63,10 +61,6 @@ none_rose_at first now new x h n r =
     let less : a.0.faults ≤ r.0.faults = h.1 x a.0 r.0 a.1 r.2 in
     let rose : Rose r.0.faults r.1.faults = r.4 in
     n x a.0 r.1 a.1 r.3 (omega (arith, rose, less))
-
-not_faulty : (b : Bool) → (b ≡ true → ⊥) → b ≡ false
-not_faulty true h = absurd (h refl)
-not_faulty false h = refl
 
 -- SURE EVENTS
 
@@ -107,25 +101,22 @@ faults-append c w x (e ∷ es) fs =
     ap (λ (z : ℕ). (if fails_at w x e then 1 else 0) + z) (faults-append c (after c w e) x es fs)
     ∙ plus_assoc (if fails_at w x e then 1 else 0) (faults_at c (after c w e) x es) (faults_at c (run c es (after c w e)) x fs)
 
-nat_eq : (a b : ℕ) → a == b ≡ true → a ≡ b
-nat_eq a b t = grind (arith)
-
 same_place : (x y : ℕ) (o : Option ℕ) → is_place x o ≡ true → o ≡ Some y → x ≡ y
 same_place x y None h e = absurd (cc)
-same_place x y (Some z) h e = let same : z ≡ y = cc in nat_eq x z h ∙ same
+same_place x y (Some z) h e = let same : z ≡ y = cc in eqb-true x z h ∙ same
 
 -- the disk at x counted its fault
 rose_there : (w : BookingWorld) (old new : List DiskState) (x : ℕ) (e : TraceEvent) → HasCause w old new e → fails_at w x e ≡ true → RoseAt old new x
 rose_there w old new x e h f =
-    let both = and_true (is_faulty e) (is_place x (place_in w e)) f in
+    let both = and_parts (is_faulty e) (is_place x (place_in w e)) f in
     let cause = h both.0 in
     let same : x ≡ cause.0 = same_place x cause.0 (place_in w e) both.1 cause.1 in
     subst (λ (z : ℕ). RoseAt old new z) (sym same) cause.2
 
 rose_by : (old new : List DiskState) (x : ℕ) (a b : DiskState) → RoseAt old new x → slice_get old x ≡ Some a → slice_get new x ≡ Some b → Rose a.faults b.faults
 rose_by old new x a b r e f =
-    let one : r.0 ≡ a = same_some (slice_get old x) r.0 a r.2 e in
-    let two : r.1 ≡ b = same_some (slice_get new x) r.1 b r.3 f in
+    let one : r.0 ≡ a = same_read (slice_get old x) r.0 a r.2 e in
+    let two : r.1 ≡ b = same_read (slice_get new x) r.1 b r.3 f in
     subst (λ (z : DiskState). Rose z.faults b.faults) one (subst (λ (z : DiskState). Rose r.0.faults z.faults) two r.4)
 
 -- one event more
@@ -152,7 +143,7 @@ disks_more script es e first now new s f cause m d =
     let on : world (tiers script) (es ++ e ∷ []) ≡ after (tiers script) (world (tiers script) es) e = run-append (tiers script) es (e ∷ []) start in
     let had : NoneRose first new → NoneRose first now = none_rose_before first now new m in
     let sure : NoneRose first new → is_sure e ≡ true = λ n.
-    is_sure_by (world (tiers script) es) e (s.sole (had n)) f (not_faulty (is_faulty e) (λ t. let c = cause t in none_rose_at first now new c.0 s.later n c.2)) in
+    is_sure_by (world (tiers script) es) e (s.sole (had n)) f (false_from_ne_true (is_faulty e) (λ t. let c = cause t in none_rose_at first now new c.0 s.later n c.2)) in
     record {
       leaves = record {
         disks = d;
@@ -168,7 +159,7 @@ disks_more script es e first now new s f cause m d =
 first_sure : (c : Config Amounts) (es : List TraceEvent) (w : BookingWorld) (old new : List DiskState) → AllFind c w es → AllCaused old new es → NoneRose old new → IsSole w → AllSure es × IsSole (run c es w)
 first_sure c [] w old new f h n s = (tt, s)
 first_sure c (e ∷ es) w old new f h n s =
-    let sure : is_sure e ≡ true = is_sure_by w e s f.0 (not_faulty (is_faulty e) (λ t. let cause = h.0 t in n cause.0 cause.2.0 cause.2.1 cause.2.2 cause.2.3 cause.2.4)) in
+    let sure : is_sure e ≡ true = is_sure_by w e s f.0 (false_from_ne_true (is_faulty e) (λ t. let cause = h.0 t in n cause.0 cause.2.0 cause.2.1 cause.2.2 cause.2.3 cause.2.4)) in
     let rest = first_sure c es (after c w e) old new f.1 h.1 n (sole_after c w e sure s) in
     ((sure, rest.0), rest.1)
 
@@ -186,11 +177,11 @@ nodes_ascend (suc (suc (suc u))) l = absurd (omega arith)
 -- a restart that failed at x is one of the node there
 fails_here : (w : BookingWorld) (x : ℕ) (n : NodeId) (e : TraceEvent) (found : Found) → e ≡ Restart n found → fails_at w x e ≡ true → x ≡ place_of n
 fails_here w x n e found r f =
-    let both = and_true (is_faulty e) (is_place x (place_in w e)) f in
+    let both = and_parts (is_faulty e) (is_place x (place_in w e)) f in
     same_place x (place_of n) (place_in w e) both.1 (ap (λ (z : TraceEvent). place_in w z) r)
 
 within : (a b : ℕ) (t : Bool) → nat_le a b && t ≡ true → (a ≤ b) × (t ≡ true)
-within a b t h = let both = and_true (nat_le a b) t h in (le_true a b both.0, both.1)
+within a b t h = let both = and_parts (nat_le a b) t h in (leb-true a b both.0, both.1)
 
 none_below : (c : Config Amounts) (ns : List NodeId) (es : List TraceEvent) (w : BookingWorld) (low x : ℕ) → AllBecome (map (λ n. Restart n (Reads 0)) ns) es → ascends low ns ≡ true → x < low → faults_at c w x es ≡ 0
 none_below c [] [] w low x h a l = refl
@@ -199,7 +190,7 @@ none_below c (n ∷ ns) [] w low x h a l = absurd h
 none_below c (n ∷ ns) (e ∷ es) w low x h a l =
     let r = becomes_restart n e h.0 in
     let up = within low (place_of n) (ascends (suc (place_of n)) ns) a in
-    let not_here : fails_at w x e ≡ false = not_faulty (fails_at w x e) (λ t. let same : x ≡ place_of n = fails_here w x n e r.0 r.1 t in omega (arith, same, up.0, l)) in
+    let not_here : fails_at w x e ≡ false = false_from_ne_true (fails_at w x e) (λ t. let same : x ≡ place_of n = fails_here w x n e r.0 r.1 t in omega (arith, same, up.0, l)) in
     ap (λ (z : Bool). (if z then 1 else 0) + faults_at c (after c w e) x es) not_here ∙ sym (none_more (faults_at c (after c w e) x es)) ∙ none_below c ns es (after c w e) (suc (place_of n)) x h.1 up.1 (omega (arith, up.0, l))
 
 -- a disk failed at most once, and counted it

@@ -1,10 +1,11 @@
 -- No number of a request is past its range.
-use Rattle.std.proofs.Common.{◌≡◌, ℕ, ◌≤◌, ◌&&◌, Bool, true, false, List, [], ◌∷◌, Option, None, Some, if◌then◌else◌, arith, refl}
+use Rattle.std.proofs.Common.{◌≡◌, ℕ, ◌≤◌, ◌&&◌, Bool, true, false, List, [], ◌∷◌, Option, None, Some, if◌then◌else◌, refl}
 use Rattle.std.specs.Prelude.{nat_le, codes}
 use Rattle.std.specs.Option.{option_and_then, option_map}
 use Rattle.std.specs.Str.{bytes_eq}
 use Rattle.std.specs.declared.result.Result.{Result}
 use Rattle.std.specs.declared.result.Result.TheVariants.{Ok, Err}
+use Rattle.std.proofs.lemmas.Bool.{leb-true}
 use Rattle.server_model.specs.Words.{words_of, number_in, is_numeral, value_of}
 use Rattle.server_model.specs.Requests.{request_of, request_in, in_range, open_of, book_of, cancel_of, look_of}
 use Rattle.server_model.specs.declared.request.Request.{Request}
@@ -42,9 +43,6 @@ has_then : {A B : Type 0} (P : A → Type 0) (Q : B → Type 0) (f : A → Optio
 has_then P Q f None h g = tt
 has_then P Q f (Some x) h g = g x h
 
-le_of : (a b : ℕ) → nat_le a b ≡ true → a ≤ b
-le_of a b e = grind (arith)
-
 chosen : (a b c : Bool) (v high : ℕ) → (c ≡ true → v ≤ high) → Has (λ n. n ≤ high) (if a && (b && c) then Some v else None)
 chosen true true true v high h = h refl
 chosen true true false v high h = tt
@@ -52,7 +50,7 @@ chosen true false c v high h = tt
 chosen false b c v high h = tt
 
 number_high : (low high : ℕ) (word : List ℕ) → Has (λ n. n ≤ high) (number_in low high word)
-number_high low high word = chosen (is_numeral word) (nat_le low (value_of word)) (nat_le (value_of word) high) (value_of word) high (le_of (value_of word) high)
+number_high low high word = chosen (is_numeral word) (nat_le low (value_of word)) (nat_le (value_of word) high) (value_of word) high (leb-true (value_of word) high)
 
 ranged : (o : Option Request) → Has IsInRange o → HasRequest (in_range o)
 ranged None h = tt

@@ -9,7 +9,8 @@ use Rattle.svc_api.specs.Plan.{Plan}
 use Rattle.aeg_base.specs.Store.{empty, Store}
 use Rattle.exec_core.specs.declared.machine.Machine.{Machine}
 use Rattle.exec_core.specs.States.{progress_of, whole_of, going}
-use Rattle.exec_model.specs.Machine.{State, Progress, Ended, mem, is_running, any_running, turn, finish, concat, next}
+use Rattle.exec_model.specs.Machine.{State, Progress, Ended, is_running, any_running, turn, finish, concat, next}
+use Rattle.svc_api.specs.Orders.{mem}
 use Rattle.exec_model.proofs.Basics.{mem-first}
 use Rattle.exec_model.proofs.Executor.{finish-turn, finish-ended, turn-less}
 

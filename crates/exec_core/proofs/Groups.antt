@@ -6,7 +6,8 @@ use Rattle.std.specs.declared.vec.Vec.{Vec}
 use Rattle.std.specs.declared.alloc.Global.{Global}
 use Rattle.svc_api.specs.Plan.{Plan}
 use Rattle.aeg_base.specs.Store.{Store}
-use Rattle.exec_model.specs.Machine.{State, Progress, mem, is_running, any_running, concat, act, turns, finish, complete}
+use Rattle.exec_model.specs.Machine.{State, Progress, is_running, any_running, concat, act, turns, finish, complete}
+use Rattle.svc_api.specs.Orders.{mem}
 use Rattle.exec_model.specs.Groups.{times, AreFull}
 use Rattle.exec_model.proofs.Basics.{mem-first, times-append, times-mem}
 use Rattle.exec_model.proofs.Inv.{any_running-true}

@@ -6,7 +6,8 @@ use Rattle.svc_api.specs.declared.action.Ending.{Ending}
 use Rattle.svc_api.specs.Plan.{Plan, store_after, ending_of}
 use Rattle.aeg_base.specs.Store.{Store}
 use Rattle.exec_model.specs.Serial.{serial, serial_end}
-use Rattle.exec_model.specs.Machine.{Progress, Ended, is_running, any_running, or_ended, mem}
+use Rattle.exec_model.specs.Machine.{Progress, Ended, is_running, any_running, or_ended}
+use Rattle.svc_api.specs.Orders.{mem}
 use Rattle.std.specs.List.{All}
 use Rattle.std.proofs.lemmas.List.Elements.{All-tail}
 use Rattle.exec_model.specs.Groups.{times}

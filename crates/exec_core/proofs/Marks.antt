@@ -1,5 +1,5 @@
 -- Puts that are taken back to a mark.
-use Rattle.std.proofs.Common.{◌≡◌, ℕ, ◌+◌, ◌≤◌, List, [], ◌∷◌, ◌++◌, length, take, drop, sym, ap, ◌∙◌, take-append-drop}
+use Rattle.std.proofs.Common.{◌≡◌, ℕ, ◌≤◌, List, [], ◌∷◌, ◌++◌, length, take, drop, sym, ap, ◌∙◌, take-append-drop}
 use Rattle.std.proofs.lemmas.List.{drop-append-le}
 use Rattle.aeg_base.specs.declared.names.Key.{Key}
 use Rattle.aeg_base.specs.Store.{Store, value_at, written}

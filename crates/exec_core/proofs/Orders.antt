@@ -8,7 +8,7 @@ use Rattle.exec_model.specs.Serial.{serial, serial_end}
 use Rattle.exec_model.specs.Machine.{concat, run, end_of}
 use Rattle.exec_model.specs.Groups.{times, AreFull, IsOrder}
 use Rattle.exec_model.specs.Jobs.{Beginnings, plan_at, said_nothing, below, serial_store, serial_ends}
-use Rattle.exec_model.proofs.Outcome.{Whole, Serial, run-idle, run-serial, map-same}
+use Rattle.exec_model.proofs.Outcome.{Whole, Serial, run-idle, run-serial, map-same, small}
 use Rattle.exec_core.specs.Jobs.{run_in_groups, serial_run}
 
 -- the list without a number
@@ -69,10 +69,6 @@ pub full_length : (gs : List (List ℕ)) → AreFull gs → length gs ≤ length
 full_length [] f = omega arith
 full_length ([] ∷ gs) f = absurd f
 full_length ((x ∷ xs) ∷ gs) f = let a = full_length gs f in let b = length-append xs (concat gs) in omega arith
-
-small : (c : Bool) → cond c 1 0 ≤ 1
-small true = omega arith
-small false = omega arith
 
 pub order_once : (n : ℕ) (xs : List ℕ) → IsOrder n xs → (i : ℕ) → times i xs ≤ 1
 order_once n xs h i = let a = h i in let b = small (nat_lt i n) in omega arith

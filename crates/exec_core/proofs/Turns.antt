@@ -6,7 +6,8 @@ use Rattle.svc_api.specs.Plan.{Plan, Reads, Writes, Ends}
 use Rattle.aeg_base.specs.Store.{Store, value_at, written}
 use Rattle.exec_model.specs.Serial.{serial, serial_end}
 use Rattle.aeg_base.specs.Locks.{lock_number}
-use Rattle.exec_model.specs.Machine.{State, Progress, Running, Ended, mem, is_running, any_running, or_ended, update, settle, touch, again, act, turn}
+use Rattle.exec_model.specs.Machine.{State, Progress, Running, Ended, is_running, any_running, or_ended, update, settle, touch, again, act, turn}
+use Rattle.svc_api.specs.Orders.{mem}
 use Rattle.exec_model.proofs.Basics.{serial_end-some, serial_end-none, times-mem, times-not_mem}
 use Rattle.exec_model.proofs.Finish.{any_running-some}
 use Rattle.exec_core.specs.declared.steps.Went.{Went}

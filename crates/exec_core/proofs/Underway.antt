@@ -7,7 +7,8 @@ use Rattle.std.specs.declared.alloc.Global.{Global}
 use Rattle.aeg_base.specs.Store.{Store}
 use Rattle.svc_api.specs.Plan.{Plan, Ends}
 use Rattle.exec_model.specs.declared.job.Seg.{Seg}
-use Rattle.exec_model.specs.Machine.{State, Running, mem, concat, start, turn, turns, next, complete, run}
+use Rattle.exec_model.specs.Machine.{State, Running, concat, start, turn, turns, next, complete, run}
+use Rattle.svc_api.specs.Orders.{mem}
 use Rattle.exec_model.specs.Groups.{times, AreFull, IsOrder}
 use Rattle.exec_model.specs.Jobs.{Beginnings, Run, plan_at, locks_at, groups_of, said_nothing, run_job}
 use Rattle.exec_model.proofs.Mixer.{AreFull-mix, times-mix}

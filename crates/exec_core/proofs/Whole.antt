@@ -10,7 +10,8 @@ use Rattle.aeg_base.specs.Locks.{no_locks}
 use Rattle.svc_api.specs.Plan.{Plan}
 use Rattle.exec_model.specs.declared.job.Seg.{Seg}
 use Rattle.std.specs.List.{All}
-use Rattle.exec_model.specs.Machine.{State, Progress, Running, Ended, mem, is_running, concat, start, turns, complete, run, end_of}
+use Rattle.exec_model.specs.Machine.{State, Progress, Running, Ended, is_running, concat, start, turns, complete, run, end_of}
+use Rattle.svc_api.specs.Orders.{mem}
 use Rattle.exec_model.specs.Groups.{times, AreFull, IsOrder, mix}
 use Rattle.exec_model.specs.Jobs.{Beginnings, plan_at, locks_at, said_nothing, below, Run, run_job}
 use Rattle.exec_model.proofs.Basics.{mem-first, times-append, times-mem}

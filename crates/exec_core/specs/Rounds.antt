@@ -3,7 +3,8 @@ use Rattle.std.specs.Prelude.{◌≡◌, ℕ, ◌<◌, ◌≤◌, Bool, true, fa
 use Rattle.std.specs.List.{All}
 use Rattle.svc_api.specs.Plan.{Plan}
 use Rattle.exec_model.specs.declared.job.Seg.{Seg}
-use Rattle.exec_model.specs.Machine.{mem, any_running}
+use Rattle.exec_model.specs.Machine.{any_running}
+use Rattle.svc_api.specs.Orders.{mem}
 use Rattle.exec_model.specs.Groups.{times}
 use Rattle.exec_model.specs.Jobs.{Beginnings}
 use Rattle.exec_core.specs.declared.machine.Machine.{Machine}

@@ -2,7 +2,8 @@
 ghost use Rattle.std.specs.Prelude.{◌≡◌, ℕ, ◌+◌, ◌*◌, ◌<◌, ◌≤◌, IfOk, OnOk, true, false, length, drop, [], ◌∷◌, ◌++◌};
 ghost use Rattle.std.specs.List.{All};
 ghost use Rattle.exec_model.specs.Serial.{serial, serial_end};
-ghost use Rattle.exec_model.specs.Machine.{State, mem, or_ended, is_running as runs, any_running as any_runs, turn as turn_of, turns as turns_of, finish as finish_of, complete as complete_of, concat, next};
+ghost use Rattle.exec_model.specs.Machine.{State, or_ended, is_running as runs, any_running as any_runs, turn as turn_of, turns as turns_of, finish as finish_of, complete as complete_of, concat, next};
+ghost use Rattle.svc_api.specs.Orders.{mem};
 ghost use Rattle.exec_model.specs.Groups.{times, AreFull};
 ghost use Rattle.exec_model.specs.Jobs.{plan_at};
 ghost use Rattle.key_mixer.specs.Lists.{lists_of};

@@ -2,14 +2,11 @@
 pub use Rattle.svc_api.proofs.Orders.{times-append}
 use Rattle.std.proofs.Common.{◌≡◌, ℕ, ◌+◌, ◌<◌, ◌==◌, Bool, true, false, ◌||◌, List, [], ◌∷◌, ◌++◌, Option, Some, None, refl, cond, arith}
 use Rattle.std.proofs.lemmas.Bool.{or_left, eq-eqb}
-use Rattle.std.proofs.lemmas.Bool.Decides.{nat_tests}
-use Rattle.aeg_base.specs.declared.names.Key.{Key}
-use Rattle.aeg_base.specs.Store.{Store, same_key}
-use Rattle.aeg_base.specs.Locks.{lock_number}
+use Rattle.aeg_base.specs.Store.{Store}
 use Rattle.svc_api.specs.declared.action.Ending.{Ending}
 use Rattle.svc_api.specs.Plan.{Plan, store_after, ending_of}
 use Rattle.exec_model.specs.Serial.{serial, serial_end}
-use Rattle.exec_model.specs.Machine.{mem}
+use Rattle.svc_api.specs.Orders.{mem}
 use Rattle.exec_model.specs.Groups.{times}
 
 pub serial-append : (plan : ℕ → Plan) (s : Store) (xs ys : List ℕ) → serial plan s (xs ++ ys) ≡ serial plan (serial plan s xs) ys
@@ -64,6 +61,3 @@ serial_end-some plan s (x ∷ xs) j h = at (serial_end-some plan (store_after (p
     at : (0 < times j xs → (e : Ending) × (serial_end plan (store_after (plan x) s) xs j ≡ Some e)) → (b : Bool) → 0 < cond b 1 0 + times j xs → (e : Ending) × (cond b (Some (ending_of (plan x) s)) (serial_end plan (store_after (plan x) s) xs j) ≡ Some e)
     at rec true h = (ending_of (plan x) s, refl)
     at rec false h = rec (omega arith)
-
-pub same_lock : (k j : Key) → same_key k j ≡ true → lock_number k ≡ lock_number j
-same_lock k j h = grind (arith, nat_tests)

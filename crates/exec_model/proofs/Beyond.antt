@@ -7,7 +7,8 @@ use Rattle.aeg_base.specs.Locks.{lock_number}
 use Rattle.aeg_base.specs.declared.names.Key.{Key}
 use Rattle.svc_api.specs.Plan.{Plan, Reads, Writes, Ends}
 use Rattle.exec_model.specs.Serial.{serial_end}
-use Rattle.exec_model.specs.Machine.{State, Progress, Running, Ended, mem, update, any_running, is_running, end_of, or_ended, concat, next, settle, again, touch, leave, act, turn, turns, go_on, finish_one, finish, complete}
+use Rattle.exec_model.specs.Machine.{State, Progress, Running, Ended, update, any_running, is_running, end_of, or_ended, concat, next, settle, again, touch, leave, act, turn, turns, go_on, finish_one, finish, complete}
+use Rattle.svc_api.specs.Orders.{mem}
 use Rattle.exec_model.specs.Groups.{times, IsOrder}
 use Rattle.exec_model.specs.Jobs.{said_nothing, below, run_of}
 use Rattle.exec_model.proofs.Basics.{mem-first, times-mem, times-append, serial_end-none, times-not_mem}

@@ -5,7 +5,8 @@ use Rattle.aeg_base.specs.Store.{Store, value_at, written}
 use Rattle.aeg_base.specs.Locks.{lock_number}
 use Rattle.svc_api.specs.Plan.{Plan, Reads, Writes, Ends}
 use Rattle.exec_model.specs.Serial.{serial_end}
-use Rattle.exec_model.specs.Machine.{next, State, mem, update, any_running, is_running, or_ended, concat, Progress, Running, Ended, settle, again, leave, act, turn, turns, start, run}
+use Rattle.exec_model.specs.Machine.{next, State, update, any_running, is_running, or_ended, concat, Progress, Running, Ended, settle, again, leave, act, turn, turns, start, run}
+use Rattle.svc_api.specs.Orders.{mem}
 use Rattle.exec_model.proofs.Basics.{mem-first, serial_end-some, times-mem}
 use Rattle.exec_model.proofs.Inv.{head_of, tail_of}
 use Rattle.exec_model.proofs.Finish.{finish-keeps, turns-keeps}

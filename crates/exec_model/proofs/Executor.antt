@@ -6,9 +6,11 @@ use Rattle.aeg_base.specs.Store.{Store, value_at, written}
 use Rattle.svc_api.specs.Plan.{Plan, Reads, Writes, Ends}
 use Rattle.aeg_base.specs.Locks.{lock_number}
 use Rattle.exec_model.specs.Serial.{serial_end}
-use Rattle.exec_model.specs.Machine.{next, State, mem, is_running, concat, Progress, Running, Ended, touch, leave, again, act, update, turn, turns, go_on, finish_one, finish, complete}
+use Rattle.exec_model.specs.Machine.{next, State, is_running, concat, Progress, Running, Ended, touch, leave, again, act, update, turn, turns, go_on, finish_one, finish, complete}
+use Rattle.svc_api.specs.Orders.{mem}
 use Rattle.exec_model.specs.Spell.{repeat}
 use Rattle.exec_model.proofs.Basics.{mem-first}
+use Rattle.exec_model.proofs.Inv.{concat-split}
 use Rattle.exec_model.proofs.Finish.{turn_is, turn-reads, turn-writes, turn-ends, update-less, again-less, settle-progress}
 
 pub ended-stays : (plan : ℕ → Plan) (i : ℕ) (x : Progress) (t : State) → is_running x ≡ false → finish_one plan i x t ≡ t
@@ -68,11 +70,7 @@ finish-ended plan (x ∷ xs) ys t h =
 
 -- after a group the run goes on with the next one
 pub complete-next : (plan : ℕ → Plan) (t : State) → finish plan (concat t.later) (next t) ≡ complete plan (next t)
-complete-next plan t = ap (λ xs. finish plan xs (next t)) (split t.later)
-  where
-    split : (l : List (List ℕ)) → concat l ≡ elim l [ [] ↦ [] | g ∷ gs ↦ g ] ++ concat (elim l [ [] ↦ [] | g ∷ gs ↦ gs ])
-    split [] = refl
-    split (g ∷ gs) = refl
+complete-next plan t = ap (λ xs. finish plan xs (next t)) (concat-split t.later)
 
 touch-less : (plan : ℕ → Plan) (t : State) (i : ℕ) (k : Key) (s : Store) (p : Plan) (j : ℕ) → is_running (t.progress i) ≡ true → is_running ((touch plan t i k s p).progress j) ≡ true → is_running (t.progress j) ≡ true
 touch-less plan t i k s p j r = at ((t.owner (lock_number k) == 0) || (t.owner (lock_number k) == i + 1))

@@ -1,6 +1,6 @@
 -- The run ends, and the steps that it made are a schedule of the same run.
 use Rattle.std.proofs.Common.{◌≡◌, ◌≢◌, ℕ, ◌+◌, ◌≤◌, ◌==◌, Bool, true, false, ◌||◌, List, [], ◌∷◌, ◌++◌, Option, Some, None, refl, sym, ap, ◌∙◌, inl, inr, ◌⊎◌, cond, append_assoc}
-use Rattle.std.proofs.lemmas.Bool.{or_right}
+use Rattle.std.proofs.lemmas.Bool.{or_right, false_from_ne_true, or_cases}
 use Rattle.std.proofs.lemmas.Bool.Decides.{eqb_tells}
 use Rattle.aeg_base.specs.declared.names.Key.{Key}
 use Rattle.aeg_base.specs.Store.{Store, value_at, written}
@@ -8,11 +8,12 @@ use Rattle.aeg_base.specs.Locks.{lock_number}
 use Rattle.svc_api.specs.declared.action.Ending.{Ending}
 use Rattle.svc_api.specs.Plan.{Plan, Reads, Writes, Ends}
 use Rattle.exec_model.specs.Serial.{serial_end}
-use Rattle.exec_model.specs.Machine.{next, State, mem, update, any_running, is_running, or_ended, concat, Progress, Running, Ended, settle, again, touch, leave, act, turn, turns, go_on, finish_one, finish}
+use Rattle.exec_model.specs.Machine.{next, State, update, any_running, is_running, or_ended, concat, Progress, Running, Ended, settle, again, touch, leave, act, turn, turns, go_on, finish_one, finish}
+use Rattle.svc_api.specs.Orders.{mem}
 use Rattle.exec_model.specs.Groups.{times}
 use Rattle.exec_model.specs.Spell.{AreSame}
 use Rattle.exec_model.proofs.Basics.{mem-first, times-mem, serial_end-some}
-use Rattle.exec_model.proofs.Inv.{head_of, tail_of, any_running-false}
+use Rattle.exec_model.proofs.Inv.{head_of, tail_of, any_running-false, concat-split}
 use Rattle.exec_model.proofs.Ready.{Ready, Settled, turn-ready}
 
 -- what each turn keeps, a run to the end keeps
@@ -41,14 +42,14 @@ pub turns-keeps : (plan : ℕ → Plan) (P : State → Type 0) → ((t : State) 
 turns-keeps plan P step [] t h = h
 turns-keeps plan P step (i ∷ is) t h = turns-keeps plan P step is (turn plan t i) (step t i h)
 
-settle-steps : (t : State) → (settle t).steps ≡ t.steps
+pub settle-steps : (t : State) → (settle t).steps ≡ t.steps
 settle-steps t = at (any_running t.progress t.group)
   where
     at : (c : Bool) → (cond c t (next t)).steps ≡ t.steps
     at true = refl
     at false = refl
 
-touch-steps : (plan : ℕ → Plan) (t : State) (i : ℕ) (k : Key) (s : Store) (p : Plan) → (touch plan t i k s p).steps ≡ t.steps ++ i ∷ []
+pub touch-steps : (plan : ℕ → Plan) (t : State) (i : ℕ) (k : Key) (s : Store) (p : Plan) → (touch plan t i k s p).steps ≡ t.steps ++ i ∷ []
 touch-steps plan t i k s p = at ((t.owner (lock_number k) == 0) || (t.owner (lock_number k) == i + 1))
   where
     at : (c : Bool) → (cond c (record t { store = s; owner = update t.owner (lock_number k) (i + 1); progress = update t.progress i (Running p); steps = t.steps ++ i ∷ [] }) (again plan t i)).steps ≡ t.steps ++ i ∷ []
@@ -120,10 +121,6 @@ mem-append j (x ∷ xs) ys = at (x == j) (mem-append j xs ys)
     at true h = refl
     at false h = h
 
-not_true : (b : Bool) → (b ≡ true → ⊥) → b ≡ false
-not_true true h = absurd (h refl)
-not_true false h = refl
-
 Covers-less : (xs : List ℕ) (q q' : ℕ → Progress) (g : List ℕ) (l : List (List ℕ)) → Covers xs q g l → ((j : ℕ) → is_running (q' j) ≡ true → is_running (q j) ≡ true) → Covers xs q' g l
 Covers-less xs q q' g l h less = record {
   now = h.now;
@@ -131,18 +128,14 @@ Covers-less xs q q' g l h less = record {
   all = h.all;
   match = h.match;
   run_in = λ j m r. h.run_in j m (less j r);
-  from = λ j m. elim (h.from j m) [ inl z ↦ inl z | inr z ↦ inr (not_true _ (λ r. let e : true ≡ false = sym (less j r) ∙ z in cc)) ];
+  from = λ j m. elim (h.from j m) [ inl z ↦ inl z | inr z ↦ inr (false_from_ne_true _ (λ r. let e : true ≡ false = sym (less j r) ∙ z in cc)) ];
 }
-
-or_cases : (a b : Bool) → (a || b) ≡ true → (a ≡ true) ⊎ (b ≡ true)
-or_cases true b h = inl refl
-or_cases false b h = inr h
 
 Covers-next : (xs : List ℕ) (q : ℕ → Progress) (g : List ℕ) (l : List (List ℕ)) → Covers xs q g l → any_running q g ≡ false → Covers xs q (head_of l) (tail_of l)
 Covers-next xs q g l h none = record {
   now = h.now ++ head_of h.rest;
   rest = tail_of h.rest;
-  all = h.all ∙ ap (λ x. h.now ++ x) (split h.rest) ∙ sym (append_assoc h.now (head_of h.rest) (concat (tail_of h.rest)));
+  all = h.all ∙ ap (λ x. h.now ++ x) (concat-split h.rest) ∙ sym (append_assoc h.now (head_of h.rest) (concat (tail_of h.rest)));
   match = AreSame-tail h.rest l h.match;
   run_in = λ j m r. mem-append j h.now (head_of h.rest) ∙ or_right _ _ (AreSame-head h.rest l h.match j ∙ m);
   from = λ j m. elim (or_cases _ _ (sym (mem-append j h.now (head_of h.rest)) ∙ m)) [
@@ -150,10 +143,6 @@ Covers-next xs q g l h none = record {
     | inr z ↦ inl (sym (AreSame-head h.rest l h.match j) ∙ z)
   ];
 }
-  where
-    split : (l : List (List ℕ)) → concat l ≡ head_of l ++ concat (tail_of l)
-    split [] = refl
-    split (g ∷ gs) = refl
 
 abbrev pub CoversAt : List ℕ → State → Type 0
 CoversAt xs t = Covers xs t.progress t.group t.later

@@ -5,7 +5,8 @@ use Rattle.aeg_base.specs.Store.{Store}
 use Rattle.svc_api.specs.declared.action.Ending.{Ending}
 use Rattle.svc_api.specs.Plan.{Plan, Ends, ending_of}
 use Rattle.exec_model.specs.Serial.{serial, serial_end}
-use Rattle.exec_model.specs.Machine.{State, mem, update, any_running, is_running, end_of, or_ended, concat, Progress, Running, Ended, again, leave, next}
+use Rattle.exec_model.specs.Machine.{State, update, any_running, is_running, end_of, or_ended, concat, Progress, Running, Ended, again, leave, next}
+use Rattle.svc_api.specs.Orders.{mem}
 use Rattle.exec_model.specs.Groups.{times}
 use Rattle.exec_model.proofs.Basics.{serial-append, serial_end-append, or_else, times-append, times-mem, times-not_mem, serial_end-none, serial_end-some}
 use Rattle.exec_model.proofs.Lookups.{Lookup, looks, looks-after, end_with-looks, same_store}
@@ -195,7 +196,7 @@ any_running-true q xs j m r = at (any_running q xs) refl
     at true e = refl
     at false e = let z = any_running-false q xs e j m in sym z ∙ r
 
-zero_or : (n : ℕ) → (n ≡ 0) ⊎ ((i : ℕ) × (n ≡ i + 1))
+pub zero_or : (n : ℕ) → (n ≡ 0) ⊎ ((i : ℕ) × (n ≡ i + 1))
 zero_or zero = inl refl
 zero_or (suc n) = inr (n, omega arith)
 
@@ -204,6 +205,10 @@ head_of gs = elim gs [ [] ↦ [] | g ∷ gs ↦ g ]
 
 abbrev pub tail_of : List (List ℕ) → List (List ℕ)
 tail_of gs = elim gs [ [] ↦ [] | g ∷ gs ↦ gs ]
+
+pub concat-split : (gs : List (List ℕ)) → concat gs ≡ head_of gs ++ concat (tail_of gs)
+concat-split [] = refl
+concat-split (g ∷ gs) = refl
 
 split_later : (j : ℕ) (gs : List (List ℕ)) → times j (head_of gs) + times j (concat (tail_of gs)) ≡ times j (concat gs)
 split_later j [] = refl

@@ -1,34 +1,30 @@
 -- The theorem.
-use Rattle.std.proofs.Common.{◌≡◌, ℕ, suc, zero, ◌+◌, ◌≤◌, ◌==◌, Bool, true, false, unwrap_or, List, [], ◌∷◌, ◌++◌, length, Option, Some, None, refl, sym, ap, ◌∙◌, subst, inl, inr, ◌⊎◌, cond, ltb, arith}
+use Rattle.std.proofs.Common.{◌≡◌, ℕ, ◌≤◌, ◌==◌, Bool, true, false, unwrap_or, List, [], ◌∷◌, ◌++◌, length, Option, Some, None, refl, sym, ap, ◌∙◌, subst, inl, inr, cond, ltb, arith, append-nil}
 use Rattle.std.specs.Prelude.{map}
 use Rattle.std.proofs.lemmas.Bool.Decides.{nat_tests}
 use Rattle.aeg_base.specs.Store.{Store}
 use Rattle.svc_api.specs.declared.action.Ending.{Ending}
 use Rattle.svc_api.specs.Plan.{Plan}
 use Rattle.exec_model.specs.Serial.{serial, serial_end}
-use Rattle.exec_model.specs.Machine.{State, mem, concat, end_of, turns, start, finish, complete, run}
+use Rattle.exec_model.specs.Machine.{State, concat, end_of, turns, start, finish, complete, run}
+use Rattle.svc_api.specs.Orders.{mem}
 use Rattle.exec_model.specs.Groups.{times, AreFull, IsOrder, mix}
 use Rattle.exec_model.specs.declared.job.Seg.{Seg}
 use Rattle.exec_model.specs.Jobs.{Beginnings, said_nothing, plan_at, locks_at, below, run_of, run_job, serial_store, serial_ends}
 use Rattle.exec_model.proofs.Basics.{or_else}
 use Rattle.exec_model.proofs.Lookups.{looks, same_store}
 use Rattle.exec_model.proofs.Safe.{Safe-free}
-use Rattle.exec_model.proofs.Inv.{Inv}
 use Rattle.exec_model.proofs.Ready.{Ready, start-ready, turn-ready}
 use Rattle.exec_model.proofs.Finish.{CoversAt, Replays, turn-replays, turns-keeps, finish-keeps, finish-ends, AreSame-refl, AreSame-head, AreSame-tail}
 use Rattle.exec_model.specs.Spell.{AreSame, spell}
-use Rattle.exec_model.proofs.Inv.{head_of, tail_of}
-use Rattle.exec_model.proofs.Spell.{spelled, append_nil}
+use Rattle.exec_model.proofs.Inv.{Inv, zero_or, head_of, tail_of, concat-split}
+use Rattle.exec_model.proofs.Spell.{spelled}
 use Rattle.exec_model.proofs.Mixer.{AreFull-mix, times-mix}
 
 pub record Serial (plan : ℕ → Plan) (s : Store) (all : List ℕ) (t : State) : Type 0 where
   pub order : (i : ℕ) → times i t.past ≡ times i all
   pub store : t.store ≡ serial plan s t.past
   pub ends : (i : ℕ) → end_of (t.progress i) ≡ serial_end plan s t.past i
-
-zero_or : (n : ℕ) → (n ≡ 0) ⊎ ((i : ℕ) × (n ≡ i + 1))
-zero_or zero = inl refl
-zero_or (suc n) = inr (n, omega arith)
 
 no_times : (xs : List ℕ) → ((i : ℕ) → times i xs ≤ 0) → xs ≡ []
 no_times [] h = refl
@@ -95,7 +91,7 @@ pub map-same : {A : Type 0} (f g : ℕ → A) (xs : List ℕ) → ((i : ℕ) →
 map-same f g [] h = refl
 map-same f g (x ∷ xs) h = λ i. h x i ∷ map-same f g xs h i
 
-small : (c : Bool) → cond c 1 0 ≤ 1
+pub small : (c : Bool) → cond c 1 0 ≤ 1
 small true = omega arith
 small false = omega arith
 
@@ -125,15 +121,11 @@ start-covers : (plan : ℕ → Plan) (groups os : List (List ℕ)) (s : Store) �
 start-covers plan groups os s m = record {
   now = head_of os;
   rest = tail_of os;
-  all = split os;
+  all = concat-split os;
   match = AreSame-tail os groups m;
   run_in = λ j k r. AreSame-head os groups m j ∙ k;
   from = λ j k. inl (sym (AreSame-head os groups m j) ∙ k);
 }
-  where
-    split : (os : List (List ℕ)) → concat os ≡ head_of os ++ concat (tail_of os)
-    split [] = refl
-    split (o ∷ os) = refl
 
 pub record Whole (plan : ℕ → Plan) (s : Store) (order : List ℕ) (t : State) : Type 0 where
   pub order_is : t.past ≡ order
@@ -151,7 +143,7 @@ run-spelled plan groups os s f one m once =
     let e = finish-ends plan s (concat groups) [] v one ready' z.done in
     let none : v.done ≡ [] = no_times v.done (λ i. let a = ready'.inv.inside i in let b : times i v.group ≡ 0 = ap (times i) e.0 in omega arith) in
     subst (Whole plan s xs) (sym (complete-ended plan v e.0 e.1)) (record {
-      order_is = sym (append_nil v.past) ∙ ap (λ d. v.past ++ d) (sym none) ∙ z.order;
+      order_is = sym (append-nil v.past) ∙ ap (λ d. v.past ++ d) (sym none) ∙ z.order;
       redo = z.redo;
       steps = z.steps;
     })
@@ -167,12 +159,8 @@ run-idle plan groups s f one =
     let ready = turns-keeps plan (Ready plan s xs) (λ t i h. turn-ready plan s xs t i h one) (spell plan s xs) u (start-ready plan groups s f) in
     let e = finish-ends plan s xs [] v one ready z.done in
     let same : run plan groups s [] ≡ run plan groups s (spell plan s xs) =
-    ap (λ is. finish plan is u) (sym (split groups)) ∙ z.finishes ∙ sym (complete-ended plan v e.0 e.1) in
+    ap (λ is. finish plan is u) (sym (concat-split groups)) ∙ z.finishes ∙ sym (complete-ended plan v e.0 e.1) in
     subst (Whole plan s xs) (sym same) w
-  where
-    split : (os : List (List ℕ)) → concat os ≡ elim os [ [] ↦ [] | g ∷ gs ↦ g ] ++ concat (elim os [ [] ↦ [] | g ∷ gs ↦ gs ])
-    split [] = refl
-    split (o ∷ os) = refl
 
 -- a schedule that spells an order of whole segments, each group's in any order, gives just that order
 pub run_job-spelled : (begins : Beginnings) (segs : List Seg) (s : Store) (os : List (List ℕ)) → AreSame os (mix (locks_at begins segs) (length segs)) → IsOrder (length segs) (concat os) →

@@ -6,7 +6,8 @@ use Rattle.aeg_base.specs.Store.{Store, value_at, written}
 use Rattle.aeg_base.specs.Locks.{lock_number}
 use Rattle.svc_api.specs.Plan.{Plan, Reads, Writes, Ends}
 use Rattle.exec_model.specs.Serial.{serial}
-use Rattle.exec_model.specs.Machine.{State, mem, update, any_running, is_running, concat, Progress, Running, Ended, settle, next, again, touch, leave, act, turn, turns, start}
+use Rattle.exec_model.specs.Machine.{State, update, any_running, is_running, concat, Progress, Running, Ended, settle, next, again, touch, leave, act, turn, turns, start}
+use Rattle.svc_api.specs.Orders.{mem}
 use Rattle.exec_model.specs.Groups.{times, AreFull}
 use Rattle.exec_model.proofs.Basics.{times-append}
 use Rattle.exec_model.proofs.Lookups.{Lookup, looks, looks-written}

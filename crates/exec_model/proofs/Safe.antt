@@ -7,7 +7,7 @@ use Rattle.aeg_base.specs.Locks.{lock_number}
 use Rattle.svc_api.specs.Plan.{Plan, Reads, Writes, Ends}
 use Rattle.svc_api.specs.declared.action.Ending.{Ending}
 use Rattle.exec_model.specs.Machine.{update, Progress, Running, Ended}
-use Rattle.exec_model.proofs.Basics.{same_lock}
+use Rattle.svc_api.proofs.Touched.{same_lock}
 use Rattle.exec_model.proofs.Lookups.{Lookup, put, after, end_with}
 
 -- what segment i sees: the store where it holds the lock, else t

@@ -1,5 +1,5 @@
 -- The schedule that spells an order of whole segments meets no lock, and gives that order.
-use Rattle.std.proofs.Common.{◌≡◌, ◌≢◌, ℕ, suc, ◌+◌, ◌≤◌, ◌==◌, Bool, true, false, ◌||◌, List, [], ◌∷◌, ◌++◌, refl, sym, ap, ◌∙◌, subst, inl, inr, ◌⊎◌, cond, arith, append_assoc}
+use Rattle.std.proofs.Common.{◌≡◌, ◌≢◌, ℕ, suc, ◌+◌, ◌≤◌, ◌==◌, Bool, true, false, ◌||◌, List, [], ◌∷◌, ◌++◌, refl, sym, ap, ◌∙◌, subst, inl, inr, ◌⊎◌, cond, arith, append_assoc, append-nil}
 use Rattle.std.proofs.lemmas.Bool.Decides.{nat_tests, eqb_tells}
 use Rattle.aeg_base.specs.declared.names.Key.{Key}
 use Rattle.aeg_base.specs.Store.{Store, value_at, written}
@@ -7,7 +7,8 @@ use Rattle.aeg_base.specs.Locks.{lock_number}
 use Rattle.svc_api.specs.declared.action.Ending.{Ending}
 use Rattle.svc_api.specs.Plan.{Plan, Reads, Writes, Ends, store_after}
 use Rattle.exec_model.specs.Serial.{serial}
-use Rattle.exec_model.specs.Machine.{next, State, mem, update, any_running, is_running, Progress, Running, Ended, settle, again, touch, leave, turn, turns, finish}
+use Rattle.exec_model.specs.Machine.{next, State, update, any_running, is_running, Progress, Running, Ended, settle, again, touch, leave, turn, turns, finish}
+use Rattle.svc_api.specs.Orders.{mem}
 use Rattle.exec_model.specs.Spell.{repeat, steps_of, spell}
 use Rattle.exec_model.proofs.Inv.{any_running-true}
 use Rattle.exec_model.specs.Groups.{times}
@@ -103,17 +104,13 @@ Came-left plan i u e a = at (any_running q u.group) refl
     at false r = record {
       free = free;
       whole = λ j. whole j (i == j) (eqb_tells i j);
-      order = nil (u.past ++ (u.done ++ i ∷ [])) ∙ sym (append_assoc u.past u.done (i ∷ []));
+      order = append-nil (u.past ++ (u.done ++ i ∷ [])) ∙ sym (append_assoc u.past u.done (i ∷ []));
       redo = refl;
       store = refl;
       steps = refl;
       still = λ j ne. ap is_running (update-other u.progress i (Ended e) j ne);
       ended = ap is_running (update-own u.progress i (Ended e));
     }
-      where
-        nil : (xs : List ℕ) → xs ++ [] ≡ xs
-        nil [] = refl
-        nil (x ∷ xs) = ap (λ ys. x ∷ ys) (nil xs)
 
 pub came : (plan : ℕ → Plan) (i : ℕ) (p : Plan) (u : State) → Alone plan i u → mem i u.group ≡ true → u.progress i ≡ Running p → Came plan i u (turns plan u (repeat (steps_of p u.store) i)) (store_after p u.store) (steps_of p u.store)
 came plan i (Reads k f) u a m r =
@@ -140,16 +137,12 @@ pub record Spelled (plan : ℕ → Plan) (u v : State) (xs : List ℕ) : Type 0 
   pub ended : (j : ℕ) → is_running (v.progress j) ≡ true → is_running (u.progress j) ≡ true
   pub finishes : finish plan xs u ≡ v
 
-pub append_nil : (xs : List ℕ) → xs ++ [] ≡ xs
-append_nil [] = refl
-append_nil (x ∷ xs) = ap (λ ys. x ∷ ys) (append_nil xs)
-
 -- whole segments one after another, each group's in any order
 pub spelled : (plan : ℕ → Plan) (s0 : Store) (all : List ℕ) (xs : List ℕ) (u : State) → ((i : ℕ) → times i all ≤ 1) → Ready plan s0 all u → CoversAt xs u
     → ((l : ℕ) → u.owner l ≡ 0) → ((j : ℕ) → is_running (u.progress j) ≡ true → u.progress j ≡ Running (plan j))
     → ((j : ℕ) → times j xs ≤ cond (is_running (u.progress j)) 1 0)
     → Spelled plan u (turns plan u (spell plan u.store xs)) xs
-spelled plan s0 all [] u one h c free whole runs = record { order = sym (append_nil _); redo = refl; store = refl; steps = sym (append_nil _); done = c; ended = λ j r. r; finishes = refl }
+spelled plan s0 all [] u one h c free whole runs = record { order = sym (append-nil _); redo = refl; store = refl; steps = sym (append-nil _); done = c; ended = λ j r. r; finishes = refl }
 spelled plan s0 all (i ∷ xs) u one h c free whole runs =
     let n = steps_of (plan i) u.store in
     let v = turns plan u (repeat n i) in

@@ -1,6 +1,6 @@
 -- The groups of a job: segments whose declared locks don't meet.
 pub use Rattle.svc_api.specs.Orders.{times, IsOrder}
-use Rattle.std.specs.Prelude.{ℕ, zero, suc, ◌+◌, Bool, true, false, ◌&&◌, ◌||◌, not, List, [], ◌∷◌, ◌++◌, if◌then◌else◌}
+use Rattle.std.specs.Prelude.{ℕ, zero, suc, Bool, true, false, ◌&&◌, ◌||◌, not, List, [], ◌∷◌, ◌++◌, if◌then◌else◌}
 
 -- no group is empty
 abbrev pub AreFull : List (List ℕ) → Type 0

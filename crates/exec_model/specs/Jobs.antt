@@ -5,7 +5,8 @@ use Rattle.aeg_base.specs.Store.{Store}
 use Rattle.aeg_base.specs.Locks.{no_locks}
 use Rattle.aeg_base.specs.declared.names.ReqId.{ReqId}
 use Rattle.svc_api.specs.Plan.{Plan, Ends}
-use Rattle.svc_api.specs.Segment.{Beginning}
+use Rattle.svc_api.specs.Requests.{IsRequest}
+use Rattle.svc_api.specs.Segment.{Beginning, IsProper}
 use Rattle.svc_api.specs.declared.action.Ending.{Ending}
 use Rattle.svc_api.specs.declared.action.Ending.TheVariants.{Reply}
 use Rattle.exec_model.specs.declared.job.Seg.{Seg}
@@ -16,6 +17,10 @@ use Rattle.exec_model.specs.Groups.{mix}
 -- how the segments of requests begin
 abbrev pub Beginnings : Type 0
 Beginnings = ReqId → List ℕ → ℕ → Option Beginning
+
+-- segments of requests keep within their limits
+abbrev pub AreProper : Beginnings → Type 0
+AreProper begins = (who : ReqId) (body : List ℕ) (stage : ℕ) → IsRequest who → IsProper (begins who body stage)
 
 abbrev pub said_nothing : Ending
 said_nothing = Reply []

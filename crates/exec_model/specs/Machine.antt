@@ -5,6 +5,7 @@ use Rattle.aeg_base.specs.Locks.{lock_number}
 use Rattle.aeg_base.specs.declared.names.Key.{Key}
 use Rattle.svc_api.specs.Plan.{Plan, Reads, Writes, Ends}
 use Rattle.svc_api.specs.declared.action.Ending.{Ending}
+use Rattle.svc_api.specs.Orders.{mem}
 use Rattle.exec_model.specs.Serial.{serial, serial_end}
 
 pub data Progress : Type 0 where
@@ -18,10 +19,6 @@ is_running (Ended e) = false
 abbrev pub end_of : Progress → Option Ending
 end_of (Running p) = None
 end_of (Ended e) = Some e
-
-abbrev pub mem : ℕ → List ℕ → Bool
-mem i [] = false
-mem i (j ∷ js) = (j == i) || mem i js
 
 abbrev pub any_running : (ℕ → Progress) → List ℕ → Bool
 any_running q [] = false

@@ -2,7 +2,7 @@
 use Rattle.std.specs.Prelude.{◌≡◌, ℕ, zero, suc, List, [], ◌∷◌, ◌++◌}
 use Rattle.aeg_base.specs.Store.{Store, value_at, written}
 use Rattle.svc_api.specs.Plan.{Plan, Reads, Writes, Ends, store_after}
-use Rattle.exec_model.specs.Machine.{mem}
+use Rattle.svc_api.specs.Orders.{mem}
 
 abbrev pub repeat : ℕ → ℕ → List ℕ
 repeat zero i = []

@@ -9,8 +9,8 @@ use Rattle.log_model.specs.World.{recorded}
 use Rattle.log_values.specs.declared.fact.Fact.{Fact}
 use Rattle.log_values.specs.Records.{record_text}
 use Rattle.std.specs.Prelude.{OnOk, OnErr}
+use Rattle.std.proofs.lemmas.Bool.{ltb-true, lt-ltb}
 use Rattle.aeg_base.specs.declared.limits.TheConstants.{JOURNAL_BYTES}
-use Rattle.log_values.proofs.BoolTests.{lt_is, lt_true}
 use Rattle.log_values.proofs.RecordGrammar.{no_more}
 use Rattle.fact_journal.specs.Standing.{texts, HasFacts, IsJournalOf, StandsFor}
 use Rattle.fact_journal.specs.Calls.{length_with, is_past, old_or_new, Appended, IsCut}
@@ -45,7 +45,7 @@ full_at [] body at inner n some spelled e h = absurd (omega arith)
 full_at (f ∷ fs) body at inner n some spelled e h =
     let long : length body ≡ length (record_text (f ∷ fs)) = ap length spelled in
     let size : inner + 6 + length body ≡ at + 1 + (5 + length (record_text (f ∷ fs))) = omega (arith, long, e) in
-    (lt_is JOURNAL_BYTES (at + 1 + (5 + length (record_text (f ∷ fs)))) (omega (arith, h.0, size)), h.1 ∙ ap (λ (k : ℕ). min k (2 ^ 64 - 1)) size)
+    (lt-ltb JOURNAL_BYTES (at + 1 + (5 + length (record_text (f ∷ fs)))) (omega (arith, h.0, size)), h.1 ∙ ap (λ (k : ℕ). min k (2 ^ 64 - 1)) size)
 
 pub past_at : (facts : List Fact) (body : List ℕ) (at inner : ℕ) → 0 < length facts → body ≡ record_text facts → at ≡ inner → is_past (at + 1) facts ≡ true
     → (JOURNAL_BYTES < inner + 6 + length body) × (min (length_with (at + 1) facts) (2 ^ 64 - 1) ≡ min (inner + 6 + length body) (2 ^ 64 - 1))
@@ -53,7 +53,7 @@ past_at [] body at inner some spelled e h = absurd (omega arith)
 past_at (f ∷ fs) body at inner some spelled e h =
     let long : length body ≡ length (record_text (f ∷ fs)) = ap length spelled in
     let size : at + 1 + (5 + length (record_text (f ∷ fs))) ≡ inner + 6 + length body = omega (arith, long, e) in
-    (omega (arith, lt_true JOURNAL_BYTES (at + 1 + (5 + length (record_text (f ∷ fs)))) h, size), ap (λ (k : ℕ). min k (2 ^ 64 - 1)) size)
+    (omega (arith, ltb-true JOURNAL_BYTES (at + 1 + (5 + length (record_text (f ∷ fs)))) h, size), ap (λ (k : ℕ). min k (2 ^ 64 - 1)) size)
 
 -- ---- the disk
 

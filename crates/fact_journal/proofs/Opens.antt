@@ -1,6 +1,7 @@
 -- What opening a journal of facts gives and refuses.
 use Rattle.std.proofs.Common.{◌≡◌, inl, inr, ℕ, ◌+◌, List, [], ◌∷◌, Some, zero, suc, sym, ap, ◌∙◌, subst, arith}
 use Rattle.std.specs.Prelude.{slice_get}
+use Rattle.std.proofs.lemmas.Option.{same_Some}
 use Rattle.aeg_base.specs.declared.names.Tier.{Tier}
 use Rattle.aeg_disk.specs.Disk.{DiskState, Lawful}
 use Rattle.node_journal.specs.Journal.{records, size_of, IsBadAt}
@@ -21,12 +22,10 @@ opened tier a b bodies facts at e h long w =
     let is : records a.bytes ≡ texts w.0 = sym e ∙ w.1 in
     (w.0, is, w.2, w.3, from_list w.0 b at (subst (λ (l : List (List ℕ)). HasList l b at) is h) (long ∙ ap size_of w.1))
 
-pub some_same : {A : Type 0} (x y : A) → Some x ≡ Some y → x ≡ y
-some_same x y e = cc
-
-each_get : (tier : Tier) (lists : List (List (List Fact))) (k : ℕ) (rs : List (List Fact)) → EachFits tier lists → slice_get lists k ≡ Some rs → Fit tier rs
+-- one of the lists
+pub each_get : (tier : Tier) (lists : List (List (List Fact))) (k : ℕ) (rs : List (List Fact)) → EachFits tier lists → slice_get lists k ≡ Some rs → Fit tier rs
 each_get tier [] k rs fit e = absurd cc
-each_get tier (q ∷ lists) zero rs fit e = subst (Fit tier) (some_same q rs e) fit.0
+each_get tier (q ∷ lists) zero rs fit e = subst (Fit tier) (same_Some q rs e) fit.0
 each_get tier (q ∷ lists) (suc k) rs fit e = each_get tier lists k rs fit.1 e
 
 module _ (tier : Tier) (lists : List (List (List Fact))) (a : DiskState) (stands : StandsFor lists a) (each : EachFits tier lists) (lawful : Lawful a) where

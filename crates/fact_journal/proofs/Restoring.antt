@@ -2,7 +2,7 @@
 use Rattle.std.proofs.Common.{◌≡◌, ◌⊎◌, inl, inr, ℕ, ◌+◌, ◌≤◌, true, List, [], ◌∷◌, ◌++◌, length, Some, refl, sym, ap, ◌∙◌, subst, arith, eq-eqb}
 use Rattle.std.specs.Prelude.{map, slice_get, ◌==◌, ◌&&◌}
 use Rattle.std.specs.List.{AllByRecursion}
-use Rattle.std.proofs.lemmas.Bool.{cond_both, eqb-true}
+use Rattle.std.proofs.lemmas.Bool.{cond_both, eqb-true, and_parts, and_from}
 use Rattle.aeg_base.specs.Ballots.{no_ballot, is_below}
 use Rattle.aeg_base.specs.declared.names.Ballot.{Ballot}
 use Rattle.aeg_base.specs.declared.names.Tier.{Tier}
@@ -16,7 +16,6 @@ use Rattle.log_values.specs.declared.any_value.AnyValue.{AnyValue}
 use Rattle.log_values.specs.declared.fact.Fact.{Fact}
 use Rattle.log_values.specs.declared.fact.Fact.TheVariants.{Promised, Accepted, Learned, Held}
 use Rattle.log_values.specs.Fields.{FitsBallot}
-use Rattle.log_values.proofs.BoolTests.{and_true, and_is}
 use Rattle.frames.specs.LogMessages.{is_carried, IsCarried}
 use Rattle.tier_model.specs.Moves.{as_fact, log_facts}
 use Rattle.tier_model.proofs.Facts.{log_facts-onto}
@@ -26,7 +25,7 @@ use Rattle.fact_journal.specs.Fitting.{open_after_all, FactsFit, all_facts}
 -- A Learned fact that fits stands at the first open position, with a value that can stand there.
 learned_at : (tier : Tier) (first p : ℕ) (v : AnyValue) → ((p == first) && is_carried tier p v) ≡ true → (p ≡ first) × (is_carried tier p v ≡ true)
 learned_at tier first p v e =
-    let both = and_true (p == first) (is_carried tier p v) e in
+    let both = and_parts (p == first) (is_carried tier p v) e in
     (eqb-true p first both.0, both.1)
 
 pub in_order : (tier : Tier) (first : ℕ) (facts : List Fact) → FactsFit tier first facts → AreInOrder first (log_facts facts)
@@ -48,7 +47,7 @@ pub from_log : (tier : Tier) (first : ℕ) (facts : List (LogFact AnyValue)) →
 from_log tier first [] i n = tt
 from_log tier first (logs.Promised b ∷ fs) i n = ((i.0, refl), from_log tier first fs i.1 n.1)
 from_log tier first (logs.Accepted p b v ∷ fs) i n = (((i.0.0, (i.0.1.0, i.0.1.1.0)), i.0.1.1.1), from_log tier first fs i.1 n.1)
-from_log tier first (logs.Learned p v ∷ fs) i n = (((i.0.0, i.0.1.0), and_is (p == first) (is_carried tier p v) (eq-eqb p first n.0.0) i.0.1.1), from_log tier (first + 1) fs i.1 n.1)
+from_log tier first (logs.Learned p v ∷ fs) i n = (((i.0.0, i.0.1.0), and_from (p == first) (is_carried tier p v) (eq-eqb p first n.0.0) i.0.1.1), from_log tier (first + 1) fs i.1 n.1)
 
 -- ---- from the newest fact on
 

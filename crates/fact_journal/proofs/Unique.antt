@@ -1,7 +1,7 @@
 -- A body has one record, so bodies have one list of records.
 use Rattle.std.proofs.Common.{◌≡◌, ℕ, List, [], ◌∷◌, ◌++◌, refl, sym, ap, ◌∙◌, subst}
+use Rattle.std.proofs.lemmas.Option.{same_Some}
 use Rattle.aeg_base.specs.declared.names.Tier.{Tier}
-use Rattle.aeg_wire.proofs.Grammar.{some_is}
 use Rattle.log_values.specs.declared.fact.Fact.{Fact}
 use Rattle.log_values.specs.Records.{FitsRecord, record_text, record_at}
 use Rattle.log_values.proofs.RecordGrammar.{record_grammar}
@@ -21,7 +21,7 @@ no_cons x xs e = cc
 pub same_record : (r s : List Fact) → FitsRecord r → FitsRecord s → record_text r ≡ record_text s → r ≡ s
 same_record r s p q e =
     ap (λ (z : List Fact × List ℕ). z.0)
-    (some_is (r, []) (s, []) (sym (record_grammar.ends r p) ∙ ap record_at e ∙ record_grammar.ends s q))
+    (same_Some (r, []) (s, []) (sym (record_grammar.ends r p) ∙ ap record_at e ∙ record_grammar.ends s q))
 
 pub same_records : (tier : Tier) (m n : ℕ) (rs qs : List (List Fact)) → RecordsFit tier m rs → RecordsFit tier n qs → texts rs ≡ texts qs → rs ≡ qs
 same_records tier m n [] [] p q e = refl

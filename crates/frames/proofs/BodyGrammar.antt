@@ -2,6 +2,8 @@
 use Rattle.std.proofs.Common.{◌≡◌, ℕ, ◌<◌, ◌^◌, true, cond, eqb, inl, inr, List, [], ◌∷◌, ◌++◌, Some, None, refl, ap, subst, arith}
 use Rattle.std.specs.Prelude.{nat_lt}
 use Rattle.std.specs.Int.{w16, w32, to_be_bytes}
+use Rattle.std.proofs.lemmas.Bool.{ltb-true, lt-ltb}
+use Rattle.std.proofs.lemmas.Option.{none-some}
 use Rattle.aeg_base.specs.declared.limits.TheConstants.{ROUNDS}
 use Rattle.aeg_base.specs.declared.names.Tier.{Tier}
 use Rattle.svc_api.specs.Plan.{IsBackend}
@@ -16,8 +18,8 @@ use Rattle.log_values.specs.Fields.{tier_number, backend_at, client_at, seq_at, 
 use Rattle.log_values.specs.Outcomes.{commit, commit_at, IsCommit}
 use Rattle.log_values.proofs.CommitGrammar.{commit_grammar}
 use Rattle.log_values.proofs.FieldGrammar.{backend_grammar, client_grammar, seq_grammar, call_number_grammar, floor_grammar}
-use Rattle.log_values.proofs.Leads.{chosen, none_is_some}
-use Rattle.log_values.proofs.BoolTests.{lt_true, lt_is}
+use Rattle.log_values.proofs.Leads.{chosen}
+use Rattle.log_values.proofs.ValueGrammar.{call_at, call_grammar}
 use Rattle.frames.specs.declared.message.Msg.{Msg}
 use Rattle.frames.specs.declared.message.Msg.TheVariants as msgs
 use Rattle.frames.specs.LogMessages.{log_kind, log_body_at}
@@ -29,7 +31,7 @@ round_grammar : IsGrammar (λ n. n < ROUNDS) (λ n. to_be_bytes w16 n) round_at
 unfolding round_at
 round_grammar = refit (λ n. (n < 2 ^ 16) × (nat_lt n ROUNDS ≡ true)) (λ n. n < ROUNDS) (λ n. to_be_bytes w16 n) round_at
     (kept_grammar (λ n. n < 2 ^ 16) (λ n. to_be_bytes w16 n) (number_at w16) (λ n. nat_lt n ROUNDS) two_bytes)
-    (λ n h. lt_true n ROUNDS h.1) (λ n h. (omega (arith, h), lt_is n ROUNDS h))
+    (λ n h. ltb-true n ROUNDS h.1) (λ n h. (omega (arith, h), lt-ltb n ROUNDS h))
 
 abbrev Texted : Type 0
 Texted = ℕ × List ℕ
@@ -67,9 +69,6 @@ reply_at = both client_at (λ _. both seq_at (λ _. text_at))
 abbrev token_at : List ℕ → Read (ℕ × (List ℕ × List ℕ))
 token_at = both round_at (λ _. commit_at)
 
-abbrev call_at : List ℕ → Read Texted
-call_at = both call_number_at (λ _. text_at)
-
 abbrev answer_at : List ℕ → Read Coded
 answer_at = both call_number_at (λ _. byte_at)
 
@@ -84,9 +83,6 @@ reply_grammar = both_grammar IsClient (λ n. n ∷ []) client_at (λ _ p. IsSeq 
 
 token_grammar : IsGrammar (λ p. (p.0 < ROUNDS) × IsCommit p.1.0 p.1.1) (λ p. to_be_bytes w16 p.0 ++ commit p.1) token_at
 token_grammar = both_grammar (λ n. n < ROUNDS) (λ n. to_be_bytes w16 n) round_at (λ _ c. IsCommit c.0 c.1) (λ _ c. commit c) (λ _. commit_at) round_grammar (λ _ _. commit_grammar)
-
-call_grammar : IsGrammar (λ p. IsCallNumber p.0 × IsText p.1) (λ p. to_be_bytes w32 p.0 ++ text p.1) call_at
-call_grammar = both_grammar IsCallNumber (λ n. to_be_bytes w32 n) call_number_at (λ _ t. IsText t) (λ _ t. text t) (λ _. text_at) call_number_grammar (λ _ _. text_grammar)
 
 answer_grammar : IsGrammar (λ p. IsCallNumber p.0 × (p.1 < 256)) (λ p. to_be_bytes w32 p.0 ++ (p.1 ∷ [])) answer_at
 answer_grammar = both_grammar IsCallNumber (λ n. to_be_bytes w32 n) call_number_at (λ _ n. n < 256) (λ _ n. n ∷ []) (λ _. byte_at) call_number_grammar (λ _ _. one_byte)
@@ -122,7 +118,7 @@ case13 : (tier : Tier) (kind : ℕ) (bytes : List ℕ) (v : Msg) (rest : List �
 case13 tier kind bytes v rest are e =
     elim (chosen {A = MsgRead} (eqb kind 13) (made settle_of (floor_at bytes)) None (Some (v, rest)) e) [
       | inl h ↦ kind_case 13 settle_of IsFloor (λ n. to_be_bytes w32 n) floor_at floor_grammar (FitsMsg tier) body kind_of (λ n fits. fits) (λ n. refl) (λ n. refl) bytes kind v rest are h.0 h.1
-      | inr h ↦ absurd (none_is_some (v, rest) h.1)
+      | inr h ↦ absurd (none-some (v, rest) h.1)
     ]
 
 case12 : (tier : Tier) (kind : ℕ) (bytes : List ℕ) (v : Msg) (rest : List ℕ) → IsBytes bytes → from12 kind bytes ≡ Some (v, rest) → IsBody tier kind bytes v rest

@@ -1,10 +1,11 @@
 -- The grammar of frames.
-use Rattle.std.proofs.Common.{◌≡◌, ℕ, ◌<◌, ◌≤◌, ◌^◌, Bool, true, false, cond, eqb, ltb, inl, inr, List, [], ◌∷◌, ◌++◌, length, Option, Some, None, Result, Ok, Err, refl, sym, ap, subst, ◌∙◌, arith}
+use Rattle.std.proofs.Common.{◌≡◌, ℕ, ◌<◌, ◌≤◌, ◌^◌, true, false, cond, eqb, ltb, inl, inr, List, [], ◌∷◌, ◌++◌, length, Option, Some, None, Result, Ok, Err, refl, sym, ap, subst, ◌∙◌, arith}
 use Rattle.std.specs.Prelude.{nat_le, not, ◌&&◌}
 use Rattle.std.specs.Int.{w16, to_be_bytes}
-use Rattle.std.proofs.lemmas.Bool.{eqb-true, ltb-false}
+use Rattle.std.proofs.lemmas.Bool.{eqb-true, ltb-false, not-false, le-ltb, lt-ltb}
 use Rattle.std.proofs.lemmas.List.{append-nil, length-append}
 use Rattle.std.specs.Prelude.{IfOk}
+use Rattle.std.proofs.lemmas.Option.{none-some, same_Some}
 use Rattle.aeg_base.specs.declared.limits.TheConstants.{CLIENTS, BODY_BYTES}
 use Rattle.aeg_base.specs.declared.names.End.{End}
 use Rattle.aeg_base.specs.declared.names.End.TheVariants.{Node, Client}
@@ -12,13 +13,13 @@ use Rattle.aeg_base.specs.declared.names.Tier.{Tier}
 use Rattle.aeg_base.specs.declared.names.Tier.TheVariants.{Mid, Inv, Pay}
 use Rattle.aeg_wire.specs.Fields.{Read, byte_at, number_at}
 use Rattle.aeg_wire.specs.Formats.{both}
-use Rattle.aeg_wire.proofs.Grammar.{IsBytes, Takes, IsGrammar, some_is, made_grammar, both_grammar, distinct}
+use Rattle.aeg_wire.proofs.Grammar.{IsBytes, Takes, IsGrammar, made_grammar, both_grammar, distinct}
 use Rattle.aeg_wire.proofs.Numbers.{one_byte, two_bytes}
 use Rattle.log_values.specs.declared.format.TheConstants.{FRAME_VERSION, LAST_KIND, LAST_INDEX}
 use Rattle.log_values.specs.Fields.{tier_number}
 use Rattle.log_values.specs.Reading.{whole}
-use Rattle.log_values.proofs.Leads.{chosen, none_is_some}
-use Rattle.log_values.proofs.BoolTests.{within, is_within}
+use Rattle.log_values.proofs.Leads.{chosen}
+use Rattle.log_values.proofs.Within.{within, is_within}
 use Rattle.log_model.specs.declared.message.PaxMsg.{PaxMsg}
 use Rattle.log_model.specs.declared.message.PaxMsg.TheVariants.{Prepare, Promise, Accept, Accepted, Ask, Learn, Behind}
 use Rattle.log_values.specs.declared.any_value.AnyValue.{AnyValue}
@@ -91,8 +92,8 @@ known from = Some from
 client_case : (tier index : ℕ) (from : End) → eqb tier 3 ≡ true → cond {A = Option End} (nat_le 1 index && nat_le index CLIENTS) (known (Client index)) None ≡ Some from → SenderIs tier index from
 client_case tier index from three e =
     elim (chosen {A = Option End} (nat_le 1 index && nat_le index CLIENTS) (known (Client index)) None (Some from) e) [
-      | inl h ↦ subst (λ (f : End). SenderIs tier index f) (some_is (Client index) from h.1) (sym (eqb-true tier 3 three), (refl, within 1 CLIENTS index h.0))
-      | inr h ↦ absurd (none_is_some from h.1)
+      | inl h ↦ subst (λ (f : End). SenderIs tier index f) (same_Some (Client index) from h.1) (sym (eqb-true tier 3 three), (refl, within 1 CLIENTS index h.0))
+      | inr h ↦ absurd (none-some from h.1)
     ]
 
 abbrev pay_or_none : ℕ → ℕ → Option End
@@ -107,12 +108,12 @@ mid_or tier index = cond {A = Option End} (eqb tier 0) (known (node_of Mid index
 node_case : (tier index : ℕ) (from : End) → index ≤ LAST_INDEX → mid_or tier index ≡ Some from → SenderIs tier index from
 node_case tier index from le e =
     elim (chosen {A = Option End} (eqb tier 0) (known (node_of Mid index)) (inv_or tier index) (Some from) e) [
-      | inl h ↦ subst (λ (f : End). SenderIs tier index f) (some_is (node_of Mid index) from h.1) (sym (eqb-true tier 0 h.0), (refl, le))
+      | inl h ↦ subst (λ (f : End). SenderIs tier index f) (same_Some (node_of Mid index) from h.1) (sym (eqb-true tier 0 h.0), (refl, le))
       | inr h ↦ elim (chosen {A = Option End} (eqb tier 1) (known (node_of Inv index)) (pay_or_none tier index) (Some from) h.1) [
-        | inl k ↦ subst (λ (f : End). SenderIs tier index f) (some_is (node_of Inv index) from k.1) (sym (eqb-true tier 1 k.0), (refl, le))
+        | inl k ↦ subst (λ (f : End). SenderIs tier index f) (same_Some (node_of Inv index) from k.1) (sym (eqb-true tier 1 k.0), (refl, le))
         | inr k ↦ elim (chosen {A = Option End} (eqb tier 2) (known (node_of Pay index)) None (Some from) k.1) [
-          | inl l ↦ subst (λ (f : End). SenderIs tier index f) (some_is (node_of Pay index) from l.1) (sym (eqb-true tier 2 l.0), (refl, le))
-          | inr l ↦ absurd (none_is_some from l.1)
+          | inl l ↦ subst (λ (f : End). SenderIs tier index f) (same_Some (node_of Pay index) from l.1) (sym (eqb-true tier 2 l.0), (refl, le))
+          | inr l ↦ absurd (none-some from l.1)
         ]
       ]
     ]
@@ -123,19 +124,16 @@ sender_takes tier index from e =
     elim (chosen {A = Option End} (eqb tier 3) (cond (nat_le 1 index && nat_le index CLIENTS) (known (Client index)) None) (cond (ltb LAST_INDEX index) None (mid_or tier index)) (Some from) e) [
       | inl h ↦ client_case tier index from h.0 h.1
       | inr h ↦ elim (chosen {A = Option End} (ltb LAST_INDEX index) None (mid_or tier index) (Some from) h.1) [
-        | inl k ↦ absurd (none_is_some from k.1)
+        | inl k ↦ absurd (none-some from k.1)
         | inr k ↦ node_case tier index from (ltb-false LAST_INDEX index k.0) k.1
       ]
     ]
 
-not_past : (n limit : ℕ) → n ≤ limit → ltb limit n ≡ false
-not_past n limit le = grind (arith)
-
 node_again : (tier : Tier) (index : ℕ) → index ≤ LAST_INDEX → sender_of (tier_number tier) index ≡ Some (node_of tier index)
 unfolding sender_of
-node_again Mid index le = rw (not_past index LAST_INDEX le) refl
-node_again Inv index le = rw (not_past index LAST_INDEX le) refl
-node_again Pay index le = rw (not_past index LAST_INDEX le) refl
+node_again Mid index le = rw (le-ltb LAST_INDEX index le) refl
+node_again Inv index le = rw (le-ltb LAST_INDEX index le) refl
+node_again Pay index le = rw (le-ltb LAST_INDEX index le) refl
 
 client_again : (client : ℕ) → 1 ≤ client → client ≤ CLIENTS → sender_of 3 client ≡ Some (Client client)
 unfolding sender_of
@@ -185,14 +183,10 @@ judged_takes l header e =
         | inl k ↦ absurd (no_header (refused.Row 2) header k.1)
         | inr k ↦ elim (chosen {A = HeaderRead} (ltb LAST_KIND l.kind) (Err (refused.Row 2)) (after_kind l) (Ok header) k.1) [
           | inl m ↦ absurd (no_header (refused.Row 2) header m.1)
-          | inr m ↦ from_case l (sender_of l.tier l.index) header refl (eqb-true l.version FRAME_VERSION (not_false (eqb l.version FRAME_VERSION) h.0)) m.1
+          | inr m ↦ from_case l (sender_of l.tier l.index) header refl (eqb-true l.version FRAME_VERSION (not-false (eqb l.version FRAME_VERSION) h.0)) m.1
         ]
       ]
     ]
-  where
-    not_false : (b : Bool) → not b ≡ false → b ≡ true
-    not_false true e = refl
-    not_false false e = absurd cc
 
 -- the kinds that there are
 log_kind_low : (m : PaxMsg AnyValue) → ltb (log_kind m) 1 ≡ false
@@ -258,7 +252,7 @@ lead_fits from msg fits =
 judged_again : (from : End) (msg : Msg) → FitsFrame from msg → judged (lead_for from msg) ≡ Ok (header_for from msg)
 unfolding judged
 judged_again from msg fits =
-    rw (kind_low msg, not_past (kind_of msg) LAST_KIND (kind_high msg), sender_again from fits.sender, fits.sent, not_past (length (body msg)) BODY_BYTES (body_length (tier_of from) msg fits.message)) refl
+    rw (kind_low msg, le-ltb LAST_KIND (kind_of msg) (kind_high msg), sender_again from fits.sender, fits.sent, le-ltb BODY_BYTES (length (body msg)) (body_length (tier_of from) msg fits.message)) refl
 
 -- a header of a message, before whatever follows
 headed : (from : End) (msg : Msg) (left : List ℕ) → FitsFrame from msg → frame_of (lead_text (lead_for from msg) ++ left) ≡ framed (Ok (header_for from msg)) left
@@ -290,7 +284,7 @@ no_frame r found e = cc
 
 whole_by : (r : Read Msg) (msg : Msg) → whole r ≡ Some msg → r ≡ Some (msg, [])
 whole_by None msg e = absurd cc
-whole_by (Some (m, [])) msg e = ap (λ (z : Msg). Some (z, [])) (some_is m msg e)
+whole_by (Some (m, [])) msg e = ap (λ (z : Msg). Some (z, [])) (same_Some m msg e)
 whole_by (Some (m, byte ∷ rest)) msg e = absurd cc
 
 body_case : (header : Header) (o : Option Msg) (found : Header × Msg) → with_body header o ≡ Ok found → (o ≡ Some found.1) × (header ≡ found.0)
@@ -375,15 +369,12 @@ is_only bytes (Err errors.Memory) from msg e is = tt
 pub frames_distinct : (a b : End) (m n : Msg) (x y : List ℕ) → FitsFrame a m → FitsFrame b n → frame a m ++ x ≡ frame b n ++ y → (a ≡ b) × ((m ≡ n) × (x ≡ y))
 frames_distinct a b m n x y fa fb e =
     let d = distinct FitsLead lead_text lead_at lead_grammar (lead_for a m) (lead_for b n) (body m ++ x) (body n ++ y) (lead_fits a m fa) (lead_fits b n fb) e in
-    let ends : a ≡ b = some_is a b (sym (sender_again a fa.sender) ∙ ap (λ (l : Lead). sender_of l.tier l.index) d.0 ∙ sender_again b fb.sender) in
+    let ends : a ≡ b = same_Some a b (sym (sender_again a fa.sender) ∙ ap (λ (l : Lead). sender_of l.tier l.index) d.0 ∙ sender_again b fb.sender) in
     let kinds : kind_of m ≡ kind_of n = ap (λ (l : Lead). l.kind) d.0 in
     let reads : body_at (tier_of a) (kind_of m) (body m ++ x) ≡ body_at (tier_of b) (kind_of n) (body n ++ y)
     = ap (λ (f : End). body_at (tier_of f) (kind_of m) (body m ++ x)) ends ∙ ap (λ (k : ℕ). body_at (tier_of b) k (body m ++ x)) kinds ∙ ap (λ (w : List ℕ). body_at (tier_of b) (kind_of n) w) d.1 in
-    let same = some_is (m, x) (n, y) (sym (body_again (tier_of a) m x fa.message) ∙ reads ∙ body_again (tier_of b) n y fb.message) in
+    let same = same_Some (m, x) (n, y) (sym (body_again (tier_of a) m x fa.message) ∙ reads ∙ body_again (tier_of b) n y fb.message) in
     (ends, (ap (λ (p : Msg × List ℕ). p.0) same, ap (λ (p : Msg × List ℕ). p.1) same))
-
-is_below : (a b : ℕ) → a < b → ltb a b ≡ true
-is_below a b lt = grind (arith)
 
 some_length : (more : List ℕ) → (more ≡ [] → ⊥) → 0 < length more
 some_length [] some = absurd (some refl)
@@ -392,12 +383,12 @@ some_length (byte ∷ more) some = omega arith
 pub longer : (from : End) (msg : Msg) (more : List ℕ) → FitsFrame from msg → (more ≡ [] → ⊥) → refusal (frame from msg ++ more) ≡ Some (refused.Row 5)
 longer from msg more fits some =
     let above : length (body msg) < length (body msg ++ more) = omega (arith, length-append (body msg) more, some_length more some) in
-    ap (λ (r : Framed). refused_by r) (headed from msg (body msg ++ more) fits) ∙ rw (not_past (length (body msg)) (length (body msg ++ more)) (omega (arith, above)), is_below (length (body msg)) (length (body msg ++ more)) above) refl
+    ap (λ (r : Framed). refused_by r) (headed from msg (body msg ++ more) fits) ∙ rw (le-ltb (length (body msg ++ more)) (length (body msg)) (omega (arith, above)), lt-ltb (length (body msg)) (length (body msg ++ more)) above) refl
 
 shorter : (from : End) (msg : Msg) (left rest : List ℕ) → FitsFrame from msg → body msg ≡ left ++ rest → (rest ≡ [] → ⊥) → refusal (lead_text (lead_for from msg) ++ left) ≡ Some refused.Short
 shorter from msg left rest fits parts some =
     let below : length left < length (body msg) = omega (arith, ap length parts, length-append left rest, some_length rest some) in
-    ap (λ (r : Framed). refused_by r) (headed from msg left fits) ∙ rw (is_below (length left) (length (body msg)) below) refl
+    ap (λ (r : Framed). refused_by r) (headed from msg left fits) ∙ rw (lt-ltb (length left) (length (body msg)) below) refl
 
 six : (v k t i h l a b c d e f : ℕ) (all left rest : List ℕ) → v ∷ (k ∷ (t ∷ (i ∷ (h ∷ (l ∷ all))))) ≡ a ∷ (b ∷ (c ∷ (d ∷ (e ∷ (f ∷ (left ++ rest))))))
     → (v ∷ (k ∷ (t ∷ (i ∷ (h ∷ (l ∷ left))))) ≡ a ∷ (b ∷ (c ∷ (d ∷ (e ∷ (f ∷ left)))))) × (all ≡ left ++ rest)

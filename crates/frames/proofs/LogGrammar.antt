@@ -2,13 +2,14 @@
 use Rattle.std.proofs.Common.{◌≡◌, ℕ, ◌<◌, ◌≤◌, ◌^◌, true, cond, eqb, ltb, inl, inr, List, [], ◌∷◌, ◌++◌, Option, Some, None, refl, ap, subst, ◌∙◌, arith}
 use Rattle.std.specs.Prelude.{nat_le}
 use Rattle.std.specs.Int.{w16, to_be_bytes}
-use Rattle.std.proofs.lemmas.Bool.{eqb-true}
+use Rattle.std.proofs.lemmas.Bool.{eqb-true, leb-true, le-leb, ltb-true, lt-ltb}
+use Rattle.std.proofs.lemmas.Option.{none-some, same_Some}
 use Rattle.aeg_base.specs.declared.limits.TheConstants.{POSITIONS}
 use Rattle.aeg_base.specs.declared.names.Ballot.{Ballot}
 use Rattle.aeg_base.specs.declared.names.Tier.{Tier}
 use Rattle.aeg_wire.specs.Fields.{Read, byte_at, number_at}
 use Rattle.aeg_wire.specs.Formats.{made, both}
-use Rattle.aeg_wire.proofs.Grammar.{IsBytes, Takes, Takes-then, IsGrammar, some_is, bind_some, made_some, refit, kept_grammar, both_grammar}
+use Rattle.aeg_wire.proofs.Grammar.{IsBytes, Takes, Takes-then, IsGrammar, bind_some, made_some, refit, kept_grammar, both_grammar}
 use Rattle.aeg_wire.proofs.Numbers.{one_byte, two_bytes}
 use Rattle.log_model.specs.declared.message.PaxMsg.{PaxMsg}
 use Rattle.log_model.specs.declared.message.PaxMsg.TheVariants.{Prepare, Promise, Accept, Accepted, Ask, Learn, Behind}
@@ -16,8 +17,7 @@ use Rattle.log_values.specs.declared.any_value.AnyValue.{AnyValue}
 use Rattle.log_values.specs.Fields.{ballot, ballot_at, position_at, FitsBallot}
 use Rattle.log_values.specs.Values.{any_value, any_value_at, FitsAny}
 use Rattle.log_values.proofs.FieldGrammar.{ballot_grammar, position_grammar}
-use Rattle.log_values.proofs.Leads.{chosen, none_is_some}
-use Rattle.log_values.proofs.BoolTests.{le_true, le_is, lt_true, lt_is}
+use Rattle.log_values.proofs.Leads.{chosen}
 use Rattle.log_values.proofs.ValueGrammar.{any_grammar}
 use Rattle.frames.specs.LogMessages.{is_carried, carried_at, IsCarried, open_at, report, FitsReport, report_at, vote_at, log_kind, log_body, log_body_at, FitsLog}
 use Rattle.frames.proofs.KindCase.{kind_case}
@@ -30,7 +30,7 @@ open_grammar : IsGrammar (λ n. n ≤ POSITIONS) (λ n. to_be_bytes w16 n) open_
 unfolding open_at
 open_grammar = refit (λ n. (n < 2 ^ 16) × (nat_le n POSITIONS ≡ true)) (λ n. n ≤ POSITIONS) (λ n. to_be_bytes w16 n) open_at
     (kept_grammar (λ n. n < 2 ^ 16) (λ n. to_be_bytes w16 n) (number_at w16) (λ n. nat_le n POSITIONS) two_bytes)
-    (λ n h. le_true n POSITIONS h.1) (λ n h. (omega (arith, h), le_is n POSITIONS h))
+    (λ n h. leb-true n POSITIONS h.1) (λ n h. (omega (arith, h), le-leb n POSITIONS h))
 
 -- ---- reports
 
@@ -55,18 +55,18 @@ report_one tier pos lead bytes after v rest first one e =
           let t = (found_grammar tier pos).takes after m.0.0 m.0.1 first.rest_fits m.1 in
           let all = Takes-then bytes (lead ∷ []) after (ballot m.0.0.0 ++ any_value m.0.0.1) m.0.1 first t.0 in
           let led = subst (λ (k : ℕ). Takes bytes (k ∷ (ballot m.0.0.0 ++ any_value m.0.0.1)) m.0.1) (eqb-true lead 1 one) all in
-          subst (λ (p : Report × List ℕ). Takes bytes (report p.0) p.1 × FitsReport tier pos p.0) m.2 (led, (lt_true pos POSITIONS h.0, t.1))
-      | inr h ↦ absurd (none_is_some (v, rest) h.1)
+          subst (λ (p : Report × List ℕ). Takes bytes (report p.0) p.1 × FitsReport tier pos p.0) m.2 (led, (ltb-true pos POSITIONS h.0, t.1))
+      | inr h ↦ absurd (none-some (v, rest) h.1)
     ]
 
 report_case : (tier : Tier) (pos lead : ℕ) (bytes after : List ℕ) (v : Report) (rest : List ℕ) → Takes bytes (lead ∷ []) after
     → cond {A = Read Report} (eqb lead 0) (Some (None, after)) (cond (eqb lead 1) (cond (ltb pos POSITIONS) (made reported (found_at tier pos after)) None) None) ≡ Some (v, rest) → Takes bytes (report v) rest × FitsReport tier pos v
 report_case tier pos lead bytes after v rest first e =
     elim (chosen {A = Read Report} (eqb lead 0) (Some (None, after)) (cond (eqb lead 1) (cond (ltb pos POSITIONS) (made reported (found_at tier pos after)) None) None) (Some (v, rest)) e) [
-      | inl h ↦ subst (λ (p : Report × List ℕ). Takes bytes (report p.0) p.1 × FitsReport tier pos p.0) (some_is (None, after) (v, rest) h.1) (subst (λ (k : ℕ). Takes bytes (k ∷ []) after) (eqb-true lead 0 h.0) first, tt)
+      | inl h ↦ subst (λ (p : Report × List ℕ). Takes bytes (report p.0) p.1 × FitsReport tier pos p.0) (same_Some (None, after) (v, rest) h.1) (subst (λ (k : ℕ). Takes bytes (k ∷ []) after) (eqb-true lead 0 h.0) first, tt)
       | inr h ↦ elim (chosen {A = Read Report} (eqb lead 1) (cond (ltb pos POSITIONS) (made reported (found_at tier pos after)) None) None (Some (v, rest)) h.1) [
         | inl k ↦ report_one tier pos lead bytes after v rest first k.0 k.1
-        | inr k ↦ absurd (none_is_some (v, rest) k.1)
+        | inr k ↦ absurd (none-some (v, rest) k.1)
       ]
     ]
 
@@ -81,7 +81,7 @@ report_again : (tier : Tier) (pos : ℕ) (v : Report) (rest : List ℕ) → Fits
 unfolding report_at
 report_again tier pos None rest fits = refl
 report_again tier pos (Some r) rest fits =
-    let inside : cond {A = Read Report} (ltb pos POSITIONS) (made reported (found_at tier pos ((ballot r.0 ++ any_value r.1) ++ rest))) None ≡ made reported (found_at tier pos ((ballot r.0 ++ any_value r.1) ++ rest)) = rw (lt_is pos POSITIONS fits.0) refl in
+    let inside : cond {A = Read Report} (ltb pos POSITIONS) (made reported (found_at tier pos ((ballot r.0 ++ any_value r.1) ++ rest))) None ≡ made reported (found_at tier pos ((ballot r.0 ++ any_value r.1) ++ rest)) = rw (lt-ltb pos POSITIONS fits.0) refl in
     inside ∙ ap (λ (q : Read (Ballot × AnyValue)). made reported q) ((found_grammar tier pos).again r rest fits.1)
 
 report_grammar : (tier : Tier) (pos : ℕ) → IsGrammar (FitsReport tier pos) report (report_at tier pos)
@@ -160,7 +160,7 @@ case14 : (tier : Tier) (kind : ℕ) (bytes : List ℕ) (v : PaxMsg AnyValue) (re
 case14 tier kind bytes v rest are e =
     elim (chosen {A = LogRead} (eqb kind 14) (made behind_of (open_at bytes)) None (Some (v, rest)) e) [
       | inl h ↦ kind_case 14 behind_of (λ n. n ≤ POSITIONS) (λ n. to_be_bytes w16 n) open_at open_grammar (FitsLog tier) log_body log_kind (λ n fits. fits) (λ n. refl) (λ n. refl) bytes kind v rest are h.0 h.1
-      | inr h ↦ absurd (none_is_some (v, rest) h.1)
+      | inr h ↦ absurd (none-some (v, rest) h.1)
     ]
 
 case8 : (tier : Tier) (kind : ℕ) (bytes : List ℕ) (v : PaxMsg AnyValue) (rest : List ℕ) → IsBytes bytes → from8 tier kind bytes ≡ Some (v, rest) → IsLogBody tier kind bytes v rest

@@ -1,22 +1,19 @@
 -- The columns' pairs as one list: sorted, without zeros, and what is found there.
 use Rattle.std.proofs.Common.{◌≡◌, ◌≢◌, ℕ, zero, suc, ◌+◌, ◌<◌, ◌==◌, Bool, true, false, cond, not, T, List, [], ◌∷◌, ◌++◌, length, get_or, Option, Some, None, unwrap_or, refl, sym, ap, subst, ◌∙◌, inl, inr, ◌⊎◌, arith, Less, Equal, Ordering, length-append}
 use Rattle.std.proofs.lemmas.Bool.Decides.{nat_tests, eqb_tells}
+use Rattle.std.proofs.lemmas.Option.{none-some}
 use Rattle.std.specs.Ordering.{nat_cmp, ordering_then, eq_by_cmp, is_lt}
-use Rattle.std.specs.Cmp.{unsigned_ties}
-use Rattle.std.specs.Cmp.Derive.{Tied, tie, then_tied, on_tied}
 use Rattle.std.specs.FinMap.Entries.{find, is_sorted, below_all}
 use Rattle.aeg_base.specs.declared.names.Key.{Key}
 use Rattle.aeg_base.specs.Numbers.{checked, is_canonical, no_zeros}
 use Rattle.aeg_base.specs.Store.{Store, key_cmp, same_key, value_at, empty}
 use Rattle.aeg_base.proofs.NumberLaws.{both, number_at-entries}
+use Rattle.aeg_base.proofs.StoreLaws.{ties_same_key}
 use Rattle.kv_store.specs.Columns.{Pairs, found, id_at, IsRising, IsColumn, keyed, all_pairs, count_of}
 use Rattle.kv_store.proofs.Pairs.{found_absent}
 
 abbrev pub key : ℕ → ℕ → Key
 key class id = record { class = class; id = id }
-
-ties_same_key : Tied same_key key_cmp
-ties_same_key = then_tied (on_tied (λ (k : Key). k.class) (tie nat_cmp unsigned_ties)) (on_tied (λ (k : Key). k.id) (tie nat_cmp unsigned_ties))
 
 -- WHAT IS FOUND
 
@@ -120,7 +117,7 @@ positive_tail : (p : ℕ × ℕ) (ps : Pairs) → IsRising (p ∷ ps) → ((id :
 positive_tail p ps h pos id = at (id == p.0) (eqb_tells id p.0) (pos id)
   where
     at : (b : Bool) → ((b ≡ true) × (id ≡ p.0)) ⊎ ((b ≡ false) × (id ≢ p.0)) → (cond b (Some p.1) (found ps id) ≡ Some 0 → ⊥) → found ps id ≢ Some 0
-    at true (inl z) never e = let n : found ps id ≡ None = ap (found ps) z.1 ∙ first_id_alone p ps h in let c : None ≡ Some 0 = sym n ∙ e in cc
+    at true (inl z) never e = none-some 0 (sym (ap (found ps) z.1 ∙ first_id_alone p ps h) ∙ e)
     at true (inr z) never e = cc
     at false z never e = never e
 

@@ -287,10 +287,6 @@ low_accepted F b p (Some a) o small l d e =
     let n : key a.0 ≡ key b → ⊥ = λ q. same_false a.0 b e (key_same a.0 b (vote_is_small F p a.0 a.1 o d) small q) in
     omega arith
 
-pub no_from : (t : Bool) → (t ≡ true → ⊥) → t ≡ false
-no_from true f = absurd (f refl)
-no_from false f = refl
-
 -- the value that a leader offers is safe
 pub offer_safe : {V : Type 0} (u : ℕ) (h : ℕ → List (Fact V)) (F : List (Fact V)) (x : ℕ) (log : LogState V) (l : Leader V) (own : Option V) (v : V) → LeaderOk u h F x log l → u < count_below (2 * u + 1) (has l.promisers)
     → l.led_at ≤ open_at log → to_offer (open_at log) l own ≡ Some v → IsSafe u h (open_at log) l.ballot v

@@ -1,7 +1,7 @@
 -- The rows that vote and learn are right by themselves.
 use Rattle.std.proofs.Common.{◌≡◌, ℕ, ◌+◌, ◌*◌, ◌<◌, ◌≤◌, Bool, true, false, cond, List, [], ◌∷◌, ◌++◌, length, refl, sym, ap, ◌∙◌, subst, inl, inr, arith, Option, Some, None, zero, suc}
 use Rattle.std.specs.Prelude.{slice_get, nat_lt, nat_le, ◌==◌, ◌⊎◌, IfSome}
-use Rattle.std.proofs.lemmas.Bool.{cond_both, eq-eqb, ltb-true, leb-false, cond-true, and_from, lt-ltb}
+use Rattle.std.proofs.lemmas.Bool.{cond_both, eq-eqb, ltb-true, leb-false, cond-true, and_from, lt-ltb, false_from_ne_true}
 use Rattle.aeg_base.specs.Ballots.{same_ballot, is_below}
 use Rattle.aeg_base.specs.declared.names.Ballot.{Ballot}
 use Rattle.aeg_base.specs.declared.limits.TheConstants.{POSITIONS}
@@ -20,7 +20,7 @@ use Rattle.log_model.proofs.Basics.{between, get_push, length_push, set_cases, n
 use Rattle.log_model.proofs.History.{opening, DidVote, Orderly, top_is, vote_is_low, accepted_voted, none_past, promises_below}
 use Rattle.log_model.proofs.Invariant.{IsSafe, VoteOk, MsgOk, SendOk, LeaderOk, History, AllGrew, report-grew, backed-grew, safe-grew, vote-grew}
 use Rattle.log_model.proofs.Invariant.{Rest, TurnOk}
-use Rattle.log_model.proofs.Rows.{Known, votes_kept, promised_small, stays_ok, on_prepare_ok, on_promise_ok, still, idle_ok, tell_ok, low_accepted, no_from, offer_safe}
+use Rattle.log_model.proofs.Rows.{Known, votes_kept, promised_small, stays_ok, on_prepare_ok, on_promise_ok, still, idle_ok, tell_ok, low_accepted, offer_safe}
 
 -- A VOTE
 
@@ -63,7 +63,7 @@ offers_ok {V} u h soup x log l own v k lo many idle e = record { orderly = (ap l
     le = omega (arith, ap key same_top)
 
     free : has_ballot b log.accepted ≡ false
-    free = no_from (has_ballot b log.accepted) (λ t. let r : is_at l.last f ≡ true = lo.own t in cc (idle))
+    free = false_from_ne_true (has_ballot b log.accepted) (λ t. let r : is_at l.last f ≡ true = lo.own t in cc (idle))
 
     low : limit (accepted_in f F) ≤ key b
     low = rw (ap length k.state.learned, ← k.state.accepted) (low_accepted F b (opening F) log.accepted o small le (accepted_vote u h soup x log k) free)

@@ -1,7 +1,7 @@
 -- The grammar of a token with an order of its segments.
-use Rattle.std.proofs.Common.{◌≡◌, ℕ, ◌<◌, true, eqb, List, [], ◌∷◌, ◌++◌, length, Some, refl, sym, ap, subst, ◌∙◌, append_assoc, arith}
+use Rattle.std.proofs.Common.{◌≡◌, ℕ, ◌<◌, true, List, [], ◌∷◌, ◌++◌, length, Some, refl, sym, ap, subst, ◌∙◌, append_assoc, arith}
 use Rattle.std.specs.Prelude.{◌&&◌, ◌==◌}
-use Rattle.std.proofs.lemmas.Bool.{eqb-true}
+use Rattle.std.proofs.lemmas.Bool.{eqb-true, and_parts, and_from, eq-eqb}
 use Rattle.svc_api.specs.Orders.{is_order}
 use Rattle.svc_api.specs.declared.outcome.Outcome.{Outcome}
 use Rattle.aeg_wire.specs.Fields.{◌>>=◌, byte_at, bytes_at}
@@ -10,10 +10,6 @@ use Rattle.aeg_wire.proofs.Grammar.{IsBytes, Takes, Takes-then, IsGrammar, bind_
 use Rattle.aeg_wire.proofs.Numbers.{one_byte, bytes_take, bytes_again}
 use Rattle.log_values.specs.Outcomes.{outcome, outcome_at, token_at, order_text, order_at, commit, commit_at, FitsOutcome, IsCommit}
 use Rattle.log_values.proofs.OutcomeGrammar.{outcome_grammar}
-use Rattle.log_values.proofs.BoolTests.{and_true, and_is}
-
-eq_is : (a b : ℕ) → a ≡ b → eqb a b ≡ true
-eq_is a b e = grind (arith)
 
 numbers_grammar : IsGrammar (λ o. length o < 256) (λ o. order_text o) (λ bytes. byte_at bytes >>= λ n. bytes_at n.0 n.1)
 numbers_grammar = record {
@@ -40,7 +36,7 @@ commit_takes bytes c rest are e =
     let there = subst (λ (t : (List ℕ × ℕ) × List ℕ). made (λ order. (t.0.0, order)) (order_at t.0.1 t.1) ≡ Some (c, rest)) (sym m.2) b.2 in
     let k = made_some (λ order. (outcome o, order)) (order_at (length o.ends) m.0.1) (c, rest) there in
     let second = (order_grammar (length o.ends)).takes m.0.1 k.0.0 k.0.1 first.0.rest_fits k.1 in
-    let tests = and_true (length k.0.0 == length o.ends) (is_order (length k.0.0) k.0.0) second.1.1 in
+    let tests = and_parts (length k.0.0 == length o.ends) (is_order (length k.0.0) k.0.0) second.1.1 in
     let all = Takes-then bytes (outcome o) m.0.1 (order_text k.0.0) k.0.1 first.0 second.0 in
     let is : IsCommit (outcome o) k.0.0 = record { told = o; fits = first.1; spelled = refl; count = eqb-true (length k.0.0) (length o.ends) tests.0; permutes = tests.1 } in
     subst (λ (p : (List ℕ × List ℕ) × List ℕ). Takes bytes (commit p.0) p.1 × IsCommit p.0.0 p.0.1) k.2 (all, is)
@@ -54,7 +50,7 @@ commit_again_told o order rest fits count permutes =
     let small : length order < 256 = omega (arith, count, fits.end_count) in
     let regrouped : commit (outcome o, order) ++ rest ≡ outcome o ++ (order_text order ++ rest) = append_assoc (outcome o) (order_text order) rest in
     let first = outcome_grammar.again o (order_text order ++ rest) fits in
-    let second = (order_grammar (length o.ends)).again order rest (small, and_is (length order == length o.ends) (is_order (length order) order) (eq_is (length order) (length o.ends) count) permutes) in
+    let second = (order_grammar (length o.ends)).again order rest (small, and_from (length order == length o.ends) (is_order (length order) order) (eq-eqb (length order) (length o.ends) count) permutes) in
     ap (λ (w : List ℕ). commit_at w) regrouped ∙ rw (first, second) refl
 
 commit_again : (c : List ℕ × List ℕ) (rest : List ℕ) → IsCommit c.0 c.1 → commit_at (commit c ++ rest) ≡ Some (c, rest)

@@ -2,19 +2,20 @@
 use Rattle.std.proofs.Common.{◌≡◌, ℕ, ◌<◌, ◌≤◌, ◌^◌, true, cond, eqb, inl, inr, List, [], ◌∷◌, ◌++◌, Some, None, refl, subst, arith}
 use Rattle.std.specs.Prelude.{nat_le, nat_lt, ◌&&◌}
 use Rattle.std.specs.Int.{w16, w32, to_be_bytes}
-use Rattle.std.proofs.lemmas.Bool.{eqb-true}
+use Rattle.std.proofs.lemmas.Bool.{eqb-true, leb-true, le-leb, ltb-true, lt-ltb}
+use Rattle.std.proofs.lemmas.Option.{none-some, same_Some}
 use Rattle.aeg_base.specs.declared.limits.TheConstants.{CLIENTS, LAST_SEQ, POSITIONS}
 use Rattle.aeg_base.specs.declared.names.Tier.{Tier}
 use Rattle.aeg_base.specs.declared.names.Tier.TheVariants.{Mid, Inv, Pay}
 use Rattle.svc_api.specs.Plan.{IsBackend}
 use Rattle.aeg_wire.specs.Fields.{Read, byte_at, number_at}
 use Rattle.aeg_wire.specs.Formats.{kept, both}
-use Rattle.aeg_wire.proofs.Grammar.{IsBytes, Takes, IsGrammar, some_is, bind_some, refit, kept_grammar, made_grammar, both_grammar}
+use Rattle.aeg_wire.proofs.Grammar.{IsBytes, Takes, IsGrammar, bind_some, refit, kept_grammar, made_grammar, both_grammar}
 use Rattle.aeg_wire.proofs.Numbers.{one_byte, two_bytes, four_bytes}
 use Rattle.log_values.specs.declared.format.TheConstants.{LAST_INDEX, LAST_STAGE}
 use Rattle.log_values.specs.Fields.{tier_number, backend_at, client_at, seq_at, call_number_at, floor_at, position_at, stage_at, ballot, ballot_at, FitsBallot, IsClient, IsSeq, IsCallNumber, IsFloor}
-use Rattle.log_values.proofs.Leads.{chosen, none_is_some}
-use Rattle.log_values.proofs.BoolTests.{le_true, le_is, lt_true, lt_is, within, is_within}
+use Rattle.log_values.proofs.Leads.{chosen}
+use Rattle.log_values.proofs.Within.{within, is_within}
 
 pub client_grammar : IsGrammar IsClient (λ n. n ∷ []) client_at
 unfolding client_at
@@ -32,19 +33,19 @@ pub call_number_grammar : IsGrammar IsCallNumber (λ n. to_be_bytes w32 n) call_
 unfolding call_number_at
 call_number_grammar = refit (λ n. (n < 2 ^ 32) × (nat_le 1 n ≡ true)) IsCallNumber (λ n. to_be_bytes w32 n) call_number_at
     (kept_grammar (λ n. n < 2 ^ 32) (λ n. to_be_bytes w32 n) (number_at w32) (λ n. nat_le 1 n) four_bytes)
-    (λ n h. (le_true 1 n h.1, h.0)) (λ n h. (h.1, le_is 1 n h.0))
+    (λ n h. (leb-true 1 n h.1, h.0)) (λ n h. (h.1, le-leb 1 n h.0))
 
 pub floor_grammar : IsGrammar IsFloor (λ n. to_be_bytes w32 n) floor_at
 unfolding floor_at
 floor_grammar = refit (λ n. (n < 2 ^ 32) × (nat_le 2 n ≡ true)) IsFloor (λ n. to_be_bytes w32 n) floor_at
     (kept_grammar (λ n. n < 2 ^ 32) (λ n. to_be_bytes w32 n) (number_at w32) (λ n. nat_le 2 n) four_bytes)
-    (λ n h. (le_true 2 n h.1, h.0)) (λ n h. (h.1, le_is 2 n h.0))
+    (λ n h. (leb-true 2 n h.1, h.0)) (λ n h. (h.1, le-leb 2 n h.0))
 
 pub position_grammar : IsGrammar (λ n. n < POSITIONS) (λ n. to_be_bytes w16 n) position_at
 unfolding position_at
 position_grammar = refit (λ n. (n < 2 ^ 16) × (nat_lt n POSITIONS ≡ true)) (λ n. n < POSITIONS) (λ n. to_be_bytes w16 n) position_at
     (kept_grammar (λ n. n < 2 ^ 16) (λ n. to_be_bytes w16 n) (number_at w16) (λ n. nat_lt n POSITIONS) two_bytes)
-    (λ n h. lt_true n POSITIONS h.1) (λ n h. (omega (arith, h), lt_is n POSITIONS h))
+    (λ n h. ltb-true n POSITIONS h.1) (λ n h. (omega (arith, h), lt-ltb n POSITIONS h))
 
 pub stage_grammar : IsGrammar (λ n. (1 ≤ n) × (n ≤ LAST_STAGE)) (λ n. n ∷ []) stage_at
 unfolding stage_at
@@ -63,17 +64,17 @@ ballot_grammar =
     (made_grammar (λ p. ((p.0 < 2 ^ 32) × (nat_le 1 p.0 ≡ true)) × ((p.1 < 256) × (nat_le p.1 LAST_INDEX ≡ true))) (λ p. to_be_bytes w32 p.0 ++ (p.1 ∷ []))
     (both (λ b. kept (λ n. nat_le 1 n) (number_at w32 b)) (λ _ b. kept (λ n. nat_le n LAST_INDEX) (byte_at b)))
     (λ p. record { counter = p.0; node = p.1 }) (λ b. (b.counter, b.node)) (λ p. refl) (λ b. refl) parts)
-    (λ b h. record { low = le_true 1 b.counter h.0.1; high = h.0.0; node = le_true b.node LAST_INDEX h.1.1 })
-    (λ b h. ((h.high, le_is 1 b.counter h.low), (omega (arith, h.node), le_is b.node LAST_INDEX h.node)))
+    (λ b h. record { low = leb-true 1 b.counter h.0.1; high = h.0.0; node = leb-true b.node LAST_INDEX h.1.1 })
+    (λ b h. ((h.high, le-leb 1 b.counter h.low), (omega (arith, h.node), le-leb b.node LAST_INDEX h.node)))
 
 backend_case : (n : ℕ) (bytes after : List ℕ) (t : Tier) (rest : List ℕ) → Takes bytes (n ∷ []) after
     → cond {A = Read Tier} (eqb n 1) (Some (Inv, after)) (cond (eqb n 2) (Some (Pay, after)) None) ≡ Some (t, rest) → Takes bytes (tier_number t ∷ []) rest × IsBackend t
 backend_case n bytes after t rest taken e =
     elim (chosen {A = Read Tier} (eqb n 1) (Some (Inv, after)) (cond (eqb n 2) (Some (Pay, after)) None) (Some (t, rest)) e) [
-      | inl h ↦ subst (λ (p : Tier × List ℕ). Takes bytes (tier_number p.0 ∷ []) p.1 × IsBackend p.0) (some_is (Inv, after) (t, rest) h.1) (subst (λ (k : ℕ). Takes bytes (k ∷ []) after) (eqb-true n 1 h.0) taken, tt)
+      | inl h ↦ subst (λ (p : Tier × List ℕ). Takes bytes (tier_number p.0 ∷ []) p.1 × IsBackend p.0) (same_Some (Inv, after) (t, rest) h.1) (subst (λ (k : ℕ). Takes bytes (k ∷ []) after) (eqb-true n 1 h.0) taken, tt)
       | inr h ↦ elim (chosen {A = Read Tier} (eqb n 2) (Some (Pay, after)) None (Some (t, rest)) h.1) [
-        | inl k ↦ subst (λ (p : Tier × List ℕ). Takes bytes (tier_number p.0 ∷ []) p.1 × IsBackend p.0) (some_is (Pay, after) (t, rest) k.1) (subst (λ (m : ℕ). Takes bytes (m ∷ []) after) (eqb-true n 2 k.0) taken, tt)
-        | inr k ↦ absurd (none_is_some (t, rest) k.1)
+        | inl k ↦ subst (λ (p : Tier × List ℕ). Takes bytes (tier_number p.0 ∷ []) p.1 × IsBackend p.0) (same_Some (Pay, after) (t, rest) k.1) (subst (λ (m : ℕ). Takes bytes (m ∷ []) after) (eqb-true n 2 k.0) taken, tt)
+        | inr k ↦ absurd (none-some (t, rest) k.1)
       ]
     ]
 

@@ -1,5 +1,5 @@
 -- A value behind a lead byte that tells its case.
-use Rattle.std.proofs.Common.{◌≡◌, ℕ, Bool, true, false, cond, eqb, ◌⊎◌, inl, inr, List, [], ◌∷◌, Some, None, refl, sym, subst}
+use Rattle.std.proofs.Common.{◌≡◌, ℕ, Bool, true, false, cond, eqb, ◌⊎◌, inl, inr, List, [], ◌∷◌, Some, refl, sym, subst}
 use Rattle.std.proofs.lemmas.Bool.{eqb-true}
 use Rattle.aeg_wire.specs.Fields.{Read}
 use Rattle.aeg_wire.specs.Formats.{made}
@@ -9,9 +9,6 @@ use Rattle.aeg_wire.proofs.Grammar.{Takes, Takes-then, IsGrammar, made_some}
 pub chosen : {A : Type 0} (b : Bool) (x y z : A) → cond b x y ≡ z → ((b ≡ true) × (x ≡ z)) ⊎ ((b ≡ false) × (y ≡ z))
 chosen true x y z e = inl (refl, e)
 chosen false x y z e = inr (refl, e)
-
-pub none_is_some : {A : Type 0} (x : A) → None ≡ Some x → ⊥
-none_is_some x e = cc
 
 -- a case of a value: its lead byte, and what its field spells
 pub case_of : {A B : Type 0} (key : ℕ) (f : A → B) (fits : A → Type 0) (spelling : A → List ℕ) (read : List ℕ → Read A) → IsGrammar fits spelling read

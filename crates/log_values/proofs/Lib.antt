@@ -1,4 +1,4 @@
-pub mod BoolTests
+pub mod Within
 pub mod FieldGrammar
 pub mod Misses
 pub mod OutcomeGrammar

@@ -3,6 +3,8 @@ use Rattle.std.proofs.Common.{◌≡◌, ℕ, ◌<◌, ◌≤◌, ◌^◌, true,
 use Rattle.std.specs.Prelude.{nat_le}
 use Rattle.std.specs.List.{flat_map, AllByRecursion}
 use Rattle.std.specs.Int.{w16, to_be_bytes}
+use Rattle.std.proofs.lemmas.Bool.{leb-true, le-leb}
+use Rattle.std.proofs.lemmas.Option.{none-some}
 use Rattle.aeg_base.specs.declared.limits.TheConstants.{TEXT_BYTES}
 use Rattle.aeg_base.specs.declared.names.Key.{Key}
 use Rattle.aeg_base.specs.declared.names.Tier.{Tier}
@@ -19,9 +21,8 @@ use Rattle.log_values.specs.declared.format.TheConstants.{TOKEN_PAIRS, TOKEN_END
 use Rattle.log_values.specs.Fields.{tier_number, backend_at, stage_at}
 use Rattle.log_values.specs.Outcomes.{pair, pairs_at, rises, ending, ending_at, outcome, outcome_at, all_pairs_at, all_ends_at, FitsPair, FitsOutcome}
 use Rattle.log_values.proofs.FieldGrammar.{backend_grammar, stage_grammar}
-use Rattle.log_values.proofs.Leads.{chosen, none_is_some, case_of}
+use Rattle.log_values.proofs.Leads.{chosen, case_of}
 use Rattle.log_values.proofs.Pairs.{pairs_take, pairs_again}
-use Rattle.log_values.proofs.BoolTests.{le_true, le_is}
 
 -- ---- ends
 
@@ -54,7 +55,7 @@ ending_case lead bytes after v rest first e =
       | inl h ↦ case_of REPLY_END ends.Reply (λ t. length t ≤ TEXT_BYTES) text text_at text_grammar IsEnding ending (λ t le. le) (λ t. refl) bytes lead after v rest first h.0 h.1
       | inr h ↦ elim (chosen {A = Read Ending} (eqb lead CALL_END) (made call_of (call_at after)) None (Some (v, rest)) h.1) [
         | inl k ↦ case_of CALL_END call_of call_fits call_text call_at call_grammar IsEnding ending (λ p fits. (fits.0, (fits.1.0.0, (fits.1.0.1, fits.1.1)))) (λ p. refl) bytes lead after v rest first k.0 k.1
-        | inr k ↦ absurd (none_is_some (v, rest) k.1)
+        | inr k ↦ absurd (none-some (v, rest) k.1)
       ]
     ]
 
@@ -90,13 +91,13 @@ all_pairs_grammar = record {
       let first = two_bytes.takes bytes b.0.0 b.0.1 are k.0 in
       let others = pairs_take b.0.0 None b.0.1 ps rest first.0.rest_fits b.2 in
       let all = Takes-then bytes (to_be_bytes w16 b.0.0) b.0.1 (flat_map pair ps) rest first.0 others.0 in
-      let below : b.0.0 ≤ TOKEN_PAIRS = le_true b.0.0 TOKEN_PAIRS k.1 in
+      let below : b.0.0 ≤ TOKEN_PAIRS = leb-true b.0.0 TOKEN_PAIRS k.1 in
       (subst (λ (n : ℕ). Takes bytes (to_be_bytes w16 n ++ flat_map pair ps) rest) (sym others.1.0) all, (subst (λ (n : ℕ). n ≤ TOKEN_PAIRS) (sym others.1.0) below, others.1.1));
   again = λ ps rest fit.
       let small : length ps < 2 ^ 16 = omega (arith, fit.0) in
       let regrouped : pairs_text ps ++ rest ≡ to_be_bytes w16 (length ps) ++ (flat_map pair ps ++ rest) = append_assoc (to_be_bytes w16 (length ps)) (flat_map pair ps) rest in
       let count : kept (λ n. nat_le n TOKEN_PAIRS) (number_at w16 (to_be_bytes w16 (length ps) ++ (flat_map pair ps ++ rest))) ≡ Some (length ps, flat_map pair ps ++ rest)
-      = rw (two_bytes.again (length ps) (flat_map pair ps ++ rest) small, le_is (length ps) TOKEN_PAIRS fit.0) refl in
+      = rw (two_bytes.again (length ps) (flat_map pair ps ++ rest) small, le-leb (length ps) TOKEN_PAIRS fit.0) refl in
       ap all_pairs_at regrouped ∙ ap (λ (r : Read ℕ). r >>= λ n. pairs_at None n.0 n.1) count ∙ pairs_again ps None rest fit.1.0 fit.1.1;
 }
 

@@ -5,16 +5,17 @@ use Rattle.std.specs.List.{flat_map, AllByRecursion}
 use Rattle.std.specs.Int.{w32, w64, to_be_bytes}
 use Rattle.std.proofs.lemmas.List.{append-nil}
 use Rattle.std.proofs.lemmas.List.Concat.{flat_map-cons}
+use Rattle.std.proofs.lemmas.Bool.{ltb-true, lt-ltb, and_parts, and_from}
+use Rattle.std.proofs.lemmas.Option.{same_Some}
 use Rattle.aeg_base.specs.declared.limits.TheConstants.{KEY_CLASSES}
 use Rattle.aeg_base.specs.declared.names.Key.{Key}
 use Rattle.aeg_wire.specs.Fields.{Read, ◌>>=◌, byte_at, number_at}
 use Rattle.aeg_wire.specs.Formats.{made, kept, both}
-use Rattle.aeg_wire.proofs.Grammar.{IsBytes, Takes, Takes-then, IsGrammar, some_is, bind_some, made_some, refit, kept_grammar, made_grammar, both_grammar}
+use Rattle.aeg_wire.proofs.Grammar.{IsBytes, Takes, Takes-then, IsGrammar, bind_some, made_some, refit, kept_grammar, made_grammar, both_grammar}
 use Rattle.aeg_wire.proofs.Numbers.{one_byte, four_bytes, eight_bytes}
 use Rattle.aeg_wire.proofs.Lists.{with_front}
 use Rattle.log_values.specs.Outcomes.{pair, pair_at, pairs_at, is_after, rises, FitsPair}
 use Rattle.log_values.specs.Reading.{left_after}
-use Rattle.log_values.proofs.BoolTests.{lt_true, lt_is, and_true, and_is}
 use Rattle.log_values.proofs.Passing.{left_made, none_left}
 
 pub pair_grammar : (last : Option Key) → IsGrammar (λ p. FitsPair p × (is_after last p.0 ≡ true)) pair (pair_at last)
@@ -30,8 +31,8 @@ pair_grammar last =
     refit (λ q. (((q.0.class < 256) × (nat_lt q.0.class KEY_CLASSES ≡ true)) × ((q.0.id < 2 ^ 32) × (q.1 < 2 ^ 64))) × (is_after last q.0 ≡ true)) (λ p. FitsPair p × (is_after last p.0 ≡ true)) pair (pair_at last)
     (kept_grammar (λ q. ((q.0.class < 256) × (nat_lt q.0.class KEY_CLASSES ≡ true)) × ((q.0.id < 2 ^ 32) × (q.1 < 2 ^ 64))) pair
     (λ bytes. made there (both (λ b. kept (λ n. nat_lt n KEY_CLASSES) (byte_at b)) (λ _. both (number_at w32) (λ _. number_at w64)) bytes)) (λ p. is_after last p.0) told)
-    (λ q h. (((lt_true q.0.class KEY_CLASSES h.0.0.1, h.0.1.0), h.0.1.1), h.1))
-    (λ q h. (((omega (arith, h.0.0.0), lt_is q.0.class KEY_CLASSES h.0.0.0), (h.0.0.1, h.0.1)), h.1))
+    (λ q h. (((ltb-true q.0.class KEY_CLASSES h.0.0.1, h.0.1.0), h.0.1.1), h.1))
+    (λ q h. (((omega (arith, h.0.0.0), lt-ltb q.0.class KEY_CLASSES h.0.0.0), (h.0.0.1, h.0.1)), h.1))
   where
     there : ℕ × (ℕ × ℕ) → Key × ℕ
     there p = (record { class = p.0; id = p.1.0 }, p.1.1)
@@ -43,7 +44,7 @@ pub pairs_take : (n : ℕ) (last : Option Key) (bytes : List ℕ) (ps : List (Ke
     → Takes bytes (flat_map pair ps) rest × ((length ps ≡ n) × (AllByRecursion FitsPair ps × (rises last ps ≡ true)))
 unfolding pairs_at
 pairs_take zero last bytes ps rest are e =
-    subst (λ (p : List (Key × ℕ) × List ℕ). Takes bytes (flat_map pair p.0) p.1 × ((length p.0 ≡ 0) × (AllByRecursion FitsPair p.0 × (rises last p.0 ≡ true)))) (some_is ([], bytes) (ps, rest) e)
+    subst (λ (p : List (Key × ℕ) × List ℕ). Takes bytes (flat_map pair p.0) p.1 × ((length p.0 ≡ 0) × (AllByRecursion FitsPair p.0 × (rises last p.0 ≡ true)))) (same_Some ([], bytes) (ps, rest) e)
     (record { parts = refl; rest_fits = are }, (refl, (tt, refl)))
 pairs_take (suc n) last bytes ps rest are e =
     let b = bind_some (pair_at last bytes) (λ p. made (λ others. p.0 ∷ others) (pairs_at (Some p.0.0) n p.1)) (ps, rest) e in
@@ -52,14 +53,14 @@ pairs_take (suc n) last bytes ps rest are e =
     let others = pairs_take n (Some b.0.0.0) b.0.1 m.0.0 m.0.1 first.0.rest_fits m.1 in
     let all = Takes-then bytes (pair b.0.0) b.0.1 (flat_map pair m.0.0) m.0.1 first.0 others.0 in
     subst (λ (p : List (Key × ℕ) × List ℕ). Takes bytes (flat_map pair p.0) p.1 × ((length p.0 ≡ suc n) × (AllByRecursion FitsPair p.0 × (rises last p.0 ≡ true)))) m.2
-    (rw flat_map-cons all, (ap suc others.1.0, ((first.1.0, others.1.1.0), and_is (is_after last b.0.0.0) (rises (Some b.0.0.0) m.0.0) first.1.1 others.1.1.1)))
+    (rw flat_map-cons all, (ap suc others.1.0, ((first.1.0, others.1.1.0), and_from (is_after last b.0.0.0) (rises (Some b.0.0.0) m.0.0) first.1.1 others.1.1.1)))
 
 pub pairs_again : (ps : List (Key × ℕ)) (last : Option Key) (rest : List ℕ) → AllByRecursion FitsPair ps → rises last ps ≡ true
     → pairs_at last (length ps) (flat_map pair ps ++ rest) ≡ Some (ps, rest)
 unfolding pairs_at
 pairs_again [] last rest all up = refl
 pairs_again (p ∷ ps) last rest all up =
-    let ups = and_true (is_after last p.0) (rises (Some p.0) ps) up in
+    let ups = and_parts (is_after last p.0) (rises (Some p.0) ps) up in
     let regrouped : flat_map pair (p ∷ ps) ++ rest ≡ pair p ++ (flat_map pair ps ++ rest) = ap (λ (z : List ℕ). z ++ rest) (flat_map-cons pair p ps) ∙ append_assoc (pair p) (flat_map pair ps) rest in
     let first = (pair_grammar last).again p (flat_map pair ps ++ rest) (all.0, ups.0) in
     let others = pairs_again ps (Some p.0) rest all.1 ups.1 in

@@ -1,8 +1,9 @@
 -- A loop that passes over so many fields of one kind.
 use Rattle.std.proofs.Common.{◌≡◌, ℕ, zero, suc, ◌+◌, ◌-◌, ◌<◌, ◌≤◌, List, [], ◌∷◌, length, Option, Some, None, refl, sym, ap, ◌∙◌, arith}
+use Rattle.std.proofs.lemmas.Option.{same_Some}
 use Rattle.aeg_wire.specs.Fields.{Read}
 use Rattle.aeg_wire.specs.Formats.{made, list_at}
-use Rattle.aeg_wire.proofs.Grammar.{some_is, bind_some, made_some}
+use Rattle.aeg_wire.proofs.Grammar.{bind_some, made_some}
 use Rattle.log_values.specs.Reading.{left_after}
 
 pub left_made : {A B : Type 0} (f : A → B) (read : Read A) → left_after (made f read) ≡ left_after read
@@ -39,7 +40,7 @@ pass_done one count i bytes total le so_far =
 -- so many fields are so many
 pub list_length : {A : Type 0} (one : List ℕ → Read A) (n : ℕ) (bytes : List ℕ) (xs : List A) (rest : List ℕ) → list_at one n bytes ≡ Some (xs, rest) → length xs ≡ n
 unfolding list_at
-list_length one zero bytes xs rest e = ap (λ (p : List _ × List ℕ). length p.0) (sym (some_is ([], bytes) (xs, rest) e))
+list_length one zero bytes xs rest e = ap (λ (p : List _ × List ℕ). length p.0) (sym (same_Some ([], bytes) (xs, rest) e))
 list_length one (suc n) bytes xs rest e =
     let b = bind_some (one bytes) (λ x. made (λ others. x.0 ∷ others) (list_at one n x.1)) (xs, rest) e in
     let m = made_some (λ others. b.0.0 ∷ others) (list_at one n b.0.1) (xs, rest) b.2 in

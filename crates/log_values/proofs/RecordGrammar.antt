@@ -5,13 +5,15 @@ use Rattle.std.specs.List.{AllByRecursion}
 use Rattle.std.specs.Int.{w16, w32, to_be_bytes}
 use Rattle.std.proofs.lemmas.List.{append-nil, length-append}
 use Rattle.std.proofs.lemmas.List.Concat.{flat_map-cons}
+use Rattle.std.proofs.lemmas.Bool.{ltb-true, lt-ltb}
+use Rattle.std.proofs.lemmas.Option.{none-some, same_Some}
 use Rattle.aeg_base.specs.declared.limits.TheConstants.{POSITIONS}
 use Rattle.aeg_base.specs.declared.names.Ballot.{Ballot}
 use Rattle.aeg_base.specs.declared.names.Tier.{Tier}
 use Rattle.svc_api.specs.Plan.{IsBackend}
 use Rattle.aeg_wire.specs.Fields.{Read, ◌>>=◌, byte_at}
 use Rattle.aeg_wire.specs.Formats.{made, both}
-use Rattle.aeg_wire.proofs.Grammar.{IsBytes, Takes, Takes-then, IsGrammar, some_is, bind_some, made_some, kept_some, both_grammar}
+use Rattle.aeg_wire.proofs.Grammar.{IsBytes, Takes, Takes-then, IsGrammar, bind_some, made_some, kept_some, both_grammar}
 use Rattle.aeg_wire.proofs.Numbers.{one_byte}
 use Rattle.log_values.specs.declared.any_value.AnyValue.{AnyValue}
 use Rattle.log_values.specs.declared.fact.Fact.{Fact}
@@ -21,8 +23,7 @@ use Rattle.log_values.specs.Fields.{tier_number, backend_at, call_number_at, pos
 use Rattle.log_values.specs.Values.{any_value, any_value_at, FitsAny}
 use Rattle.log_values.specs.Records.{fact, fact_at, FitsFact, record_text, facts_at, record_at, FitsRecord}
 use Rattle.log_values.proofs.FieldGrammar.{backend_grammar, call_number_grammar, position_grammar, ballot_grammar}
-use Rattle.log_values.proofs.Leads.{chosen, none_is_some, case_of}
-use Rattle.log_values.proofs.BoolTests.{lt_true, lt_is}
+use Rattle.log_values.proofs.Leads.{chosen, case_of}
 use Rattle.log_values.proofs.ValueGrammar.{any_grammar}
 use Rattle.log_values.proofs.Wholes.{IsEndGrammar}
 use Rattle.aeg_wire.proofs.Lists.{with_front}
@@ -110,7 +111,7 @@ fact_case lead bytes after v rest first e =
           | inl l ↦ case_of LEARNED learned_of learned_fits learned_text learned_at learned_grammar FitsFact fact (λ p fits. fits) (λ p. refl) bytes lead after v rest first l.0 l.1
           | inr l ↦ elim (chosen {A = Read Fact} (eqb lead HELD) (made held_of (held_at after)) None (Some (v, rest)) l.1) [
             | inl m ↦ case_of HELD held_of held_fits held_text held_at held_grammar FitsFact fact (λ p fits. fits) (λ p. refl) bytes lead after v rest first m.0 m.1
-            | inr m ↦ absurd (none_is_some (v, rest) m.1)
+            | inr m ↦ absurd (none-some (v, rest) m.1)
           ]
         ]
       ]
@@ -138,7 +139,7 @@ fact_grammar = record { takes = fact_takes; again = fact_again }
 facts_take : (n : ℕ) (bytes : List ℕ) (fs : List Fact) (rest : List ℕ) → IsBytes bytes → facts_at n bytes ≡ Some (fs, rest) → Takes bytes (record_text fs) rest × AllByRecursion FitsFact fs
 unfolding facts_at
 facts_take n [] fs rest are e =
-    subst (λ (p : List Fact × List ℕ). Takes [] (record_text p.0) p.1 × AllByRecursion FitsFact p.0) (some_is ([], []) (fs, rest) e) (record { parts = refl; rest_fits = are }, tt)
+    subst (λ (p : List Fact × List ℕ). Takes [] (record_text p.0) p.1 × AllByRecursion FitsFact p.0) (same_Some ([], []) (fs, rest) e) (record { parts = refl; rest_fits = are }, tt)
 facts_take zero (byte ∷ bytes) fs rest are e = absurd cc
 facts_take (suc n) (byte ∷ bytes) fs rest are e =
     let b = bind_some (fact_at (byte ∷ bytes)) (λ first. made (λ others. first.0 ∷ others) (facts_at n first.1)) (fs, rest) e in
@@ -187,8 +188,8 @@ record_grammar = record {
   takes = λ bytes fs rest are e.
       let k = kept_some (λ record_facts. nat_lt 0 (length record_facts)) (facts_at (length bytes) bytes) (fs, rest) e in
       let t = facts_take (length bytes) bytes fs rest are k.0 in
-      (t.0, (lt_true 0 (length fs) k.1, t.1));
-  ends = λ fs fits. rw (facts_end (length (record_text fs)) fs (no_more fs) fits.1, lt_is 0 (length fs) fits.0) refl;
+      (t.0, (ltb-true 0 (length fs) k.1, t.1));
+  ends = λ fs fits. rw (facts_end (length (record_text fs)) fs (no_more fs) fits.1, lt-ltb 0 (length fs) fits.0) refl;
 }
 
 -- ---- a loop over facts

@@ -3,9 +3,10 @@ use Rattle.std.proofs.Common.{◌≡◌, ℕ, ◌≤◌, cond, eqb, ltb, inl, in
 use Rattle.std.specs.List.{flat_map, AllByRecursion}
 use Rattle.std.specs.Int.{w32, to_be_bytes}
 use Rattle.std.proofs.lemmas.Bool.{eqb-true}
+use Rattle.std.proofs.lemmas.Option.{none-some, same_Some}
 use Rattle.aeg_wire.specs.Fields.{Read, byte_at, text, text_at}
 use Rattle.aeg_wire.specs.Formats.{made, both, counted_at}
-use Rattle.aeg_wire.proofs.Grammar.{IsBytes, Takes, IsGrammar, some_is, bind_some, made_some, refit, made_grammar, both_grammar}
+use Rattle.aeg_wire.proofs.Grammar.{IsBytes, Takes, IsGrammar, bind_some, made_some, refit, made_grammar, both_grammar}
 use Rattle.aeg_wire.proofs.Numbers.{one_byte, text_grammar}
 use Rattle.aeg_wire.proofs.Lists.{counted_grammar}
 use Rattle.log_values.specs.declared.entry.Entry.{Entry}
@@ -22,7 +23,7 @@ use Rattle.log_values.specs.Outcomes.{commit, commit_at, IsCommit}
 use Rattle.log_values.specs.Values.{entry, entry_at, FitsEntry, mid_value, mid_body_at, mid_value_at, FitsMid, back_value, back_body_at, back_value_at, FitsBack, any_value, any_value_at, FitsAny}
 use Rattle.log_values.proofs.CommitGrammar.{commit_grammar}
 use Rattle.log_values.proofs.FieldGrammar.{client_grammar, seq_grammar, call_number_grammar, floor_grammar}
-use Rattle.log_values.proofs.Leads.{chosen, none_is_some, case_of}
+use Rattle.log_values.proofs.Leads.{chosen, case_of}
 
 -- ---- entries
 
@@ -58,8 +59,8 @@ mid_case lead bytes after v rest first e =
       | inr h ↦ elim (chosen {A = Read MidValue} (eqb lead COMMIT) (made verdict_of (commit_at after)) (cond (eqb lead SERIAL) (Some (mids.Verdict verdicts.Serial, after)) None) (Some (v, rest)) h.1) [
         | inl k ↦ case_of COMMIT verdict_of (λ c. IsCommit c.0 c.1) commit commit_at commit_grammar FitsMid mid_value (λ c fits. fits) (λ c. refl) bytes lead after v rest first k.0 k.1
         | inr k ↦ elim (chosen {A = Read MidValue} (eqb lead SERIAL) (Some (mids.Verdict verdicts.Serial, after)) None (Some (v, rest)) k.1) [
-          | inl s ↦ subst (λ (p : MidValue × List ℕ). Takes bytes (mid_value p.0) p.1 × FitsMid p.0) (some_is (mids.Verdict verdicts.Serial, after) (v, rest) s.1) (subst (λ (n : ℕ). Takes bytes (n ∷ []) after) (eqb-true lead SERIAL s.0) first, tt)
-          | inr s ↦ absurd (none_is_some (v, rest) s.1)
+          | inl s ↦ subst (λ (p : MidValue × List ℕ). Takes bytes (mid_value p.0) p.1 × FitsMid p.0) (same_Some (mids.Verdict verdicts.Serial, after) (v, rest) s.1) (subst (λ (n : ℕ). Takes bytes (n ∷ []) after) (eqb-true lead SERIAL s.0) first, tt)
+          | inr s ↦ absurd (none-some (v, rest) s.1)
         ]
       ]
     ]
@@ -82,13 +83,13 @@ mid_grammar = record { takes = mid_takes; again = mid_again }
 
 -- ---- values of a backend log
 
-abbrev call_at : List ℕ → Read (ℕ × List ℕ)
+abbrev pub call_at : List ℕ → Read (ℕ × List ℕ)
 call_at = both call_number_at (λ _. text_at)
 
 abbrev call_of : ℕ × List ℕ → BackValue
 call_of p = backs.Call p.0 p.1
 
-call_grammar : IsGrammar (λ p. IsCallNumber p.0 × IsText p.1) (λ p. to_be_bytes w32 p.0 ++ text p.1) call_at
+pub call_grammar : IsGrammar (λ p. IsCallNumber p.0 × IsText p.1) (λ p. to_be_bytes w32 p.0 ++ text p.1) call_at
 call_grammar = both_grammar IsCallNumber (λ n. to_be_bytes w32 n) call_number_at (λ _ t. IsText t) (λ _ t. text t) (λ _. text_at) call_number_grammar (λ _ _. text_grammar)
 
 back_case : (lead : ℕ) (bytes after : List ℕ) (v : BackValue) (rest : List ℕ) → Takes bytes (lead ∷ []) after → back_body_at lead after ≡ Some (v, rest) → Takes bytes (back_value v) rest × FitsBack v
@@ -98,7 +99,7 @@ back_case lead bytes after v rest first e =
       | inl h ↦ case_of CALL call_of (λ p. IsCallNumber p.0 × IsText p.1) (λ p. to_be_bytes w32 p.0 ++ text p.1) call_at call_grammar FitsBack back_value (λ p fits. fits) (λ p. refl) bytes lead after v rest first h.0 h.1
       | inr h ↦ elim (chosen {A = Read BackValue} (eqb lead SETTLE) (made backs.Settle (floor_at after)) None (Some (v, rest)) h.1) [
         | inl k ↦ case_of SETTLE backs.Settle IsFloor (λ n. to_be_bytes w32 n) floor_at floor_grammar FitsBack back_value (λ n fits. fits) (λ n. refl) bytes lead after v rest first k.0 k.1
-        | inr k ↦ absurd (none_is_some (v, rest) k.1)
+        | inr k ↦ absurd (none-some (v, rest) k.1)
       ]
     ]
 

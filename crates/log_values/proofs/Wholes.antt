@@ -2,14 +2,15 @@
 use Rattle.std.proofs.Common.{◌≡◌, ℕ, List, [], ◌∷◌, Option, Some, None, Result, Ok, Err, sym, ap, ◌∙◌}
 use Rattle.std.specs.Prelude.{IfOk, IfSome}
 use Rattle.std.proofs.lemmas.List.{append-nil}
+use Rattle.std.proofs.lemmas.Option.{same_Some}
 use Rattle.aeg_base.specs.declared.memory.Memory.{Memory}
 use Rattle.aeg_wire.specs.Fields.{Read}
-use Rattle.aeg_wire.proofs.Grammar.{IsBytes, Takes, IsGrammar, some_is}
+use Rattle.aeg_wire.proofs.Grammar.{IsBytes, Takes, IsGrammar}
 use Rattle.log_values.specs.Reading.{Spells, whole}
 
 whole_by : {A : Type 0} (r : Read A) (x : A) → whole r ≡ Some x → r ≡ Some (x, [])
 whole_by None x e = absurd cc
-whole_by (Some (y, [])) x e = ap (λ (z : _). Some (z, [])) (some_is y x e)
+whole_by (Some (y, [])) x e = ap (λ (z : _). Some (z, [])) (same_Some y x e)
 whole_by (Some (y, byte ∷ rest)) x e = absurd cc
 
 -- a grammar of all of some bytes

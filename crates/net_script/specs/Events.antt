@@ -1,7 +1,7 @@
 -- What holds of each event of a script.
 use Rattle.std.specs.Prelude.{◌≡◌, ℕ, ◌≤◌, ◌<◌, Bool, true, false, List, Option, None, Some, length}
 use Rattle.std.specs.List.{All}
-use Rattle.aeg_base.specs.declared.limits.TheConstants.{CLIENTS, PACKETS, MAX_FAULTS, MAX_DEPTH}
+use Rattle.aeg_base.specs.declared.limits.TheConstants.{PACKETS, MAX_FAULTS, MAX_DEPTH}
 use Rattle.aeg_base.specs.declared.names.End.{End}
 use Rattle.aeg_base.specs.declared.names.End.TheVariants.{Node, Client}
 use Rattle.run_model.specs.declared.line.Event.{Event}
@@ -9,9 +9,7 @@ use Rattle.run_model.specs.declared.line.Event.TheVariants.{Submit, Deliver, Sho
 use Rattle.run_model.specs.declared.line.CutLine.{CutLine}
 use Rattle.run_model.specs.declared.line.CutLine.TheVariants as cuts
 use Rattle.run_model.specs.Script.{Numbered, is_placed, is_asked}
-
-abbrev pub IsClient : ℕ → Type 0
-IsClient client = (1 ≤ client) × (client ≤ CLIENTS)
+use Rattle.log_values.specs.Fields.{IsClient}
 
 abbrev pub IsEnd : End → Type 0
 IsEnd (Node n) = Unit {0}

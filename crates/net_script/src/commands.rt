@@ -5,7 +5,8 @@ ghost use Rattle.server_model.specs.Further.{further_parts};
 ghost use Rattle.run_model.specs.declared.line.Event.{Event};
 ghost use Rattle.run_model.specs.declared.line.Event.TheVariants.{Submit, Lead, Offer, Crash, Restart, Wipe};
 ghost use Rattle.run_model.specs.Script.{submit_in, deliver_in, short_in, at_node, retry_in, alone as alone_in, is_later_command as later_command, is_later_submit as later_submit, is_later as later};
-ghost use Rattle.net_script.specs.Events.{IsClient, IsInRange, IsPlayable};
+ghost use Rattle.net_script.specs.Events.{IsInRange, IsPlayable};
+ghost use Rattle.log_values.specs.Fields.{IsClient};
 
 use crate::words::{client_number, end_of, node_of, packet_of};
 use aeg_base::NodeId;

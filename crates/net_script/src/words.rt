@@ -2,7 +2,8 @@
 ghost use Rattle.std.specs.Prelude.{◌≡◌, ◌≤◌, ◌<◌, IfSome};
 ghost use Rattle.server_model.specs.Words.{number_in};
 ghost use Rattle.run_model.specs.Script.{tier_of_letter, node_in, client_in, end_in, packet_in};
-ghost use Rattle.net_script.specs.Events.{IsClient, IsEnd};
+ghost use Rattle.net_script.specs.Events.{IsEnd};
+ghost use Rattle.log_values.specs.Fields.{IsClient};
 
 use aeg_base::limits::{CLIENTS, PACKETS};
 use aeg_base::{End, NodeId, Tier};

@@ -2,6 +2,7 @@
 use Rattle.std.proofs.Common.{◌≡◌, inl, inr, ℕ, ◌+◌, ◌<◌, ◌≤◌, Bool, false, cond, List, [], ◌∷◌, length, get_or, true, false, Result, Ok, Err, ◌&&◌, ◌==◌, nat_lt, nat_le, refl, sym, ◌∙◌, ap, subst, arith}
 use Rattle.std.proofs.lemmas.Bool.Decides.{nat_tests}
 use Rattle.std.proofs.lemmas.List.{drop_all}
+use Rattle.std.proofs.lemmas.Bool.{le-ltb, lt-ltb}
 use Rattle.aeg_base.specs.declared.limits.TheConstants.{RECORD_BYTES}
 use Rattle.node_journal.proofs.Walk.{records_at-none, end_at-no_entry}
 use Rattle.aeg_disk.specs.declared.disk.DiskErr.{DiskErr}
@@ -172,13 +173,7 @@ unsized_later a b z e w looks = later_still a b z (sync_later a b (Ok tt) w) (lo
 
 -- the bytes of an opened disk
 pub read_bytes : (bytes new : List ℕ) (len : ℕ) → length bytes ≡ len → 1 < len → new ≡ bytes → new ≡ opened_bytes bytes
-read_bytes bytes new len long some e = e ∙ ap (λ (b : Bool). cond b bytes (0 ∷ [])) (sym (is_long (length bytes) (omega (arith, long))))
-  where
-    is_long : (n : ℕ) → 1 < n → nat_lt 1 n ≡ true
-    is_long n h = grind (arith, nat_tests)
+read_bytes bytes new len long some e = e ∙ ap (λ (b : Bool). cond b bytes (0 ∷ [])) (sym (lt-ltb 1 (length bytes) (omega (arith, long))))
 
 pub blank_bytes : (bytes new : List ℕ) → length bytes ≤ 1 → new ≡ 0 ∷ [] → new ≡ opened_bytes bytes
-blank_bytes bytes new short e = e ∙ ap (λ (b : Bool). cond b bytes (0 ∷ [])) (sym (is_short (length bytes) short))
-  where
-    is_short : (n : ℕ) → n ≤ 1 → nat_lt 1 n ≡ false
-    is_short n h = grind (arith, nat_tests)
+blank_bytes bytes new short e = e ∙ ap (λ (b : Bool). cond b bytes (0 ∷ [])) (sym (le-ltb 1 (length bytes) short))

@@ -3,6 +3,7 @@ use Rattle.std.proofs.Common.{◌≡◌, ℕ, zero, suc, ◌+◌, ◌<◌, ◌�
 use Rattle.std.specs.Prelude.{slice_index_or}
 use Rattle.std.proofs.Math.Seq.{take-append_seam}
 use Rattle.std.proofs.lemmas.Bool.{and_from, and_parts, eq-eqb, eqb-true}
+use Rattle.std.proofs.lemmas.Option.{same_Some}
 use Rattle.aeg_base.specs.declared.names.Tier.{Tier}
 use Rattle.server_model.specs.Server.{same_tier, found_in}
 use Rattle.server_model.proofs.Tiers.{tier_eq, tier_same}
@@ -28,9 +29,6 @@ no_place at (item ∷ items) tier number e = by (same_tier item.0 tier && (item.
     by true ih e = cc
     by false ih e = ih e
 
-some_same : (a b : ℕ) → Some a ≡ Some b → a ≡ b
-some_same a b e = cc
-
 -- a place is one of the list, and its item is what is found
 pub within : {T : Type 0} (at : ℕ) (items : List (Tier × ℕ × T)) (tier : Tier) (number : ℕ) (place : ℕ) → place_from at items tier number ≡ Some place → (at ≤ place) × (place < at + length items)
 within at [] tier number place e = cc
@@ -38,7 +36,7 @@ within at (item ∷ items) tier number place e = by (same_tier item.0 tier && (i
   where
     by : (b : Bool) → (place_from (at + 1) items tier number ≡ Some place → (at + 1 ≤ place) × (place < (at + 1) + length items))
         → cond b (Some at) (place_from (at + 1) items tier number) ≡ Some place → (at ≤ place) × (place < at + suc (length items))
-    by true ih e = let same = some_same at place e in (omega arith, omega arith)
+    by true ih e = let same = same_Some at place e in (omega arith, omega arith)
     by false ih e = let rest = ih e in (omega (arith, rest.0), omega (arith, rest.1))
 
 pub placed : {T : Type 0} (at : ℕ) (items : List (Tier × ℕ × T)) (tier : Tier) (number : ℕ) (k : ℕ) (d : Tier × ℕ × T) → place_from at items tier number ≡ Some (at + k)
@@ -54,7 +52,7 @@ placed at (item ∷ items) tier number (suc k) d e = by (same_tier item.0 tier &
   where
     by : (b : Bool) → (place_from (at + 1) items tier number ≡ Some ((at + 1) + k) → found_in items tier number ≡ Some (slice_index_or items k d).2)
         → cond b (Some at) (place_from (at + 1) items tier number) ≡ Some (at + suc k) → cond b (Some item.2) (found_in items tier number) ≡ Some (slice_index_or items k d).2
-    by true ih e = let same = some_same at (at + suc k) e in absurd (omega arith)
+    by true ih e = let same = same_Some at (at + suc k) e in absurd (omega arith)
     by false ih e = let more : at + suc k ≡ (at + 1) + k = omega arith in ih (e ∙ ap (λ (n : ℕ). Some n) more)
 
 -- two items that both are the number's are one another's

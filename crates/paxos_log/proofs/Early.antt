@@ -1,14 +1,13 @@
 -- The rows of an Accepted at another position than the open one.
 use Rattle.std.proofs.Common.{◌≡◌, ℕ, ◌<◌, false, [], refl, sym, ap, subst, ◌∙◌, length, arith, Some, None}
 use Rattle.std.specs.Prelude.{nat_lt}
-use Rattle.std.proofs.lemmas.Bool.{lt-ltb, ltb-true}
+use Rattle.std.proofs.lemmas.Bool.{lt-ltb, ltb-true, false_from_ne_true}
 use Rattle.aeg_base.specs.declared.names.Ballot.{Ballot}
 use Rattle.log_model.specs.declared.turn.LogIdle.{LogIdle}
 use Rattle.log_model.specs.declared.turn.LogIdle.TheVariants.{Behind as IsBehind, Nothing}
 use Rattle.log_model.specs.declared.turn.LogTurn.{LogTurn}
 use Rattle.log_model.specs.Log.{LogState, Turn, told, idles}
 use Rattle.log_model.specs.Rows.{on_accepted}
-use Rattle.log_model.proofs.Rows.{no_from}
 use Rattle.paxos_log.specs.TierLog.{NodeLog, with_state}
 
 before_row : {V : Type 0} (u : ℕ) (log : LogState V) (s : ℕ) (b : Ballot) (p : ℕ) (v : V) → p < length log.learned → on_accepted u log s b p v ≡ idles log Nothing
@@ -16,7 +15,7 @@ before_row u log s b p v h = rw (lt-ltb p (length log.learned) h) refl
 
 past_row : {V : Type 0} (u : ℕ) (log : LogState V) (s : ℕ) (b : Ballot) (p : ℕ) (v : V) → length log.learned < p → on_accepted u log s b p v ≡ idles log (IsBehind (length log.learned))
 past_row u log s b p v h =
-    let low : nat_lt p (length log.learned) ≡ false = no_from (nat_lt p (length log.learned)) (λ e. let l : p < length log.learned = ltb-true p (length log.learned) e in omega arith) in
+    let low : nat_lt p (length log.learned) ≡ false = false_from_ne_true (nat_lt p (length log.learned)) (λ e. let l : p < length log.learned = ltb-true p (length log.learned) e in omega arith) in
     rw (low, lt-ltb (length log.learned) p h) refl
 
 -- an idle row, as contracts see the log

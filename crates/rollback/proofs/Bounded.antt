@@ -11,11 +11,11 @@ use Rattle.kv_store.specs.Stores.{unwound}
 use Rattle.kv_store.proofs.Unwinding.{written_back}
 use Rattle.exec_model.specs.declared.job.Seg.{Seg}
 use Rattle.exec_model.specs.Serial.{serial, serial_end}
-use Rattle.exec_model.specs.Jobs.{Beginnings, plan_in, plan_at, said_nothing, run_job, serial_store}
+use Rattle.exec_model.specs.Jobs.{Beginnings, plan_in, plan_at, said_nothing, run_job, serial_store, AreProper}
 use Rattle.exec_model.proofs.Outcome.{run_job-store}
 use Rattle.exec_core.specs.Jobs.{BeginsWell}
 use Rattle.kv_store.proofs.Unwinding.{unwound-append}
-use Rattle.rollback.specs.Runs.{AreNumbers, AreProper}
+use Rattle.rollback.specs.Runs.{AreNumbers}
 
 -- the keys that a plan writes, each with the value before
 abbrev pub log : Plan → Store → List (Key × ℕ)

@@ -1,6 +1,7 @@
 -- A Commit's token, read again.
 use Rattle.std.proofs.Common.{◌≡◌, ℕ, ◌≤◌, List, length, Some, refl, sym, ap, ◌∙◌}
 use Rattle.std.proofs.lemmas.List.{length-map}
+use Rattle.std.proofs.lemmas.Option.{same_Some}
 use Rattle.aeg_base.specs.Store.{Store, written_all}
 use Rattle.aeg_base.specs.Changes.{changes}
 use Rattle.aeg_base.proofs.ChangeLaws.{written-changes}
@@ -10,7 +11,6 @@ use Rattle.exec_model.specs.declared.job.Seg.{Seg}
 use Rattle.exec_core.specs.declared.ran.Ran.{Ran}
 use Rattle.exec_core.specs.Jobs.{IsRan}
 use Rattle.exec_model.specs.Jobs.{Beginnings, Run, run_job, below, serial_store}
-use Rattle.aeg_wire.proofs.Grammar.{some_is}
 use Rattle.log_values.specs.declared.mid_value.Verdict.{Verdict}
 use Rattle.log_values.specs.declared.mid_value.Verdict.TheVariants.{Commit, Serial}
 use Rattle.log_values.specs.Outcomes.{outcome, outcome_at, FitsOutcome}
@@ -31,7 +31,7 @@ kept begins segs Serial own s t o same tells pairs = absurd same
 
 pub outcome_is : (begins : Beginnings) (segs : List Seg) (token order places : List ℕ) (s t : Store) (o : Outcome) → IsTokenOf begins segs s order token → Settled begins segs (Commit token places) s t o → o ≡ serial_outcome begins segs s order
 outcome_is begins segs token order places s t o own made =
-    some_is o (serial_outcome begins segs s order) (sym made.0 ∙ ap told own.spelled ∙ told_spelled (serial_outcome begins segs s order) own.fits)
+    same_Some o (serial_outcome begins segs s order) (sym made.0 ∙ ap told own.spelled ∙ told_spelled (serial_outcome begins segs s order) own.fits)
 
 pub store_is : (begins : Beginnings) (segs : List Seg) (token order places : List ℕ) (s t : Store) (o : Outcome) → IsTokenOf begins segs s order token → Settled begins segs (Commit token places) s t o → t ≡ serial_store begins segs s order
 store_is begins segs token order places s t o own made =

@@ -24,13 +24,13 @@ use Rattle.exec_model.proofs.Outcome.{run_job-order, run_job-store, run_job-ends
 use Rattle.exec_core.specs.declared.ran.Ran.{Ran}
 use Rattle.exec_model.specs.Groups.{IsOrder}
 use Rattle.exec_model.specs.Serial.{serial, serial_end}
-use Rattle.exec_model.specs.Jobs.{Beginnings, plan_at, said_nothing, below, run_job, serial_store, serial_ends}
+use Rattle.exec_model.specs.Jobs.{Beginnings, plan_at, said_nothing, below, run_job, serial_store, serial_ends, AreProper}
 use Rattle.exec_core.specs.Jobs.{BeginsWell}
 use Rattle.exec_core.proofs.Orders.{length_order}
 use Rattle.log_values.specs.Outcomes.{FitsPair, FitsOutcome}
 use Rattle.log_values.proofs.Rising.{rises_sorted}
 use Rattle.rollback.specs.Settled.{serial_outcome}
-use Rattle.rollback.specs.Runs.{AreNumbers, AreProper, WasRun}
+use Rattle.rollback.specs.Runs.{AreNumbers, WasRun}
 use Rattle.rollback.proofs.Bounded.{log_all, unwound-all, DoAll, do_all, bounded_at}
 
 -- THE PAIRS

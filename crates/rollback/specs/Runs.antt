@@ -2,22 +2,15 @@
 use Rattle.std.specs.Prelude.{ℕ, ◌<◌, ◌≤◌, ◌^◌, List, length}
 use Rattle.std.specs.List.{All}
 use Rattle.aeg_base.specs.declared.names.Key.{Key}
-use Rattle.aeg_base.specs.declared.names.ReqId.{ReqId}
 use Rattle.aeg_base.specs.Store.{Store, value_at}
-use Rattle.svc_api.specs.Requests.{IsRequest}
-use Rattle.svc_api.specs.Segment.{IsProper}
 use Rattle.exec_model.specs.declared.job.Job.{Job}
-use Rattle.exec_model.specs.Jobs.{Beginnings, run_job}
+use Rattle.exec_model.specs.Jobs.{Beginnings, AreProper, run_job}
 use Rattle.exec_core.specs.declared.ran.Ran.{Ran}
 use Rattle.exec_core.specs.Jobs.{BeginsWell, IsRan}
 
 -- each value is a number that a store can hold
 abbrev pub AreNumbers : Store → Type 0
 AreNumbers s = (k : Key) → value_at s k < 2 ^ 64
-
--- segments of requests keep within their limits
-abbrev pub AreProper : Beginnings → Type 0
-AreProper begins = (who : ReqId) (body : List ℕ) (stage : ℕ) → IsRequest who → IsProper (begins who body stage)
 
 -- some service ran the job from some store, and this is what was answered
 pub record WasRun (job : Job) (ran : Ran) : Type 0 where

@@ -5,11 +5,11 @@ ghost use Rattle.aeg_base.specs.Store.{Store};
 ghost use Rattle.svc_api.specs.declared.outcome.Outcome.{Outcome};
 ghost use Rattle.exec_model.specs.declared.job.Seg.{Seg};
 ghost use Rattle.exec_model.specs.Groups.{IsOrder};
-ghost use Rattle.exec_model.specs.Jobs.{Beginnings, run_job, serial_store};
+ghost use Rattle.exec_model.specs.Jobs.{Beginnings, run_job, serial_store, AreProper};
 ghost use Rattle.exec_core.specs.Jobs.{BeginsWell};
 ghost use Rattle.log_values.specs.Outcomes.{FitsOutcome};
 ghost use Rattle.log_values.specs.declared.mid_value.Verdict.TheVariants.{Commit};
-ghost use Rattle.rollback.specs.Runs.{AreNumbers, AreProper};
+ghost use Rattle.rollback.specs.Runs.{AreNumbers};
 ghost use Rattle.rollback.specs.Settled.{Settled, IsTokenOf, serial_outcome};
 
 /// A Commit with the token of the segments run one after another in some order leaves their store, and their outcome.

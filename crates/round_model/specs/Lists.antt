@@ -1,6 +1,6 @@
 -- Words on lists, on numbers, and on what there is for each tier.
 pub use Rattle.svc_api.specs.Orders.{below}
-use Rattle.std.specs.Prelude.{ℕ, zero, suc, Bool, true, false, ◌||◌, not, ◌==◌, List, [], ◌∷◌, ◌++◌, Option, Some, None, if◌then◌else◌}
+use Rattle.std.specs.Prelude.{ℕ, zero, suc, Bool, true, false, not, List, [], ◌∷◌, ◌++◌, Option, Some, None, if◌then◌else◌}
 use Rattle.aeg_base.specs.declared.names.Tier.{Tier}
 use Rattle.aeg_base.specs.declared.names.Tier.TheVariants.{Mid, Inv, Pay}
 
@@ -40,10 +40,6 @@ head_of (g ∷ gs) = g
 abbrev pub tail_of : {A : Type 0} → List (List A) → List (List A)
 tail_of [] = []
 tail_of (g ∷ gs) = gs
-
-abbrev pub mem : ℕ → List ℕ → Bool
-mem i [] = false
-mem i (j ∷ js) = (j == i) || mem i js
 
 -- f of each number below n, in order
 abbrev pub tabulate : {A : Type 0} → ℕ → (ℕ → A) → List A

@@ -8,7 +8,8 @@ use Rattle.svc_api.specs.declared.action.Ending.{Ending}
 use Rattle.svc_api.specs.declared.action.Ending.TheVariants.{Reply, Call}
 use Rattle.exec_model.specs.declared.job.Seg.{Seg}
 use Rattle.log_values.specs.declared.entry.Entry.{Entry}
-use Rattle.round_model.specs.Lists.{is_some, and_then, at, put_at, concat, head_of, tail_of, mem, OfTiers, of_tier, with_tier}
+use Rattle.round_model.specs.Lists.{is_some, and_then, at, put_at, concat, head_of, tail_of, OfTiers, of_tier, with_tier}
+use Rattle.svc_api.specs.Orders.{mem}
 use Rattle.round_model.specs.Service.{Service, is_request, Finish}
 
 -- a request that waits for the answer of its call, and the stage at which it goes on

@@ -1,5 +1,6 @@
 -- How a script's run goes on, line by line and event by event.
-use Rattle.std.proofs.Common.{◌≡◌, ◌≤◌, ◌&&◌, nat_le, Bool, true, false, ℕ, List, [], ◌∷◌, ◌++◌, length, Some, None, refl, sym, ap, subst, ◌∙◌, append_assoc, append-nil, arith}
+use Rattle.std.proofs.Common.{◌≡◌, ◌≤◌, ◌&&◌, nat_le, Bool, true, List, [], ◌∷◌, ◌++◌, length, Some, None, refl, sym, ap, subst, ◌∙◌, append_assoc, append-nil}
+use Rattle.std.proofs.lemmas.Bool.{le-leb, and_parts}
 use Rattle.aeg_base.specs.declared.limits.TheConstants.{PACKETS_BEFORE}
 use Rattle.run_model.specs.declared.trace.TraceEvent.{TraceEvent}
 use Rattle.run_model.specs.Script.{Numbered, Script}
@@ -77,21 +78,14 @@ before_none c script es place b = (b.standing, b.reached, b.is_next)
 
 -- THE LIMIT ON PACKETS
 
-nat_le-within : (a b : ℕ) → a ≤ b → nat_le a b ≡ true
-nat_le-within a b h = grind arith
-
-and_both : (a b : Bool) → a && b ≡ true → (a ≡ true) × (b ≡ true)
-and_both true b e = (refl, e)
-and_both false b e = absurd (cc)
-
 and_true : (a b : Bool) → a ≡ true → b ≡ true → a && b ≡ true
 and_true a b e f = ap (λ x. x && b) e ∙ f
 
 -- one event more
 keeps_from : {B : Type 0} (c : Config B) (w : World B) (es : List TraceEvent) (e : TraceEvent) → keeps_limit c w es ≡ true → length (run c es w).soup ≤ PACKETS_BEFORE → keeps_limit c w (es ++ e ∷ []) ≡ true
-keeps_from c w [] e k l = ap (λ b. b && true) (nat_le-within (length w.soup) PACKETS_BEFORE l)
+keeps_from c w [] e k l = ap (λ b. b && true) (le-leb (length w.soup) PACKETS_BEFORE l)
 keeps_from c w (f ∷ es) e k l =
-    let both = and_both (nat_le (length w.soup) PACKETS_BEFORE) (keeps_limit c (after c w f) es) k in
+    let both = and_parts (nat_le (length w.soup) PACKETS_BEFORE) (keeps_limit c (after c w f) es) k in
     and_true (nat_le (length w.soup) PACKETS_BEFORE) (keeps_limit c (after c w f) (es ++ e ∷ [])) both.0 (keeps_from c (after c w f) es e both.1 l)
 
 pub keeps-last : {B : Type 0} (c : Config B) (es : List TraceEvent) (e : TraceEvent) → keeps_limit c start es ≡ true → length (world c es).soup ≤ PACKETS_BEFORE → keeps_limit c start (es ++ e ∷ []) ≡ true

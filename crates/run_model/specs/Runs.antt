@@ -12,7 +12,8 @@ use Rattle.log_values.specs.declared.any_value.AnyValue.{AnyValue}
 use Rattle.frames.specs.declared.message.Msg.{Msg}
 use Rattle.frames.specs.declared.message.Msg.TheVariants as msgs
 use Rattle.round_model.specs.Tables.{Codes}
-use Rattle.tier_model.specs.Moves.{index_of, Packet}
+use Rattle.tier_model.specs.Moves.{Packet}
+use Rattle.frames.specs.Headers.{end_index}
 use Rattle.run_model.specs.World.{Config, World, put_tier, start, happens}
 use Rattle.run_model.specs.Histories.{value_steps, back_steps}
 use Rattle.run_model.specs.declared.trace.TraceEvent.{TraceEvent}
@@ -24,7 +25,7 @@ is_in t (Node n) = same_tier n.tier t
 is_in t (Client y) = false
 
 abbrev pub log_part : Tier → End → End → Msg → List (LogPacket AnyValue)
-log_part t from to (msgs.Log p) = if is_in t from then record { from = index_of from; to = index_of to; msg = p } ∷ [] else []
+log_part t from to (msgs.Log p) = if is_in t from then record { from = end_index from; to = end_index to; msg = p } ∷ [] else []
 log_part t from to (msgs.Request seq text) = []
 log_part t from to (msgs.Reply who text) = []
 log_part t from to (msgs.Token r token order) = []

@@ -13,7 +13,7 @@ written_agrees locked s t k v agree q h =
     value_at-written s k v q ∙ ap (λ n. if same_key q k then v else n) (agree q h) ∙ sym (value_at-written t k v q)
 
 -- the same key has the same lock
-same_lock : (a b : Key) → same_key a b ≡ true → lock_number a ≡ lock_number b
+pub same_lock : (a b : Key) → same_key a b ≡ true → lock_number a ≡ lock_number b
 same_lock a b e = grind (arith, nat_tests)
 
 locked_is : (locked : ℕ → Bool) (l : ℕ) → locked l ≡ true → locked l ≡ false → ⊥

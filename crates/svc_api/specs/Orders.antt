@@ -1,10 +1,15 @@
 -- Orders of the numbers of a job's segments.
-use Rattle.std.specs.Prelude.{◌≡◌, ℕ, zero, suc, ◌+◌, ◌==◌, Bool, true, ◌&&◌, List, [], ◌∷◌, ◌++◌, if◌then◌else◌, nat_lt}
+use Rattle.std.specs.Prelude.{◌≡◌, ℕ, zero, suc, ◌+◌, ◌==◌, Bool, true, false, ◌&&◌, ◌||◌, List, [], ◌∷◌, ◌++◌, if◌then◌else◌, nat_lt}
 
 -- the numbers below n, in order
 abbrev pub below : ℕ → List ℕ
 below zero = []
 below (suc n) = below n ++ n ∷ []
+
+-- whether i stands in the list
+abbrev pub mem : ℕ → List ℕ → Bool
+mem i [] = false
+mem i (j ∷ js) = (j == i) || mem i js
 
 -- how often i stands in the list
 abbrev pub times : ℕ → List ℕ → ℕ

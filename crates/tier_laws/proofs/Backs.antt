@@ -1,7 +1,7 @@
 -- A backend's log grows.
 use Rattle.std.proofs.Common.{◌≡◌, ℕ, ◌<◌, Bool, true, false, cond, List, [], ◌∷◌, ◌++◌, length, refl, sym, ap, ◌∙◌, subst, inl, inr, Option, Some, None, arith}
 use Rattle.std.specs.Prelude.{slice_get, ◌⊎◌, ◌==◌, ◌||◌, take}
-use Rattle.std.proofs.lemmas.Bool.{eq-eqb, ne_eqb, cond-true, cond-false, cases_eq}
+use Rattle.std.proofs.lemmas.Bool.{eq-eqb, ne_eqb, cond-true, cond-false, cases_eq, or_left}
 use Rattle.std.proofs.lemmas.List.{append-nil, take-append-le}
 use Rattle.std.proofs.lemmas.Option.{slice_get_within}
 use Rattle.std.proofs.Math.Seq.{take-append_seam}
@@ -65,18 +65,15 @@ called-code m t R (OfBack (Settled g) ∷ vs) n = called-code m t R vs n
 called-code m t R (OfMid v ∷ vs) n = called-code m t R vs n
 called-code {B} m t R (OfBack (Called k text) ∷ vs) n = called-code m t (back_value m t R (OfBack (Called k text))) vs n ∙ go (R.code k) refl (cases_eq k n)
   where
-    same : (b c : Bool) → b ≡ true → (b || c) ≡ true
-    same b c e = rw e refl
-
     go : (o : Option ℕ) → R.code k ≡ o → (k ≡ n) ⊎ (k ≡ n → ⊥) → (is_some ((cond (is_some (R.code k)) R (back_serve m t R k text)).code n) || is_called n vs) ≡ (is_some (R.code n) || cond (k == n) true (is_called n vs))
     go (Some x) f (inl e) =
         let some : is_some (R.code n) ≡ true = subst (λ z. is_some (R.code z) ≡ true) e (rw f refl) in
-        rw f (same (is_some (R.code n)) (is_called n vs) some ∙ sym (same (is_some (R.code n)) _ some))
+        rw f (or_left (is_some (R.code n)) (is_called n vs) some ∙ sym (or_left (is_some (R.code n)) _ some))
     go (Some x) f (inr e) = rw f (ap (λ z. is_some (R.code n) || z) (sym (cond-false (k == n) true (is_called n vs) (ne_eqb k n e))))
     go None f (inl e) =
         let some : is_some ((back_serve m t R k text).code n) ≡ true = subst (λ z. is_some ((back_serve m t R k text).code z) ≡ true) e (ap is_some (put_here R.code k _)) in
         let none : R.code n ≡ None = subst (λ z. R.code z ≡ None) e f in
-        rw f (same (is_some ((back_serve m t R k text).code n)) (is_called n vs) some ∙ sym (rw none (cond-true (k == n) true (is_called n vs) (eq-eqb k n e))))
+        rw f (or_left (is_some ((back_serve m t R k text).code n)) (is_called n vs) some ∙ sym (rw none (cond-true (k == n) true (is_called n vs) (eq-eqb k n e))))
     go None f (inr e) =
         rw f (ap (λ z. is_some z || is_called n vs) (put_there R.code k _ n (λ g. e (sym g))) ∙ ap (λ z. is_some (R.code n) || z) (sym (cond-false (k == n) true (is_called n vs) (ne_eqb k n e))))
 

@@ -21,7 +21,8 @@ use Rattle.frames.specs.declared.message.Msg.{Msg}
 use Rattle.frames.specs.declared.message.Msg.TheVariants as msgs
 use Rattle.round_model.specs.Lists.{is_some}
 use Rattle.round_model.specs.Service.{is_request}
-use Rattle.tier_model.specs.Moves.{node, tier_of, index_of, is_client, is_node_of, Packet, drops}
+use Rattle.tier_model.specs.Moves.{node, tier_of, is_client, is_node_of, Packet, drops}
+use Rattle.frames.specs.Headers.{end_index}
 use Rattle.tier_model.specs.Mid.{Mid, in_log}
 use Rattle.tier_model.specs.MidRows.{on_request, on_token, on_answer, on_have, is_backend_node, on_frame, work, work_run}
 use Rattle.tier_model.specs.MidRows as mids
@@ -181,18 +182,18 @@ takes_ok {B} c w y s text said i = cond_both (is_some (w.clients y).opened && (s
 
 -- DELIVERIES
 
-log_part-first : (t : Tier) (from to : End) (p : PaxMsg AnyValue) (ys : List (LogPacket AnyValue)) → is_in t from ≡ true → slice_get (log_part t from to (msgs.Log p) ++ ys) 0 ≡ Some (record { from = index_of from; to = index_of to; msg = p })
+log_part-first : (t : Tier) (from to : End) (p : PaxMsg AnyValue) (ys : List (LogPacket AnyValue)) → is_in t from ≡ true → slice_get (log_part t from to (msgs.Log p) ++ ys) 0 ≡ Some (record { from = end_index from; to = end_index to; msg = p })
 log_part-first t from to p ys e = rw e refl
 
 -- a packet of a tier's log stands among its packets
-pub log_place : (t : Tier) (soup : List Packet) (i : ℕ) (from to : End) (p : PaxMsg AnyValue) → is_in t from ≡ true → slice_get soup i ≡ Some (record { from = from; to = to; message = msgs.Log p }) → (j : ℕ) × (slice_get (log_soup t soup) j ≡ Some (record { from = index_of from; to = index_of to; msg = p }))
+pub log_place : (t : Tier) (soup : List Packet) (i : ℕ) (from to : End) (p : PaxMsg AnyValue) → is_in t from ≡ true → slice_get soup i ≡ Some (record { from = from; to = to; message = msgs.Log p }) → (j : ℕ) × (slice_get (log_soup t soup) j ≡ Some (record { from = end_index from; to = end_index to; msg = p }))
 log_place t [] i from to p b e = absurd (cc)
 log_place t (k ∷ soup) zero from to p b e =
     let s : record { from = from; to = to; message = msgs.Log p } ≡ k = cc in
-    (0, subst (λ (z : Packet). slice_get (log_part t z.from z.to z.message ++ log_soup t soup) 0 ≡ Some (record { from = index_of from; to = index_of to; msg = p })) s (log_part-first t from to p (log_soup t soup) b))
+    (0, subst (λ (z : Packet). slice_get (log_part t z.from z.to z.message ++ log_soup t soup) 0 ≡ Some (record { from = end_index from; to = end_index to; msg = p })) s (log_part-first t from to p (log_soup t soup) b))
 log_place t (k ∷ soup) (suc i) from to p b e = let r = log_place t soup i from to p b e in get_right (log_part t k.from k.to k.message) (log_soup t soup) r.0 _ r.1
 
-pub back_place : (t : Tier) (soup : List Packet) (i : ℕ) (from to : End) (p : PaxMsg AnyValue) → same_tier t MidTier ≡ false → is_in t from ≡ true → slice_get soup i ≡ Some (record { from = from; to = to; message = msgs.Log p }) → (j : ℕ) × (slice_get (back_soup t soup) j ≡ Some (record { from = index_of from; to = index_of to; msg = p }))
+pub back_place : (t : Tier) (soup : List Packet) (i : ℕ) (from to : End) (p : PaxMsg AnyValue) → same_tier t MidTier ≡ false → is_in t from ≡ true → slice_get soup i ≡ Some (record { from = from; to = to; message = msgs.Log p }) → (j : ℕ) × (slice_get (back_soup t soup) j ≡ Some (record { from = end_index from; to = end_index to; msg = p }))
 back_place MidTier soup i from to p m b e = absurd (cc)
 back_place Inv soup i from to p m b e = log_place Inv soup i from to p b e
 back_place Pay soup i from to p m b e = log_place Pay soup i from to p b e
@@ -203,45 +204,45 @@ node_in u t (Client y) e = absurd (cc)
 
 mid_frame_ok : {B : Type 0} (c : Config B) (w : World B) (place : ℕ) (from to : End) (message : Msg) (x : ℕ) (σ : Mid) → (i : WorldOk c w) → slice_get w.soup place ≡ Some (record { from = from; to = to; message = message }) → SentBy c (past c w i.codes) from to message → Here c (past c w i.codes) i.h w.soup x σ
     → MoveOk c (past c w i.codes) i.h w.soup x [] (on_frame c.u c.service x σ from message)
-mid_frame_ok {B} c w place from to (msgs.Log p) x σ i e sent k = cond_both (is_node_of c.u MidTier from) (in_log c.u c.service x σ (on_msg c.u σ.log (index_of from) p)) (drops σ 7) (MoveOk c (past c w i.codes) i.h w.soup x []) taken (λ f. stays_ok c (past c w i.codes) i.h w.soup x σ k)
+mid_frame_ok {B} c w place from to (msgs.Log p) x σ i e sent k = cond_both (is_node_of c.u MidTier from) (in_log c.u c.service x σ (on_msg c.u σ.log (end_index from) p)) (drops σ 7) (MoveOk c (past c w i.codes) i.h w.soup x []) taken (λ f. stays_ok c (past c w i.codes) i.h w.soup x σ k)
   where
-    taken : is_node_of c.u MidTier from ≡ true → MoveOk c (past c w i.codes) i.h w.soup x [] (in_log c.u c.service x σ (on_msg c.u σ.log (index_of from) p))
+    taken : is_node_of c.u MidTier from ≡ true → MoveOk c (past c w i.codes) i.h w.soup x [] (in_log c.u c.service x σ (on_msg c.u σ.log (end_index from) p))
     taken f =
         let q = log_place MidTier w.soup place from to p (node_in c.u MidTier from f) e in
-        let j : LogPacket AnyValue = record { from = index_of from; to = index_of to; msg = p } in
+        let j : LogPacket AnyValue = record { from = end_index from; to = end_index to; msg = p } in
         let right : PacketOk c.u i.h (mid_soup w.soup) j = every-get (PacketOk c.u i.h (mid_soup w.soup)) (mid_soup w.soup) q.0 j i.core.mid_log.history.packets q.1 in
-        log_move c (past c w i.codes) i.h w.soup x σ (on_msg c.u σ.log (index_of from) p) None k
+        log_move c (past c w i.codes) i.h w.soup x σ (on_msg c.u σ.log (end_index from) p) None k
         (on_msg_ok c.u i.h (mid_soup w.soup) x σ.log q.0 j p (knows c (past c w i.codes) i.h w.soup x σ k) q.1 refl right)
-        (msg_from c.u i.h (mid_soup w.soup) x σ.log (index_of from) p k.inside right) (λ v f. absurd (cc))
+        (msg_from c.u i.h (mid_soup w.soup) x σ.log (end_index from) p k.inside right) (λ v f. absurd (cc))
 mid_frame_ok c w place from to (msgs.Request seq text) x σ i e sent k = cond_both (not (is_client from)) (drops σ 7) _ (MoveOk c (past c w i.codes) i.h w.soup x []) (λ f. stays_ok c (past c w i.codes) i.h w.soup x σ k)
-    (λ f. cond_both (not (is_request c.service (record { client = index_of from; seq = seq }) text)) (drops σ 8) (on_request x σ (index_of from) seq text) (MoveOk c (past c w i.codes) i.h w.soup x []) (λ g. stays_ok c (past c w i.codes) i.h w.soup x σ k)
-    (λ g. request_ok c (past c w i.codes) i.h w.soup x σ (index_of from) seq text k sent))
-mid_frame_ok c w place from to (msgs.Token r token order) x σ i e sent k = cond_both (is_node_of c.u MidTier from) (on_token σ (record { round = r; from = index_of from; token = token; order = order })) (drops σ 7) (MoveOk c (past c w i.codes) i.h w.soup x [])
-    (λ f. token_ok c (past c w i.codes) i.h w.soup x σ (record { round = r; from = index_of from; token = token; order = order }) k sent) (λ f. stays_ok c (past c w i.codes) i.h w.soup x σ k)
+    (λ f. cond_both (not (is_request c.service (record { client = end_index from; seq = seq }) text)) (drops σ 8) (on_request x σ (end_index from) seq text) (MoveOk c (past c w i.codes) i.h w.soup x []) (λ g. stays_ok c (past c w i.codes) i.h w.soup x σ k)
+    (λ g. request_ok c (past c w i.codes) i.h w.soup x σ (end_index from) seq text k sent))
+mid_frame_ok c w place from to (msgs.Token r token order) x σ i e sent k = cond_both (is_node_of c.u MidTier from) (on_token σ (record { round = r; from = end_index from; token = token; order = order })) (drops σ 7) (MoveOk c (past c w i.codes) i.h w.soup x [])
+    (λ f. token_ok c (past c w i.codes) i.h w.soup x σ (record { round = r; from = end_index from; token = token; order = order }) k sent) (λ f. stays_ok c (past c w i.codes) i.h w.soup x σ k)
 mid_frame_ok c w place from to (msgs.Answer n code) x σ i e sent k = cond_both (is_backend_node c.u from) (on_answer c.u x σ (tier_of from) n code) (drops σ 7) (MoveOk c (past c w i.codes) i.h w.soup x [])
     (λ f. answer_ok c (past c w i.codes) i.h w.soup x σ (tier_of from) n code k sent) (λ f. stays_ok c (past c w i.codes) i.h w.soup x σ k)
-mid_frame_ok c w place from to (msgs.Have t n code) x σ i e sent k = cond_both (is_node_of c.u MidTier from) (on_have c.u x σ (index_of from) t n code) (drops σ 7) (MoveOk c (past c w i.codes) i.h w.soup x [])
-    (λ f. have_ok c (past c w i.codes) i.h w.soup x σ (index_of from) t n code k sent.0 sent.1) (λ f. stays_ok c (past c w i.codes) i.h w.soup x σ k)
+mid_frame_ok c w place from to (msgs.Have t n code) x σ i e sent k = cond_both (is_node_of c.u MidTier from) (on_have c.u x σ (end_index from) t n code) (drops σ 7) (MoveOk c (past c w i.codes) i.h w.soup x [])
+    (λ f. have_ok c (past c w i.codes) i.h w.soup x σ (end_index from) t n code k sent.0 sent.1) (λ f. stays_ok c (past c w i.codes) i.h w.soup x σ k)
 mid_frame_ok c w place from to (msgs.Reply who text) x σ i e sent k = stays_ok c (past c w i.codes) i.h w.soup x σ k
 mid_frame_ok c w place from to (msgs.Call n text) x σ i e sent k = stays_ok c (past c w i.codes) i.h w.soup x σ k
 mid_frame_ok c w place from to (msgs.Settle g) x σ i e sent k = stays_ok c (past c w i.codes) i.h w.soup x σ k
 
 back_frame_ok : {B : Type 0} (c : Config B) (w : World B) (place : ℕ) (from : End) (message : Msg) (t : Tier) (x : ℕ) (σ : Back B) → (i : WorldOk c w) → slice_get w.soup place ≡ Some (record { from = from; to = node t x; message = message }) → SentBy c (past c w i.codes) from (node t x) message
     → BackHere c (past c w i.codes) t (w.logs t) (i.k t) w.soup x σ → BackMoveOk c (past c w i.codes) t (i.k t) w.soup x (backs.on_frame c.u c.service t x σ from message)
-back_frame_ok {B} c w place from (msgs.Log p) t x σ i e sent k = cond_both (is_node_of c.u t from) (back.in_log c.u c.service t x σ (on_msg c.u σ.log (index_of from) p)) (drops σ 7) (BackMoveOk c (past c w i.codes) t (i.k t) w.soup x) taken (λ f. back_stays c (past c w i.codes) t (w.logs t) (i.k t) w.soup x σ k)
+back_frame_ok {B} c w place from (msgs.Log p) t x σ i e sent k = cond_both (is_node_of c.u t from) (back.in_log c.u c.service t x σ (on_msg c.u σ.log (end_index from) p)) (drops σ 7) (BackMoveOk c (past c w i.codes) t (i.k t) w.soup x) taken (λ f. back_stays c (past c w i.codes) t (w.logs t) (i.k t) w.soup x σ k)
   where
-    taken : is_node_of c.u t from ≡ true → BackMoveOk c (past c w i.codes) t (i.k t) w.soup x (back.in_log c.u c.service t x σ (on_msg c.u σ.log (index_of from) p))
+    taken : is_node_of c.u t from ≡ true → BackMoveOk c (past c w i.codes) t (i.k t) w.soup x (back.in_log c.u c.service t x σ (on_msg c.u σ.log (end_index from) p))
     taken f =
         let q = back_place t w.soup place from (node t x) p k.backend (node_in c.u t from f) e in
-        let j : LogPacket AnyValue = record { from = index_of from; to = x; msg = p } in
+        let j : LogPacket AnyValue = record { from = end_index from; to = x; msg = p } in
         let right : PacketOk c.u (i.k t) (back_soup t w.soup) j = every-get (PacketOk c.u (i.k t) (back_soup t w.soup)) (back_soup t w.soup) q.0 j (i.core.back_log t).history.packets q.1 in
-        back_move c (past c w i.codes) t (w.logs t) (i.k t) w.soup x σ (on_msg c.u σ.log (index_of from) p) None k
+        back_move c (past c w i.codes) t (w.logs t) (i.k t) w.soup x σ (on_msg c.u σ.log (end_index from) p) None k
         (on_msg_ok c.u (i.k t) (back_soup t w.soup) x σ.log q.0 j p (back_knows c (past c w i.codes) t (w.logs t) (i.k t) w.soup x σ k) q.1 refl right)
-        (msg_from c.u (i.k t) (back_soup t w.soup) x σ.log (index_of from) p k.inside right) (one_msg c.u σ.log (index_of from) p) (λ q v f. absurd (cc))
-back_frame_ok c w place from (msgs.Call n text) t x σ i e sent k = cond_both (is_node_of c.u MidTier from) (on_call t x σ (index_of from) n text) (drops σ 7) (BackMoveOk c (past c w i.codes) t (i.k t) w.soup x)
-    (λ f. call_ok c (past c w i.codes) t (w.logs t) (i.k t) w.soup x σ (index_of from) n text k sent) (λ f. back_stays c (past c w i.codes) t (w.logs t) (i.k t) w.soup x σ k)
-back_frame_ok c w place from (msgs.Settle g) t x σ i e sent k = cond_both (is_node_of c.u MidTier from) (on_settle σ (index_of from) g) (drops σ 7) (BackMoveOk c (past c w i.codes) t (i.k t) w.soup x)
-    (λ f. settle_ok c (past c w i.codes) t (w.logs t) (i.k t) w.soup x σ (index_of from) g k sent) (λ f. back_stays c (past c w i.codes) t (w.logs t) (i.k t) w.soup x σ k)
+        (msg_from c.u (i.k t) (back_soup t w.soup) x σ.log (end_index from) p k.inside right) (one_msg c.u σ.log (end_index from) p) (λ q v f. absurd (cc))
+back_frame_ok c w place from (msgs.Call n text) t x σ i e sent k = cond_both (is_node_of c.u MidTier from) (on_call t x σ (end_index from) n text) (drops σ 7) (BackMoveOk c (past c w i.codes) t (i.k t) w.soup x)
+    (λ f. call_ok c (past c w i.codes) t (w.logs t) (i.k t) w.soup x σ (end_index from) n text k sent) (λ f. back_stays c (past c w i.codes) t (w.logs t) (i.k t) w.soup x σ k)
+back_frame_ok c w place from (msgs.Settle g) t x σ i e sent k = cond_both (is_node_of c.u MidTier from) (on_settle σ (end_index from) g) (drops σ 7) (BackMoveOk c (past c w i.codes) t (i.k t) w.soup x)
+    (λ f. settle_ok c (past c w i.codes) t (w.logs t) (i.k t) w.soup x σ (end_index from) g k sent) (λ f. back_stays c (past c w i.codes) t (w.logs t) (i.k t) w.soup x σ k)
 back_frame_ok c w place from (msgs.Request seq text) t x σ i e sent k = back_stays c (past c w i.codes) t (w.logs t) (i.k t) w.soup x σ k
 back_frame_ok c w place from (msgs.Reply who text) t x σ i e sent k = back_stays c (past c w i.codes) t (w.logs t) (i.k t) w.soup x σ k
 back_frame_ok c w place from (msgs.Token r token order) t x σ i e sent k = back_stays c (past c w i.codes) t (w.logs t) (i.k t) w.soup x σ k
@@ -251,7 +252,7 @@ back_frame_ok c w place from (msgs.Have v n code) t x σ i e sent k = back_stays
 client_ok : {B : Type 0} (c : Config B) (w : World B) (from : End) (message : Msg) (y : ℕ) → (i : WorldOk c w) → SentBy c (past c w i.codes) from (Client y) message → Mid_event c (past c w i.codes) (client_gets w y message)
 client_ok {B} c w from (msgs.Reply who text) y i sent =
     let s : Client y ≡ Client who.client = sent.0 in
-    let same : who.client ≡ y = sym (ap index_of s) in
+    let same : who.client ≡ y = sym (ap end_index s) in
     takes_ok c w y who.seq text (subst (λ z. (server c.service w.hist).replies z who.seq ≡ Some text) same sent.1) i
 client_ok c w from (msgs.Log p) y i sent = unchanged c w i
 client_ok c w from (msgs.Request seq text) y i sent = unchanged c w i

@@ -1,6 +1,7 @@
 -- The logs grow, and with them the history.
 use Rattle.std.proofs.Common.{◌≡◌, ℕ, ◌*◌, ◌<◌, Bool, true, false, cond, List, [], ◌∷◌, ◌++◌, length, map, refl, sym, ap, ◌∙◌, subst, inl, inr, Option, Some, None, zero, suc}
 use Rattle.std.specs.Prelude.{slice_get, ◌⊎◌}
+use Rattle.std.proofs.lemmas.Option.{same_Some}
 use Rattle.aeg_base.specs.declared.names.Tier.{Tier}
 use Rattle.aeg_base.specs.declared.names.Tier.TheVariants.{Inv, Pay}
 use Rattle.log_model.proofs.Invariant.{all_same, soup-refl}
@@ -143,12 +144,9 @@ step_start ws i (Some w) k n who body e f = go w.call refl f
     go None g h = let p = start_parts w.client w.seq k n w.body body who h in record { place = i; want = w; is_want = e; none = g; client = p.0; seq = p.1; text = p.2 }
     go (Some c) g h = absurd (let q : false ≡ true = ap (λ (x : HistoryStep). is_start x.0) h in cc)
 
-some_same : {A : Type 0} (a b : A) → Some a ≡ Some b → a ≡ b
-some_same a b e = cc
-
 steps_start : (ws : List Want) (nums order : List ℕ) (j n : ℕ) (who : ReqId) (body : List ℕ) → slice_get (steps_by ws nums order) j ≡ Some (Start who n, body) → StartOf ws who.client who.seq body
 steps_start ws nums [] j n who body e = absurd (cc)
-steps_start ws nums (i ∷ is) zero n who body e = step_start ws i (slice_get ws i) (at 0 nums i) n who body refl (some_same (step_of (slice_get ws i) (at 0 nums i)) (Start who n, body) e)
+steps_start ws nums (i ∷ is) zero n who body e = step_start ws i (slice_get ws i) (at 0 nums i) n who body refl (same_Some (step_of (slice_get ws i) (at 0 nums i)) (Start who n, body) e)
 steps_start ws nums (i ∷ is) (suc j) n who body e = steps_start ws nums is j n who body e
 
 batch_value : (v : AnyValue) (es : List Entry) → batch_in (Some v) ≡ Some es → v ≡ OfMid (Batch es)
@@ -199,7 +197,7 @@ value_starts {B} c w codes h k (OfMid (Decided v)) i o j n who body e = go (is_o
     go false f = absurd (none j f)
       where
         none : (j : ℕ) → slice_get {X = HistoryStep} ((Serve Inv 0, []) ∷ []) j ≡ Some (Start who n, body) → ⊥
-        none zero f = let g : false ≡ true = ap (λ (x : HistoryStep). is_start x.0) (some_same (Serve Inv 0, []) (Start who n, body) f) in cc
+        none zero f = let g : false ≡ true = ap (λ (x : HistoryStep). is_start x.0) (same_Some (Serve Inv 0, []) (Start who n, body) f) in cc
         none (suc j) f = cc
 
 -- THE MIDDLE LOG

@@ -30,7 +30,8 @@ use Rattle.tier_laws.proofs.Ledger.{Decision, answers-kept, tables-kept}
 use Rattle.tier_laws.proofs.Rounds.{kept-refl}
 use Rattle.tier_laws.proofs.Stable.{MoreLog, after-more, round-more}
 use Rattle.tier_model.specs.Mid.{Mid}
-use Rattle.tier_model.specs.Moves.{Packet, tier_of, index_of}
+use Rattle.tier_model.specs.Moves.{Packet, tier_of}
+use Rattle.frames.specs.Headers.{end_index}
 
 pub more-refl : {V : Type 0} (xs : List V) → MoreLog xs xs
 more-refl xs = record { at = λ i v e. e }
@@ -91,7 +92,7 @@ sent_by-more c P Q from to (msgs.Reply who text) g o = (o.0, g.kept.replies who.
 sent_by-more c P Q from to (msgs.Token r token order) g o = run-more P Q _ g o
 sent_by-more c P Q from to (msgs.Call n text) g o = g.kept.calls (tier_of to) n text o
 sent_by-more c P Q from to (msgs.Answer n code) g o = g.kept.served (tier_of from) n code o
-sent_by-more c P Q from to (msgs.Have t n code) g o = (g.kept.served t n code o.0, g.held (index_of from) t n o.1)
+sent_by-more c P Q from to (msgs.Have t n code) g o = (g.kept.served t n code o.0, g.held (end_index from) t n o.1)
 sent_by-more c P Q from to (msgs.Settle f) g o = floor-more c P Q (tier_of to) f g o
 
 pub sent-more : {B : Type 0} (c : Config B) (P Q : Past B) (k : Packet) → Grows P Q → SentOk c P k → SentOk c Q k

@@ -27,6 +27,7 @@ use Rattle.tier_laws.proofs.Maps.Result.{Refused, Done}
 use Rattle.tier_laws.proofs.Lists.{put_here, put_there, tier_same, tier_eq, tier_cases, get_end, get_left}
 use Rattle.tier_laws.proofs.Rounds.{number_cases, number_here}
 use Rattle.tier_laws.proofs.Codes.{same_number}
+use Rattle.log_model.specs.Chosen.{or_else}
 
 abbrev as_progress : Option Progress → Option Waiting
 as_progress None = None
@@ -49,25 +50,19 @@ pub record Shows {B : Type 0} (m : Service B) (O : Server B) (s : real.Server B)
 
 -- LOOKING UP
 
-or_last : {A : Type 0} → Option A → Option A → Option A
-or_last None o = o
-or_last (Some a) o = Some a
-
-found-push : {A : Type 0} (xs : List (Tier × ℕ × A)) (t : Tier) (n : ℕ) (a : A) (v : Tier) (k : ℕ) → found_in (xs ++ (t, n, a) ∷ []) v k ≡ or_last (found_in xs v k) (cond (same_tier t v && (n == k)) (Some a) None)
-unfolding or_last
+found-push : {A : Type 0} (xs : List (Tier × ℕ × A)) (t : Tier) (n : ℕ) (a : A) (v : Tier) (k : ℕ) → found_in (xs ++ (t, n, a) ∷ []) v k ≡ or_else (found_in xs v k) (cond (same_tier t v && (n == k)) (Some a) None)
 found-push [] t n a v k = refl
 found-push {A} (x ∷ xs) t n a v k = go (same_tier x.0 v && (x.1 == k)) (found-push xs t n a v k)
   where
-    go : (b : Bool) → found_in (xs ++ (t, n, a) ∷ []) v k ≡ or_last (found_in xs v k) (cond (same_tier t v && (n == k)) (Some a) None) → cond b (Some x.2) (found_in (xs ++ (t, n, a) ∷ []) v k) ≡ or_last (cond b (Some x.2) (found_in xs v k)) (cond (same_tier t v && (n == k)) (Some a) None)
+    go : (b : Bool) → found_in (xs ++ (t, n, a) ∷ []) v k ≡ or_else (found_in xs v k) (cond (same_tier t v && (n == k)) (Some a) None) → cond b (Some x.2) (found_in (xs ++ (t, n, a) ∷ []) v k) ≡ or_else (cond b (Some x.2) (found_in xs v k)) (cond (same_tier t v && (n == k)) (Some a) None)
     go true e = refl
     go false e = e
 
 -- a new number is looked up as it is put
 found-put : {A : Type 0} (xs : List (Tier × ℕ × A)) (f : Tier → ℕ → Option A) (t : Tier) (n : ℕ) (a : A) → ((v : Tier) (k : ℕ) → found_in xs v k ≡ f v k) → f t n ≡ None → (v : Tier) (k : ℕ) → found_in (xs ++ (t, n, a) ∷ []) v k ≡ put_number f t n (Some a) v k
-unfolding or_last
-found-put {A} xs f t n a same none v k = found-push xs t n a v k ∙ ap (λ z. or_last z (cond (same_tier t v && (n == k)) (Some a) None)) (same v k) ∙ go (tier_cases v t) (cases_eq k n)
+found-put {A} xs f t n a same none v k = found-push xs t n a v k ∙ ap (λ z. or_else z (cond (same_tier t v && (n == k)) (Some a) None)) (same v k) ∙ go (tier_cases v t) (cases_eq k n)
   where
-    there : (b : Bool) (o : Option A) → b ≡ false → or_last o (cond b (Some a) None) ≡ o
+    there : (b : Bool) (o : Option A) → b ≡ false → or_else o (cond b (Some a) None) ≡ o
     there true o e = absurd (cc)
     there false None e = refl
     there false (Some x) e = refl
@@ -86,13 +81,13 @@ found-put {A} xs f t n a same none v k = found-push xs t n a v k ∙ ap (λ z. o
         by false = refl
         by true = ne_eqb n k (λ f. e (sym f))
 
-    go : (v ≡ t) ⊎ (same_tier v t ≡ false) → (k ≡ n) ⊎ (k ≡ n → ⊥) → or_last (f v k) (cond (same_tier t v && (n == k)) (Some a) None) ≡ put_number f t n (Some a) v k
+    go : (v ≡ t) ⊎ (same_tier v t ≡ false) → (k ≡ n) ⊎ (k ≡ n → ⊥) → or_else (f v k) (cond (same_tier t v && (n == k)) (Some a) None) ≡ put_number f t n (Some a) v k
     go (inl e) (inl g) =
-        subst (λ z. or_last (f z k) (cond (same_tier t z && (n == k)) (Some a) None) ≡ put_number f t n (Some a) z k) (sym e)
-        (subst (λ z. or_last (f t z) (cond (same_tier t t && (n == z)) (Some a) None) ≡ put_number f t n (Some a) t z) (sym g) here)
+        subst (λ z. or_else (f z k) (cond (same_tier t z && (n == k)) (Some a) None) ≡ put_number f t n (Some a) z k) (sym e)
+        (subst (λ z. or_else (f t z) (cond (same_tier t t && (n == z)) (Some a) None) ≡ put_number f t n (Some a) t z) (sym g) here)
       where
-        here : or_last (f t n) (cond (same_tier t t && (n == n)) (Some a) None) ≡ put_number f t n (Some a) t n
-        here = ap (λ z. or_last z (cond (same_tier t t && (n == n)) (Some a) None)) none ∙ cond-true (same_tier t t && (n == n)) (Some a) None (same_number t n) ∙ sym (number_here f t n (Some a))
+        here : or_else (f t n) (cond (same_tier t t && (n == n)) (Some a) None) ≡ put_number f t n (Some a) t n
+        here = ap (λ z. or_else z (cond (same_tier t t && (n == n)) (Some a) None)) none ∙ cond-true (same_tier t t && (n == n)) (Some a) None (same_number t n) ∙ sym (number_here f t n (Some a))
     go (inl e) (inr g) = there (same_tier t v && (n == k)) (f v k) (apart_num g) ∙ sym (kept (number_cases f t n (Some a) v k))
       where
         kept : ((v ≡ t) × (k ≡ n)) ⊎ (put_number f t n (Some a) v k ≡ f v k) → put_number f t n (Some a) v k ≡ f v k

@@ -30,7 +30,8 @@ use Rattle.run_model.specs.World.{Config, World}
 use Rattle.run_model.specs.Runs.{is_in, log_soup, served_of}
 use Rattle.tier_model.specs.Back.{Back}
 use Rattle.tier_model.specs.Mid.{Mid}
-use Rattle.tier_model.specs.Moves.{tier_of, index_of, Packet, log_facts, held_in}
+use Rattle.tier_model.specs.Moves.{tier_of, Packet, log_facts, held_in}
+use Rattle.frames.specs.Headers.{end_index}
 use Rattle.tier_laws.specs.Said.{HasReply, HasCall, HasAnswer, chosen_log, MidLearned, BackLearned, HasLearned, StandsFor, DiskStandsFor, learned_from, MidApplied, BackServes, Caused, is_gone, FewGone, Durable}
 use Rattle.tier_laws.proofs.Apply.{half-odd}
 use Rattle.tier_laws.proofs.Core.{BackMode, Inv as WorldOk, MidMode, past}
@@ -99,14 +100,14 @@ learned c w Pay x p v i l e = back_learned c w i Pay x p v (w.backs Pay x).mode 
 mid_told : {B : Type 0} (c : Config B) (w : World B) (place : ℕ) (from to : End) (p : ℕ) (v : AnyValue) → WorldOk c w → is_in MidTier from ≡ true → slice_get w.soup place ≡ Some (record { from = from; to = to; message = msgs.Log (Learn p v) }) → slice_get w.log p ≡ Some v
 mid_told c w place from to p v i b e =
     let q = log_place MidTier w.soup place from to (Learn p v) b e in
-    let j : LogPacket AnyValue = record { from = index_of from; to = index_of to; msg = Learn p v } in
+    let j : LogPacket AnyValue = record { from = end_index from; to = end_index to; msg = Learn p v } in
     let right : PacketOk c.u i.h (mid_soup w.soup) j = every-get (PacketOk c.u i.h (mid_soup w.soup)) (mid_soup w.soup) q.0 j i.core.mid_log.history.packets q.1 in
     i.done.mid.at p v right
 
 back_told : {B : Type 0} (c : Config B) (w : World B) (t : Tier) (place : ℕ) (from to : End) (p : ℕ) (v : AnyValue) → WorldOk c w → same_tier t MidTier ≡ false → is_in t from ≡ true → slice_get w.soup place ≡ Some (record { from = from; to = to; message = msgs.Log (Learn p v) }) → slice_get (w.logs t) p ≡ Some v
 back_told c w t place from to p v i n b e =
     let q = back_place t w.soup place from to (Learn p v) n b e in
-    let j : LogPacket AnyValue = record { from = index_of from; to = index_of to; msg = Learn p v } in
+    let j : LogPacket AnyValue = record { from = end_index from; to = end_index to; msg = Learn p v } in
     let right : PacketOk c.u (i.k t) (back_soup t w.soup) j = every-get (PacketOk c.u (i.k t) (back_soup t w.soup)) (back_soup t w.soup) q.0 j (i.core.back_log t).history.packets q.1 in
     (i.done.back t).at p v right
 

@@ -1,10 +1,11 @@
 -- The wants of a round: their clients differ, and none of them is parked elsewhere.
 use Rattle.std.proofs.Common.{◌≡◌, ℕ, ◌≤◌, Bool, true, false, cond, List, [], ◌∷◌, ◌++◌, map, refl, sym, ap, ◌∙◌, subst, inl, inr, Option, Some, None, zero, suc}
-use Rattle.std.specs.Prelude.{nat_le, slice_get, ◌⊎◌, ◌==◌, ◌&&◌, ◌||◌, not}
-use Rattle.std.proofs.lemmas.Bool.{leb-true, eq-eqb, eqb-true, ne_eqb, cond-true, cond-false, cases_eq, and_parts}
+use Rattle.std.specs.Prelude.{nat_le, slice_get, ◌⊎◌, ◌==◌, ◌&&◌, not}
+use Rattle.std.proofs.lemmas.Bool.{leb-true, eq-eqb, eqb-true, ne_eqb, cond-true, cond-false, cases_eq, and_parts, or_right}
 use Rattle.std.proofs.lemmas.List.{append-nil, append_assoc}
 use Rattle.log_values.specs.declared.entry.Entry.{Entry}
-use Rattle.round_model.specs.Lists.{concat, head_of, is_some, mem, tail_of}
+use Rattle.round_model.specs.Lists.{concat, head_of, is_some, tail_of}
+use Rattle.svc_api.specs.Orders.{mem}
 use Rattle.round_model.specs.Service.{Service, is_request}
 use Rattle.round_model.specs.Lists.{OfTiers, of_tier}
 use Rattle.round_model.specs.Tables.{in_range, last_of, who_of, Parked, Tables, Want, bump, fresh_of, is_busy, is_fresh, parked_of, parks, resumed, started}
@@ -114,13 +115,9 @@ concat-push (h ∷ q) g = ap (λ z. h ++ z) (concat-push q g) ∙ sym (append_as
 
 -- FRESH
 
-mem_more : (b : Bool) (c : Bool) → c ≡ true → (b || c) ≡ true
-mem_more true c e = refl
-mem_more false c e = e
-
 fresh-none : {B : Type 0} (m : Service B) (T : Tables) (seen : List ℕ) (es : List Entry) (c : ℕ) → mem c seen ≡ true → NoneOf c (map started (fresh_of m T seen es))
 fresh-none m T seen [] c e = tt
-fresh-none m T seen (x ∷ es) c e = go (mem x.client seen) refl (fresh-none m T seen es c e) (is_fresh m T x) (fresh-none m T (x.client ∷ seen) es c (mem_more (x.client == c) (mem c seen) e))
+fresh-none m T seen (x ∷ es) c e = go (mem x.client seen) refl (fresh-none m T seen es c e) (is_fresh m T x) (fresh-none m T (x.client ∷ seen) es c (or_right (x.client == c) (mem c seen) e))
   where
     go : (b : Bool) → mem x.client seen ≡ b → NoneOf c (map started (fresh_of m T seen es)) → (f : Bool) → NoneOf c (map started (fresh_of m T (x.client ∷ seen) es))
         → NoneOf c (map started (cond b (fresh_of m T seen es) (cond f (x ∷ fresh_of m T (x.client ∷ seen) es) (fresh_of m T (x.client ∷ seen) es))))

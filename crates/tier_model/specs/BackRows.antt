@@ -19,7 +19,8 @@ use Rattle.round_model.specs.Lists.{is_some, put_at, each}
 use Rattle.round_model.specs.Service.{Service}
 use Rattle.round_model.specs.Answers.{Code, code_of, highest}
 use Rattle.round_model.specs.Copies.{Copy, copy_of, ready_copy, floor_at, due}
-use Rattle.tier_model.specs.Moves.{index_of, is_node_of, Packet, Move, idles, drops, says, becomes, log_packets, asks, log_facts}
+use Rattle.tier_model.specs.Moves.{is_node_of, Packet, Move, idles, drops, says, becomes, log_packets, asks, log_facts}
+use Rattle.frames.specs.Headers.{end_index}
 use Rattle.tier_model.specs.Back.{Back, answer_to, after_value, in_log}
 
 -- CALLS AND FLOORS
@@ -50,9 +51,9 @@ on_settle σ s g = if nat_le g (floor_at σ.floors s) then idles σ why.Nothing 
 
 -- a kind that it doesn't take, or not from there, is refused by rule 7
 abbrev pub on_frame : {B : Type 0} → ℕ → Service B → Tier → ℕ → Back B → End → Msg → Move (Back B)
-on_frame u m t x σ from (msgs.Log p) = if is_node_of u t from then in_log u m t x σ (on_msg u σ.log (index_of from) p) else drops σ 7
-on_frame u m t x σ from (msgs.Call n text) = if is_node_of u tiers.Mid from then on_call t x σ (index_of from) n text else drops σ 7
-on_frame u m t x σ from (msgs.Settle g) = if is_node_of u tiers.Mid from then on_settle σ (index_of from) g else drops σ 7
+on_frame u m t x σ from (msgs.Log p) = if is_node_of u t from then in_log u m t x σ (on_msg u σ.log (end_index from) p) else drops σ 7
+on_frame u m t x σ from (msgs.Call n text) = if is_node_of u tiers.Mid from then on_call t x σ (end_index from) n text else drops σ 7
+on_frame u m t x σ from (msgs.Settle g) = if is_node_of u tiers.Mid from then on_settle σ (end_index from) g else drops σ 7
 on_frame u m t x σ from (msgs.Request seq body) = drops σ 7
 on_frame u m t x σ from (msgs.Reply who body) = drops σ 7
 on_frame u m t x σ from (msgs.Token r token order) = drops σ 7

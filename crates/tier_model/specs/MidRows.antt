@@ -29,7 +29,8 @@ use Rattle.round_model.specs.Tables.{Parked, tables0, last_of, kept_of, fresh_pe
 use Rattle.round_model.specs.After.{batch_at, verdict_at}
 use Rattle.round_model.specs.Verdicts.{Vote, vote_of, votes_in, verdict}
 use Rattle.round_model.specs.Answers.{Code, code_of, Noted, is_noted, usable, floor, highest}
-use Rattle.tier_model.specs.Moves.{node, tier_of, index_of, is_client, is_node_of, Packet, Move, idles, drops, says, becomes, log_packets, asks, log_facts, held_in}
+use Rattle.tier_model.specs.Moves.{node, tier_of, is_client, is_node_of, Packet, Move, idles, drops, says, becomes, log_packets, asks, log_facts, held_in}
+use Rattle.frames.specs.Headers.{end_index}
 use Rattle.tier_model.specs.Mid.{Mid, in_log, ready, apply, applies, reply_to, calls_to, missing}
 
 -- REQUESTS
@@ -103,15 +104,15 @@ is_backend_node u from = is_node_of u tiers.Inv from || is_node_of u tiers.Pay f
 
 -- a kind that it doesn't take, or not from there, is refused by rule 7, and a request that is none by rule 8
 abbrev pub on_frame : {B : Type 0} → ℕ → Service B → ℕ → Mid → End → Msg → Move Mid
-on_frame u m x σ from (msgs.Log p) = if is_node_of u tiers.Mid from then in_log u m x σ (on_msg u σ.log (index_of from) p) else drops σ 7
+on_frame u m x σ from (msgs.Log p) = if is_node_of u tiers.Mid from then in_log u m x σ (on_msg u σ.log (end_index from) p) else drops σ 7
 on_frame u m x σ from (msgs.Request seq body) =
     if not (is_client from) then drops σ 7
-    else if not (is_request m (record { client = index_of from; seq = seq }) body) then drops σ 8
-    else on_request x σ (index_of from) seq body
+    else if not (is_request m (record { client = end_index from; seq = seq }) body) then drops σ 8
+    else on_request x σ (end_index from) seq body
 on_frame u m x σ from (msgs.Token r token order) =
-    if is_node_of u tiers.Mid from then on_token σ (record { round = r; from = index_of from; token = token; order = order }) else drops σ 7
+    if is_node_of u tiers.Mid from then on_token σ (record { round = r; from = end_index from; token = token; order = order }) else drops σ 7
 on_frame u m x σ from (msgs.Answer n code) = if is_backend_node u from then on_answer u x σ (tier_of from) n code else drops σ 7
-on_frame u m x σ from (msgs.Have t n code) = if is_node_of u tiers.Mid from then on_have u x σ (index_of from) t n code else drops σ 7
+on_frame u m x σ from (msgs.Have t n code) = if is_node_of u tiers.Mid from then on_have u x σ (end_index from) t n code else drops σ 7
 on_frame u m x σ from (msgs.Reply who body) = drops σ 7
 on_frame u m x σ from (msgs.Call n body) = drops σ 7
 on_frame u m x σ from (msgs.Settle g) = drops σ 7

@@ -37,11 +37,6 @@ abbrev pub tier_of : End → Tier
 tier_of (Node n) = n.tier
 tier_of (Client c) = tiers.Mid
 
--- the index of a node, or the number of a client
-abbrev pub index_of : End → ℕ
-index_of (Node n) = n.index
-index_of (Client c) = c
-
 abbrev pub is_client : End → Bool
 is_client (Node n) = false
 is_client (Client c) = true

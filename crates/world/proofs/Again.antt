@@ -4,9 +4,9 @@ use Rattle.std.specs.Prelude.{slice_get, IfOk}
 use Rattle.std.specs.declared.result.Result.{Result}
 use Rattle.std.specs.declared.result.Result.TheVariants.{Ok, Err}
 use Rattle.std.proofs.lemmas.List.{length-append}
+use Rattle.std.proofs.lemmas.Option.{same_Some}
 use Rattle.aeg_base.specs.declared.names.Tier.{Tier}
 use Rattle.aeg_base.specs.declared.names.End.{End}
-use Rattle.aeg_wire.proofs.Grammar.{some_is}
 use Rattle.log_model.specs.declared.message.PaxMsg.{PaxMsg}
 use Rattle.log_values.specs.declared.any_value.AnyValue.{AnyValue}
 use Rattle.frames.specs.declared.message.Msg.TheVariants.{Log}
@@ -21,7 +21,7 @@ Send = ℕ × PaxMsg AnyValue
 
 take_last : (xs : List Send) (j : ℕ) (x : Send) → slice_get xs j ≡ Some x → take (suc j) xs ≡ take j xs ++ x ∷ []
 take_last [] j x e = absurd cc
-take_last (y ∷ ys) zero x e = ap (λ (z : Send). z ∷ []) (some_is y x e)
+take_last (y ∷ ys) zero x e = ap (λ (z : Send). z ∷ []) (same_Some y x e)
 take_last (y ∷ ys) (suc j) x e = ap (λ z. y ∷ z) (take_last ys j x e)
 
 sealed_last : (t : Tier) (x : ℕ) (sends : List Send) (s : Send) → map sealed (log_packets t x (sends ++ s ∷ [])) ≡ map sealed (log_packets t x sends) ++ sealed (log_packet t x s) ∷ []
@@ -35,7 +35,7 @@ last_is xs y =
 
 -- a frame of the message with this number
 pub written : {E : Type 0} (t : Tier) (x : ℕ) (sends : List Send) (i : ℕ) (s : Send) (r : Result (List ℕ) E) → slice_get sends i ≡ Some s → IfOk r (λ bytes. bytes ≡ frame (node t x) (Log s.1)) → IfOk r (λ bytes. IsFrameAt t x sends i bytes)
-written t x sends i s (Ok bytes) e f = λ send g. f ∙ ap (λ (z : Send). frame (node t x) (Log z.1)) (some_is s send (sym e ∙ g))
+written t x sends i s (Ok bytes) e f = λ send g. f ∙ ap (λ (z : Send). frame (node t x) (Log z.1)) (same_Some s send (sym e ∙ g))
 written t x sends i s (Err error) e f = tt
 
 -- the last packet, where the message is the one before again
@@ -48,7 +48,7 @@ copied_after {E = E} t x sends j before s sent packet (Ok bytes) b e same h l f 
     h.1 ∙ ap (λ z. h.0 ++ map sealed (log_packets t x z)) (take_last sends j before b) ∙ ap (λ z. h.0 ++ z) (sealed_last t x (take j sends) before)
     ∙ sym (append_assoc h.0 (map sealed (log_packets t x (take j sends))) (sealed (log_packet t x before) ∷ [])) in
     let last : Some packet ≡ Some (sealed (log_packet t x before)) = sym l ∙ ap (λ z. slice_get z (length z - 1)) parts ∙ last_is front (sealed (log_packet t x before)) in
-    let is : packet ≡ sealed (log_packet t x before) = some_is packet (sealed (log_packet t x before)) last in
+    let is : packet ≡ sealed (log_packet t x before) = same_Some packet (sealed (log_packet t x before)) last in
     written {E = E} t x sends (suc j) s (Ok bytes) e (f ∙ ap (λ (k : End × List ℕ). k.1) is ∙ ap (λ m. frame (node t x) (Log m)) same)
 
 pub copied : {E : Type 0} (t : Tier) (x : ℕ) (sends : List Send) (i : ℕ) (before s : Send) (sent : List (End × List ℕ)) (packet : End × List ℕ) (r : Result (List ℕ) E) → 0 < i → slice_get sends (i - 1) ≡ Some before → slice_get sends i ≡ Some s → before.1 ≡ s.1

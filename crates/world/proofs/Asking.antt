@@ -3,6 +3,7 @@ use Rattle.std.proofs.Common.{◌≡◌, ℕ, ◌+◌, ◌*◌, ◌<◌, ◌≤�
 use Rattle.std.proofs.lemmas.List.{map-append}
 use Rattle.std.specs.Prelude.{slice_get, slice_set, map, option_map, nat_lt, nat_le, not, ◌&&◌, ◌⊎◌}
 use Rattle.std.proofs.lemmas.Bool.{cond-true, and_from, lt-ltb, le-leb}
+use Rattle.std.proofs.lemmas.Option.{slice_get_read}
 use Rattle.aeg_base.specs.declared.limits.TheConstants.{PACKETS}
 use Rattle.aeg_base.specs.declared.names.End.TheVariants.{Client}
 use Rattle.server_model.specs.Requests.{request_of}
@@ -33,7 +34,7 @@ use Rattle.run_model.specs.BookingRuns.{config, booking_service, BookingWorld}
 use Rattle.world.specs.Parts.{Reaches, AreFit, AllReach, sealed}
 use Rattle.world.specs.Disks.{AreDisks, HasCause}
 use Rattle.world.specs.Standing.{Makes, AsksOnce, IsClientEnd, AreAll, AreNodes, Shows}
-use Rattle.world.proofs.AtNodes.{some_at, set_same}
+use Rattle.world.proofs.AtNodes.{set_same}
 use Rattle.world.proofs.Doing.{set_one}
 use Rattle.world.proofs.Places.{request_short}
 use Rattle.world.proofs.Counted.{falls_none}
@@ -130,11 +131,11 @@ sealed_more n f = let e : n + 1 ≡ suc n = omega arith in ap (λ z. map sealed 
 
 -- a client by its number, and what it asks
 pub client_is : (w : BookingWorld) (vs : List ClientState) (y : ℕ) (v : ClientState) → AreAll 17 IsClientEnd w.clients vs → y ≤ 16 → v ≡ get_or vs y v → IsClientEnd y (w.clients y) v
-client_is w vs y v k l e = k.each y v (some_at vs y v (omega (arith, k.size, l)) e)
+client_is w vs y v k l e = k.each y v (slice_get_read vs (length vs) y v refl (omega (arith, k.size, l)) e)
 
 -- it is put back as it was
 pub client_back : (w : BookingWorld) (vs : List ClientState) (y : ℕ) (v new : ClientState) → AreAll 17 IsClientEnd w.clients vs → y ≤ 16 → v ≡ get_or vs y v → new ≡ v → AreAll 17 IsClientEnd w.clients (slice_set vs y new)
-client_back w vs y v new k l e f = subst (AreAll 17 IsClientEnd w.clients) (set_same vs y v (some_at vs y v (omega (arith, k.size, l)) e) ∙ ap (slice_set vs y) (sym f)) k
+client_back w vs y v new k l e f = subst (AreAll 17 IsClientEnd w.clients) (set_same vs y v (slice_get_read vs (length vs) y v refl (omega (arith, k.size, l)) e) ∙ ap (slice_set vs y) (sym f)) k
 
 -- it has opened its first request
 pub client_opened : (u : ℕ) (w : BookingWorld) (vs : List ClientState) (y : ℕ) (v new : ClientState) (text : List ℕ) → AreAll 17 IsClientEnd w.clients vs → y ≤ 16 → v ≡ get_or vs y v → (w.clients y).last ≡ 0 → is_request booking_service (record { client = y; seq = 1 }) text ≡ true → new ≡ opened_with v text

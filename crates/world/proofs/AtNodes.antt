@@ -1,7 +1,7 @@
 -- A call at a node of a list is one at the list.
 use Rattle.std.proofs.Common.{◌≡◌, ℕ, ◌<◌, true, List, [], ◌∷◌, length, refl, sym, ap, ◌∙◌, subst, Some, zero, suc, get_or}
 use Rattle.world.proofs.Passing.{passes}
-use Rattle.std.proofs.lemmas.Option.{slice_get_within, slice_get-get_or, get_or_from_slice_get}
+use Rattle.std.proofs.lemmas.Option.{slice_get_within, get_or_from_slice_get, slice_get_read}
 use Rattle.std.specs.Prelude.{slice_get, slice_set}
 use Rattle.std.specs.declared.result.Result.{Result}
 use Rattle.aeg_base.specs.declared.names.End.{End}
@@ -18,9 +18,6 @@ use Rattle.world.specs.Parts.{MidView, BackView, MidMoves, BackMoves, MidRestart
 use Rattle.world.specs.declared.nodes.all_nodes.Nodes.{Nodes}
 use Rattle.world.specs.NodeLists.{mid_up, back_up, MidsMove, BacksMove, NodesMove, MidsRestart, BacksRestart, NodeRestarts}
 
-pub some_at : {A : Type 0} (xs : List A) (x : ℕ) (v : A) → x < length xs → v ≡ get_or xs x v → slice_get xs x ≡ Some v
-some_at xs x v l e = slice_get-get_or xs x v l ∙ ap Some (sym e)
-
 -- the item that is read there
 pub read_is : {A : Type 0} (xs : List A) (x : ℕ) (v m : A) → v ≡ get_or xs x v → slice_get xs x ≡ Some m → v ≡ m
 read_is xs x v m e f = e ∙ get_or_from_slice_get xs x m v f
@@ -34,7 +31,7 @@ pub mid_is_up : (ms : List MidView) (x : ℕ) (v : MidView) → v ≡ get_or ms 
 mid_is_up ms x v r e = let m = passes mid_up (slice_get ms x) refl e in subst (λ z. is_up z.part ≡ true) (sym (read_is ms x v m.0 r m.1)) m.2
 
 pub mid_reads_up : (ms : List MidView) (x : ℕ) (v : MidView) → x < length ms → v ≡ get_or ms x v → is_up v.part ≡ mid_up (slice_get ms x)
-mid_reads_up ms x v l r = sym (ap mid_up (some_at ms x v l r))
+mid_reads_up ms x v l r = sym (ap mid_up (slice_get_read ms (length ms) x v refl l r))
 
 pub mid_moves_at : (ms : List MidView) (x : ℕ) (v n : MidView) (a b : DiskState) (before after : List (End × List ℕ)) (move : MidView → Mid → Move Mid) (result : Result Answer Fault) → v ≡ get_or ms x v → MidMoves v n a b before after (move v) result
     → MidsMove ms (slice_set ms x n) x a b before after move result
@@ -52,7 +49,7 @@ pub back_is_up : (bs : List BackView) (x : ℕ) (v : BackView) → v ≡ get_or 
 back_is_up bs x v r e = let m = passes back_up (slice_get bs x) refl e in subst (λ z. is_up z.part ≡ true) (sym (read_is bs x v m.0 r m.1)) m.2
 
 pub back_reads_up : (bs : List BackView) (x : ℕ) (v : BackView) → x < length bs → v ≡ get_or bs x v → is_up v.part ≡ back_up (slice_get bs x)
-back_reads_up bs x v l r = sym (ap back_up (some_at bs x v l r))
+back_reads_up bs x v l r = sym (ap back_up (slice_get_read bs (length bs) x v refl l r))
 
 pub back_moves_at : (bs : List BackView) (x : ℕ) (v n : BackView) (a b : DiskState) (before after : List (End × List ℕ)) (move : BackView → Back Amounts → Move (Back Amounts)) (result : Result Answer Fault) → v ≡ get_or bs x v → BackMoves v n a b before after (move v) result
     → BacksMove bs (slice_set bs x n) x a b before after move result

@@ -2,7 +2,7 @@
 use Rattle.std.proofs.Common.{◌≡◌, ℕ, ◌+◌, ◌*◌, ◌<◌, ◌≤◌, Bool, true, false, cond, List, [], ◌∷◌, ◌++◌, length, map, replicate, refl, sym, ap, ◌∙◌, subst, arith, Option, Some, None, Result, Ok, Err, zero, suc, append-nil}
 use Rattle.std.specs.Prelude.{slice_get, nat_lt, nat_le, ◌==◌, ◌&&◌, not, IfSome}
 use Rattle.std.specs.List.{AllByRecursion}
-use Rattle.std.proofs.lemmas.Bool.{cond-true, cond-false, cond_both}
+use Rattle.std.proofs.lemmas.Bool.{cond-true, cond-false, cond_both, ltb-true, false_from_ne_true}
 use Rattle.aeg_base.specs.declared.limits.TheConstants.{POSITIONS}
 use Rattle.aeg_base.specs.declared.names.Ballot.{Ballot}
 use Rattle.aeg_disk.specs.Disk.{DiskState}
@@ -20,10 +20,8 @@ use Rattle.log_model.specs.Log.{Leader, LogState, Turn, open_at, is_at, is_none}
 use Rattle.log_model.specs.Rows.{offer, wants as log_wants, wants_as, on_msg, promised_by, is_taken}
 use Rattle.log_model.specs.Ranges.{IsVoteIn, IsLeaderIn, IsLogIn, IsSendIn}
 use Rattle.log_model.specs.World.Mode.{Up}
-use Rattle.log_model.proofs.Rows.{no_from}
 use Rattle.log_values.specs.declared.any_value.AnyValue.{AnyValue}
 use Rattle.log_values.specs.Fields.{FitsBallot}
-use Rattle.log_values.proofs.BoolTests.{lt_true}
 use Rattle.frames.specs.declared.message.Msg.TheVariants as msgs
 use Rattle.frames.specs.declared.turn.Turn.{Turn as Answer}
 use Rattle.frames.specs.declared.turn.Turn.TheVariants.{Did, Idle as Idles}
@@ -33,7 +31,8 @@ use Rattle.frames.specs.declared.turn.Fault.{Fault}
 use Rattle.frames.specs.declared.turn.Fault.TheVariants as faults
 use Rattle.round_model.specs.Lists.{is_some}
 use Rattle.round_model.specs.Copies.{floor_at, many_at_least, greater, due_among, due}
-use Rattle.tier_model.specs.Moves.{index_of, is_node_of, Move, idles, drops, says, log_packets, asks, as_fact, log_answer, offer_cause}
+use Rattle.tier_model.specs.Moves.{is_node_of, Move, idles, drops, says, log_packets, asks, as_fact, log_answer, offer_cause}
+use Rattle.frames.specs.Headers.{end_index}
 use Rattle.tier_model.specs.Back.{Back, with_log, new_value, value_state, value_tells, in_log}
 use Rattle.tier_model.specs.BackRows.{on_frame, own_value, offers_as, offers, retry}
 use Rattle.run_model.specs.BookingRuns.{booking_service}
@@ -69,7 +68,7 @@ no_report t p (Some a) b k = absurd (no_value t p a.1 b k.1.1)
 
 nothing_new : (old new : LogState AnyValue) → length new.learned ≡ 0 → new_value old new ≡ None
 nothing_new old new e = cond-false (nat_lt (length old.learned) (length new.learned)) (slice_get new.learned (length old.learned)) None
-    (no_from (nat_lt (length old.learned) (length new.learned)) (λ t. let l : length old.learned < length new.learned = lt_true (length old.learned) (length new.learned) t in omega arith))
+    (false_from_ne_true (nat_lt (length old.learned) (length new.learned)) (λ t. let l : length old.learned < length new.learned = ltb-true (length old.learned) (length new.learned) t in omega arith))
 
 abbrev back_move : ℕ → Tier → ℕ → Turn AnyValue → Move (Back Amounts)
 back_move u t x turn = record { state = as_back u t turn.state; facts = map as_fact turn.facts; sends = log_packets t x turn.sends; answer = log_answer turn.idle }
@@ -122,10 +121,10 @@ back_quiet now a out move answer f = record {
   same = (refl, (refl, refl));
 }
 
-pub frame_log : (u : ℕ) (t : Tier) (x : ℕ) (log : LogState AnyValue) (from : End) (m : PaxMsg AnyValue) (i : ℕ) → is_node_of u t from ≡ true → i ≡ index_of from
+pub frame_log : (u : ℕ) (t : Tier) (x : ℕ) (log : LogState AnyValue) (from : End) (m : PaxMsg AnyValue) (i : ℕ) → is_node_of u t from ≡ true → i ≡ end_index from
     → on_frame u booking_service t x (as_back u t log) from (msgs.Log m) ≡ in_log u booking_service t x (as_back u t log) (on_msg u log i m)
 frame_log u t x log from m i e f =
-    cond-true (is_node_of u t from) (in_log u booking_service t x (as_back u t log) (on_msg u log (index_of from) m)) (drops (as_back u t log) 7) e
+    cond-true (is_node_of u t from) (in_log u booking_service t x (as_back u t log) (on_msg u log (end_index from) m)) (drops (as_back u t log) 7) e
     ∙ ap (λ z. in_log u booking_service t x (as_back u t log) (on_msg u log z m)) (sym f)
 
 -- OFFERS
@@ -144,7 +143,7 @@ due_low u n (suc k) = greater_low (due_among u (replicate n 1) k) _ (due_low u n
 
 nothing_own : (u : ℕ) (t : Tier) (log : LogState AnyValue) → own_value u (as_back u t log) ≡ None
 nothing_own u t log = cond-false (nat_lt 1 (due u (replicate (2 * u + 1) 1))) _ None
-    (no_from (nat_lt 1 (due u (replicate (2 * u + 1) 1))) (λ e. let l : 1 < due u (replicate (2 * u + 1) 1) = lt_true 1 (due u (replicate (2 * u + 1) 1)) e in let k : due u (replicate (2 * u + 1) 1) ≤ 1 = due_low u (2 * u + 1) (2 * u + 1) in omega arith))
+    (false_from_ne_true (nat_lt 1 (due u (replicate (2 * u + 1) 1))) (λ e. let l : 1 < due u (replicate (2 * u + 1) 1) = ltb-true 1 (due u (replicate (2 * u + 1) 1)) e in let k : due u (replicate (2 * u + 1) 1) ≤ 1 = due_low u (2 * u + 1) (2 * u + 1) in omega arith))
 
 -- no value was reported
 never_taken : (u : ℕ) (t : Tier) (log : LogState AnyValue) (o : Option (Leader AnyValue)) → IsBackend t → (l : Leader AnyValue) → IsLeaderIn (CanStand t) FitsBallot l → is_taken (open_at log) l ≡ false

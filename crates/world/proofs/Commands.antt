@@ -25,7 +25,7 @@ use Rattle.tier_model.specs.Back.{Back}
 use Rattle.run_model.specs.declared.trace.Fared.{Fared}
 use Rattle.run_model.specs.declared.trace.Fared.TheVariants.{Fine}
 use Rattle.run_model.specs.World as worlds
-use Rattle.run_model.specs.World.{is_well, moved, sent, fate, unwritten, at_mid, at_back, no_run, happens}
+use Rattle.run_model.specs.World.{is_well, moved, sent, fate, unwritten, at_mid, at_back, no_run}
 use Rattle.run_model.specs.Text as texts
 use Rattle.world.specs.declared.nodes.all_nodes.Nodes.{Nodes}
 use Rattle.run_model.specs.BookingRuns.{config, BookingWorld}

@@ -17,7 +17,7 @@ use Rattle.world.specs.Disks.{RoseAt, HasCause, AllCaused, NoneFell}
 use Rattle.log_model.proofs.Basics.{get_within}
 
 -- what is read twice
-same_read : (o : Option DiskState) (a b : DiskState) → o ≡ Some a → o ≡ Some b → a ≡ b
+pub same_read : (o : Option DiskState) (a b : DiskState) → o ≡ Some a → o ≡ Some b → a ≡ b
 same_read o a b e f = let g : Some a ≡ Some b = sym e ∙ f in cc
 
 pub falls_none : (disks : List DiskState) → NoneFell disks disks

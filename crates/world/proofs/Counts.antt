@@ -13,7 +13,7 @@ use Rattle.log_model.proofs.Basics.{Every, every-weaker, count-more}
 use Rattle.log_model.proofs.Ballots.{same_true, same_refl}
 use Rattle.log_model.proofs.Soup.{has_sent-append}
 use Rattle.log_model.proofs.Chosen.{IsSomething, now_meets, meets_now}
-use Rattle.round_model.specs.Lists.{mem}
+use Rattle.svc_api.specs.Orders.{mem}
 use Rattle.world.specs.Tallies.{Tally, with_sender, is_of, adds, counted, heard, tallied_from, tallied, is_chosen}
 use Rattle.world.proofs.Senders.{count-none, with_mem, with_size}
 

@@ -33,7 +33,7 @@ use Rattle.run_model.specs.World as worlds
 use Rattle.run_model.specs.World.{at_back, fate, happens, can_fare}
 use Rattle.run_model.specs.Resolving as resolving
 use Rattle.run_model.specs.Text as texts
-use Rattle.run_model.specs.Text.{own_text, growth_text, after, event_text}
+use Rattle.run_model.specs.Text.{own_text, growth_text, after}
 use Rattle.world.specs.declared.nodes.all_nodes.Nodes.{Nodes}
 use Rattle.world.specs.declared.parts.Parts.{Parts}
 use Rattle.world.specs.declared.parts.arming.StopAt.{StopAt}

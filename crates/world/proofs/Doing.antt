@@ -31,7 +31,8 @@ use Rattle.world.specs.declared.parts.arming.StopAt.{StopAt}
 use Rattle.world.specs.Arming.{CanStop, asked_of, armed_with, fared_by, at_rest}
 use Rattle.world.specs.Calling.{IsSureIf, Called}
 use Rattle.world.specs.Disks.{IsDiskOf, AreDisksOf}
-use Rattle.world.specs.Parts.{NodePart, MidPart, MidView, BackView, MidMoves, BackMoves, as_mid, as_back, is_up, is_up_in, is_sure_now, sealed, AreFit, AllReach}
+use Rattle.run_model.specs.Resolving as resolving
+use Rattle.world.specs.Parts.{NodePart, MidPart, MidView, BackView, MidMoves, BackMoves, as_mid, as_back, is_up, is_sure_now, sealed, AreFit, AllReach}
 use Rattle.world.specs.NodeLists.{backs_of, mid_up, back_up, MidsMove, BacksMove}
 use Rattle.world.specs.Telling.{HadMemory}
 use Rattle.world.specs.Standing.{mode_by, journal_of, open_of_mid, IsNode, IsMid, IsBack, AreAll}
@@ -103,7 +104,7 @@ pub record Done {T V : Type 0} (n x u : ℕ) (Is : ℕ → NodeOf T Fact → V �
 pub up_state : {S : Type 0} (part : NodePart S) → is_up part ≡ true → (s : S) × (part.mode ≡ Up s)
 up_state {S} part e = go part.mode refl e
   where
-    go : (m : Mode S) → part.mode ≡ m → is_up_in m ≡ true → (s : S) × (part.mode ≡ Up s)
+    go : (m : Mode S) → part.mode ≡ m → resolving.is_up m ≡ true → (s : S) × (part.mode ≡ Up s)
     go (Up s) f e = (s, f)
     go Down f e = absurd (cc)
     go Gone f e = absurd (cc)

@@ -1,7 +1,7 @@
 -- A turn of a log sends at most 4u+2 messages, and so a node's packets have room. It writes at most one fact.
 use Rattle.std.proofs.Common.{◌≡◌, ℕ, ◌+◌, ◌*◌, ◌≤◌, refl, Bool, true, false, cond, List, [], ◌∷◌, length, arith, Option, Some, None, zero, suc}
 use Rattle.std.specs.Prelude.{slice_get, nat_lt, nat_le, ◌==◌}
-use Rattle.std.proofs.lemmas.Bool.{cond_both, ltb-false}
+use Rattle.std.proofs.lemmas.Bool.{cond_both}
 use Rattle.std.proofs.lemmas.List.{length-append, length-map}
 use Rattle.aeg_base.specs.declared.limits.TheConstants.{POSITIONS}
 use Rattle.aeg_base.specs.declared.names.Ballot.{Ballot}
@@ -19,6 +19,7 @@ use Rattle.log_values.specs.declared.any_value.AnyValue.{AnyValue}
 use Rattle.round_model.specs.Lists.{each}
 use Rattle.tier_model.specs.Moves.{log_packet, log_packets, asks}
 use Rattle.world.specs.Parts.{HaveRoom}
+use Rattle.log_model.proofs.Basics.{between}
 
 -- ONE FOR EACH
 
@@ -115,19 +116,15 @@ learned_few u log p v sends l e = record { most = omega (arith, l); written = (e
 notes_few : {V : Type 0} (u : ℕ) (log : LogState V) (s : ℕ) (b : Ballot) → IsFew u log (notes log s b)
 notes_few u log s b = record { most = omega arith; written = refl }
 
--- neither before the open position nor behind it
-is_open : (p n : ℕ) → nat_lt p n ≡ false → nat_lt n p ≡ false → p ≡ n
-is_open p n e f = omega (arith, ltb-false p n e, ltb-false n p f)
-
 accepted_few : {V : Type 0} (u : ℕ) (log : LogState V) (s : ℕ) (b : Ballot) (p : ℕ) (v : V) → IsFew u log (on_accepted u log s b p v)
 accepted_few u log s b p v =
     or_else u log (nat_lt p (open_at log)) _ _ (idle_few u log Nothing) (λ e. or_else u log (nat_lt (open_at log) p) _ _ (idle_few u log (IsBehind (open_at log))) (λ f. either u log (is_from b (seen_at log.seen s)) _ _ (idle_few u log Nothing)
-    (either u log (nat_lt u (count_below (2 * u + 1) (with_ballot log.seen s b))) _ _ (learned_few u log p v [] (omega arith) (is_open p (open_at log) e f)) (notes_few u log s b))))
+    (either u log (nat_lt u (count_below (2 * u + 1) (with_ballot log.seen s b))) _ _ (learned_few u log p v [] (omega arith) (between p (open_at log) e f)) (notes_few u log s b))))
 
 learn_few : {V : Type 0} (u : ℕ) (log : LogState V) (s p : ℕ) (v : V) → IsFew u log (on_learn log s p v)
 learn_few u log s p v =
     or_else u log (nat_lt p (open_at log)) _ _ (idle_few u log Nothing) (λ e. or_else u log (nat_lt (open_at log) p) _ _ (idle_few u log (IsBehind (open_at log)))
-    (λ f. learned_few u log p v ((s, Ask (p + 1)) ∷ []) (omega arith) (is_open p (open_at log) e f)))
+    (λ f. learned_few u log p v ((s, Ask (p + 1)) ∷ []) (omega arith) (between p (open_at log) e f)))
 
 pub msg_few : {V : Type 0} (u : ℕ) (log : LogState V) (s : ℕ) (m : PaxMsg V) → IsFew u log (on_msg u log s m)
 msg_few u log s (Prepare b p) = prepare_few u log s b p

@@ -20,7 +20,8 @@ use Rattle.frames.specs.declared.message.Msg.TheVariants as msgs
 use Rattle.frames.specs.Frames.{frame, FitsFrame}
 use Rattle.frames.proofs.FrameGrammar.{frame_again}
 use Rattle.round_model.specs.Lists.{OfTiers}
-use Rattle.tier_model.specs.Moves.{index_of, Packet}
+use Rattle.tier_model.specs.Moves.{Packet}
+use Rattle.frames.specs.Headers.{end_index}
 use Rattle.run_model.specs.World.{Config, World}
 use Rattle.run_model.specs.Runs.{log_part, log_soup}
 use Rattle.run_model.proofs.Soups.{log_soup-append}
@@ -60,15 +61,15 @@ node_heard : (u : ℕ) (soup : List Packet) (a b d : ℕ) (t : Tier) (x : ℕ) (
     → hears_log (seen_with u soup a b d) (Node (record { tier = t; index = x })) m ≡ seen_with u (soup ++ record { from = Node (record { tier = t; index = x }); to = to; message = msgs.Log m } ∷ []) a b d
 node_heard u soup a b d Mid x to m =
     let k : Packet = record { from = Node (record { tier = Mid; index = x }); to = to; message = msgs.Log m } in
-    let p = own u Mid soup a x (index_of to) m k refl in let q = other u Inv soup b k refl in let r = other u Pay soup d k refl in
+    let p = own u Mid soup a x (end_index to) m k refl in let q = other u Inv soup b k refl in let r = other u Pay soup d k refl in
     λ i. record { mid = p i; inv = q i; pay = r i }
 node_heard u soup a b d Inv x to m =
     let k : Packet = record { from = Node (record { tier = Inv; index = x }); to = to; message = msgs.Log m } in
-    let p = other u Mid soup a k refl in let q = own u Inv soup b x (index_of to) m k refl in let r = other u Pay soup d k refl in
+    let p = other u Mid soup a k refl in let q = own u Inv soup b x (end_index to) m k refl in let r = other u Pay soup d k refl in
     λ i. record { mid = p i; inv = q i; pay = r i }
 node_heard u soup a b d Pay x to m =
     let k : Packet = record { from = Node (record { tier = Pay; index = x }); to = to; message = msgs.Log m } in
-    let p = other u Mid soup a k refl in let q = other u Inv soup b k refl in let r = own u Pay soup d x (index_of to) m k refl in
+    let p = other u Mid soup a k refl in let q = other u Inv soup b k refl in let r = own u Pay soup d x (end_index to) m k refl in
     λ i. record { mid = p i; inv = q i; pay = r i }
 
 log_heard : (u : ℕ) (soup : List Packet) (a b d : ℕ) (from to : End) (m : PaxMsg AnyValue) → hears_log (seen_with u soup a b d) from m ≡ seen_with u (soup ++ record { from = from; to = to; message = msgs.Log m } ∷ []) a b d

@@ -1,7 +1,7 @@
 -- The rows of a middle node while nothing is run are those of its log and its pending entries.
 use Rattle.std.proofs.Common.{◌≡◌, ℕ, ◌+◌, ◌*◌, ◌<◌, ◌≤◌, Bool, true, false, cond, List, [], ◌∷◌, ◌++◌, length, map, refl, sym, ap, ◌∙◌, subst, arith, Option, Some, None, Result, Ok, Err, suc, append-nil}
 use Rattle.std.specs.Prelude.{slice_get, ◌&&◌, ◌||◌, ◌==◌, not, nat_lt, OnOk}
-use Rattle.std.proofs.lemmas.Bool.{cond-true, cond-false, ne_eqb, eq-eqb, eqb-true}
+use Rattle.std.proofs.lemmas.Bool.{cond-true, cond-false, ne_eqb, eq-eqb, eqb-true, and_right}
 use Rattle.aeg_base.specs.declared.names.End.{End}
 use Rattle.aeg_disk.specs.Disk.{DiskState}
 use Rattle.aeg_disk.proofs.Later.{same_later}
@@ -28,7 +28,8 @@ use Rattle.frames.specs.declared.turn.Fault.TheVariants as faults
 use Rattle.round_model.specs.Lists.{is_some, put_at}
 use Rattle.round_model.specs.Service.{is_request}
 use Rattle.round_model.specs.Tables.{tables0, kept_of, pending_of}
-use Rattle.tier_model.specs.Moves.{index_of, is_node_of, Packet, Move, idles, drops, says, becomes, log_packets, as_fact, log_answer}
+use Rattle.tier_model.specs.Moves.{is_node_of, Packet, Move, idles, drops, says, becomes, log_packets, as_fact, log_answer}
+use Rattle.frames.specs.Headers.{end_index}
 use Rattle.tier_model.specs.Mid.{Mid, with_log, in_log, is_due, due_round, ready, apply_state, apply_sends}
 use Rattle.tier_model.specs.MidRows.{has_seq, pends, tells_again, on_request, on_frame}
 use Rattle.run_model.specs.BookingRuns.{booking_service}
@@ -62,11 +63,7 @@ at_most_one log k = go log.learned k.learned
     go (v ∷ w ∷ xs) f = absurd (no_verdict w (f 1 w refl))
 
 never_due : (depth : ℕ) (part : MidPart) (log : LogState AnyValue) → length log.learned ≤ 1 → is_due (as_mid depth part) log ≡ false
-never_due depth part log l = go (nat_lt (length part.log.learned) (length log.learned)) (length log.learned == 2 * 0 + 2) (ne_eqb (length log.learned) 2 (λ e. omega arith))
-  where
-    go : (a b : Bool) → b ≡ false → (a && b) ≡ false
-    go true b e = e
-    go false b e = refl
+never_due depth part log l = and_right (nat_lt (length part.log.learned) (length log.learned)) (length log.learned == 2 * 0 + 2) (ne_eqb (length log.learned) 2 (λ e. omega arith))
 
 never_ready : (depth : ℕ) (part : MidPart) (log : LogState AnyValue) → length log.learned ≤ 1 → due_round booking_service (as_mid depth part) log ≡ None
 never_ready depth part log l = cond-false (is_due (as_mid depth part) log) (ready booking_service (with_log (as_mid depth part) log)) None (never_due depth part log l)
@@ -162,10 +159,10 @@ mid_quiet now a out move answer f = record {
 
 -- FRAMES OF THE LOG
 
-pub frame_log : (u x depth : ℕ) (part : MidPart) (from : End) (m : PaxMsg AnyValue) (i : ℕ) → is_node_of u InMid from ≡ true → i ≡ index_of from
+pub frame_log : (u x depth : ℕ) (part : MidPart) (from : End) (m : PaxMsg AnyValue) (i : ℕ) → is_node_of u InMid from ≡ true → i ≡ end_index from
     → on_frame u booking_service x (as_mid depth part) from (msgs.Log m) ≡ in_log u booking_service x (as_mid depth part) (on_msg u part.log i m)
 frame_log u x depth part from m i e f =
-    cond-true (is_node_of u InMid from) (in_log u booking_service x (as_mid depth part) (on_msg u part.log (index_of from) m)) (drops (as_mid depth part) 7) e
+    cond-true (is_node_of u InMid from) (in_log u booking_service x (as_mid depth part) (on_msg u part.log (end_index from) m)) (drops (as_mid depth part) 7) e
     ∙ ap (λ z. in_log u booking_service x (as_mid depth part) (on_msg u part.log z m)) (sym f)
 
 -- REQUESTS

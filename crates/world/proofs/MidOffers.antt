@@ -2,7 +2,7 @@
 use Rattle.std.proofs.Common.{◌≡◌, ℕ, ◌+◌, ◌*◌, ◌<◌, ◌≤◌, Bool, true, false, cond, List, [], ◌∷◌, ◌++◌, length, map, take, refl, sym, ap, ◌∙◌, subst, inl, inr, arith, Option, Some, None, Result, Ok, Err, zero, suc, append-nil}
 use Rattle.std.specs.Prelude.{◌⊎◌, ◌&&◌, not, nat_lt}
 use Rattle.std.specs.List.{AllByRecursion}
-use Rattle.std.proofs.lemmas.Bool.{cond_both, cond-true}
+use Rattle.std.proofs.lemmas.Bool.{cond_both, cond-true, ltb-true, false_from_ne_true}
 use Rattle.aeg_base.specs.declared.names.End.{End}
 use Rattle.aeg_disk.specs.Disk.{DiskState}
 use Rattle.aeg_disk.proofs.Later.{same_later}
@@ -17,7 +17,6 @@ use Rattle.log_model.specs.Log.{LogState, Turn, open_at, is, count_below}
 use Rattle.log_model.specs.Rows.{offer, wants as log_wants}
 use Rattle.log_model.specs.Ranges.{IsLogIn, IsSendIn, IsTurnIn, IsOwnIn}
 use Rattle.log_model.specs.World.Mode.{Up}
-use Rattle.log_model.proofs.Rows.{no_from}
 use Rattle.log_model.proofs.Ranged.{offer_in}
 use Rattle.log_values.specs.declared.any_value.AnyValue.{AnyValue}
 use Rattle.log_values.specs.declared.any_value.AnyValue.TheVariants as values
@@ -25,7 +24,6 @@ use Rattle.log_values.specs.declared.mid_value.MidValue.TheVariants.{Batch, Verd
 use Rattle.log_values.specs.declared.entry.Entry.{Entry}
 use Rattle.log_values.specs.Fields.{FitsBallot}
 use Rattle.log_values.specs.Values.{FitsMid}
-use Rattle.log_values.proofs.BoolTests.{lt_true}
 use Rattle.frames.specs.declared.turn.Fault.{Fault}
 use Rattle.frames.specs.declared.turn.Fault.TheVariants as faults
 use Rattle.frames.specs.declared.turn.Turn.{Turn as Answer}
@@ -63,7 +61,7 @@ pub votes_none : (u r : ℕ) → ◌≡◌ {A = ℕ} (votes_in u [] r) 0
 votes_none u r = no_votes (2 * u + 1)
 
 too_few : (u n : ℕ) → n ≡ 0 → nat_lt u n ≡ false
-too_few u n e = no_from (nat_lt u n) (λ t. let l : u < n = lt_true u n t in omega arith)
+too_few u n e = false_from_ne_true (nat_lt u n) (λ t. let l : u < n = ltb-true u n t in omega arith)
 
 verdict_none : (u r : ℕ) → verdict u [] r ≡ None
 verdict_none u r = ap (λ o. verdict_by [] r (nat_lt u (votes_in u [] r)) o) (none_lowest (2 * u + 1)) ∙ ap serial_if (too_few u (votes_in u [] r) (votes_none u r))

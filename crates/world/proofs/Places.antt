@@ -4,6 +4,7 @@ use Rattle.std.proofs.Math.Seq.{take-append_seam}
 use Rattle.std.specs.Prelude.{slice_set, replicate, ◌⊎◌, ◌==◌, nat_le}
 use Rattle.std.specs.List.{AllByRecursion}
 use Rattle.std.proofs.lemmas.List.{length-set, length-take}
+use Rattle.std.proofs.lemmas.Bool.{le-leb}
 use Rattle.aeg_base.specs.declared.names.ReqId.{ReqId}
 use Rattle.server_model.specs.Requests.{request_of}
 use Rattle.server_model.specs.Booking.{stages_in}
@@ -12,7 +13,6 @@ use Rattle.server_model.proofs.TextLengths.{text_short}
 use Rattle.log_values.specs.declared.entry.Entry.{Entry}
 use Rattle.log_values.specs.declared.mid_value.MidValue.TheVariants.{Batch}
 use Rattle.log_values.specs.Values.{FitsEntry, FitsMid}
-use Rattle.log_values.proofs.BoolTests.{le_is}
 use Rattle.round_model.specs.Lists.{is_some, at, put_at, concat}
 use Rattle.round_model.specs.Service.{is_request}
 use Rattle.round_model.specs.Tables.{tables0, last_of, parked_of, Parked, is_busy, who_of, in_range, is_fresh, pending_of, if_fresh, fresh_pending, batch_of}
@@ -105,9 +105,9 @@ none_busy depth c = ap (λ q. is_some (parked_of c q)) (nothing_parked depth)
 
 first_range : (e : Entry) → IsFirst e → in_range e ≡ true
 first_range e k =
-    let a : nat_le 1 e.client ≡ true = le_is 1 e.client k.client.0 in
-    let b : nat_le e.client 16 ≡ true = le_is e.client 16 k.client.1 in
-    let c : nat_le e.seq 65536 ≡ true = le_is e.seq 65536 (omega (arith, k.seq)) in
+    let a : nat_le 1 e.client ≡ true = le-leb 1 e.client k.client.0 in
+    let b : nat_le e.client 16 ≡ true = le-leb e.client 16 k.client.1 in
+    let c : nat_le e.seq 65536 ≡ true = le-leb e.seq 65536 (omega (arith, k.seq)) in
     rw (a, b, c) refl
 
 first_next : (e : Entry) (depth : ℕ) → IsFirst e → (e.seq == suc (last_of (tables0 depth).last e.client)) ≡ true

@@ -13,7 +13,7 @@ use Rattle.run_model.specs.World.{can_fare, happens}
 use Rattle.run_model.specs.Resolving.{Finds}
 use Rattle.run_model.specs.Runs.{grows}
 use Rattle.run_model.specs.Text as texts
-use Rattle.run_model.specs.Text.{own_text, growth_text, event_text}
+use Rattle.run_model.specs.Text.{own_text}
 use Rattle.run_model.specs.BookingRuns.{config, BookingWorld}
 use Rattle.world.specs.declared.nodes.all_nodes.Nodes.{Nodes}
 use Rattle.world.specs.declared.parts.Parts.{Parts}

@@ -12,11 +12,11 @@ use Rattle.run_model.specs.Resolving.{is_node_up}
 use Rattle.world.specs.declared.nodes.all_nodes.Nodes.{Nodes}
 use Rattle.world.specs.declared.nodes.condition.Condition.{Condition}
 use Rattle.world.specs.NodeLists.{mid_up, back_up, up_in, condition_in, mid_condition, back_condition, condition_at, size_of}
-use Rattle.world.specs.Parts.{NodePart, is_up, is_up_in}
+use Rattle.world.specs.Parts.{NodePart, is_up}
 use Rattle.world.specs.Standing.{mode_by, IsNode, AreNodes}
 use Rattle.log_model.proofs.Basics.{get_within}
 
-mode_up : {S T : Type 0} (whole : S → T) (m : Mode S) → is_up_in m ≡ resolving.is_up (mode_by whole m)
+mode_up : {S T : Type 0} (whole : S → T) (m : Mode S) → resolving.is_up m ≡ resolving.is_up (mode_by whole m)
 mode_up whole (Up s) = refl
 mode_up whole Down = refl
 mode_up whole Gone = refl

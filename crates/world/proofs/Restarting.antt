@@ -10,7 +10,6 @@ use Rattle.aeg_base.specs.declared.names.Tier.TheVariants.{Mid as MidTier, Inv, 
 use Rattle.aeg_base.specs.declared.names.NodeId.{NodeId}
 use Rattle.aeg_disk.specs.Disk.{DiskState, Later, Rose}
 use Rattle.fact_journal.specs.Standing.{StandsFor}
-use Rattle.fact_journal.specs.Fitting.{Fit, EachFits}
 use Rattle.fact_journal.proofs.Standing.{having_stands, same_stands}
 use Rattle.log_model.specs.Log.{open_at}
 use Rattle.log_model.specs.World.{Mode, Node as NodeOf, stands}
@@ -44,6 +43,7 @@ use Rattle.world.proofs.Commands.{Commanded}
 use Rattle.world.proofs.Placing.{mid_placed, back_placed, mid_kept, back_kept}
 use Rattle.world.proofs.Present.{node_condition}
 use Rattle.log_model.proofs.Basics.{get_within}
+use Rattle.fact_journal.proofs.Opens.{each_get}
 
 -- ONE OF THE LISTS
 
@@ -52,13 +52,8 @@ all_get P [] k x h e = absurd (cc)
 all_get P (y ∷ xs) zero x h e = let f : y ≡ x = cc in subst P f h.0
 all_get P (y ∷ xs) (suc k) x h e = all_get P xs k x h.1 e
 
-fits_get : (t : Tier) (lists : List (List (List Fact))) (k : ℕ) (rs : List (List Fact)) → EachFits t lists → slice_get lists k ≡ Some rs → Fit t rs
-fits_get t [] k rs h e = absurd (cc)
-fits_get t (qs ∷ lists) zero rs h e = let f : qs ≡ rs = cc in subst (Fit t) f h.0
-fits_get t (qs ∷ lists) (suc k) rs h e = fits_get t lists k rs h.1 e
-
 stand_get : (t : Tier) (lists : List (List (List Fact))) (k : ℕ) (rs : List (List Fact)) → AllStand t lists → slice_get lists k ≡ Some rs → AllStand t (rs ∷ [])
-stand_get t lists k rs h e = stand_alone t rs (fits_get t lists k rs h.fit e) (h.can k rs e)
+stand_get t lists k rs h e = stand_alone t rs (each_get t lists k rs h.fit e) (h.can k rs e)
 
 -- its length tells which one it is
 names : {S : Type 0} (recover : List Fact → S) (node : NodeOf S Fact) (doubt : Bool) (k list known found : ℕ) (rs : List (List Fact)) → IsDoubted doubt node.records node.others → (doubt ≡ true → known + 1 ≡ journal_of node.records) → slice_get (node.records ∷ node.others) k ≡ Some rs → found + 1 ≡ journal_of rs → list ≡ list_found doubt known found

@@ -8,7 +8,7 @@ use Rattle.aeg_base.specs.declared.names.Tier.{Tier}
 use Rattle.aeg_base.specs.declared.names.Tier.TheVariants.{Mid as InMid}
 use Rattle.svc_api.specs.Plan.{IsBackend}
 use Rattle.aeg_disk.specs.Disk.{DiskState, Later}
-use Rattle.fact_journal.specs.Fitting.{open_after_all, FactsFit, Fit, EachFits, all_facts}
+use Rattle.fact_journal.specs.Fitting.{open_after_all, FactsFit, EachFits, all_facts}
 use Rattle.fact_journal.specs.Standing.{HasFacts, StandsFor}
 use Rattle.fact_journal.specs.Calls.{ReadsOne}
 use Rattle.fact_journal.proofs.Fits.{facts_fit}
@@ -44,17 +44,13 @@ use Rattle.world.proofs.Turning.{seen, down_here}
 use Rattle.world.proofs.Writing.{restored_stands}
 use Rattle.world.proofs.MidMoves.{mid_view, at_most_one}
 use Rattle.world.proofs.BackMoves.{back_view, none_learned}
+use Rattle.fact_journal.proofs.Opens.{each_get}
 
 -- ONE OF THE LISTS
 
-fit_at : (t : Tier) (lists : List (List (List Fact))) (k : ℕ) (rs : List (List Fact)) → EachFits t lists → slice_get lists k ≡ Some rs → Fit t rs
-fit_at t [] k rs f e = absurd (cc)
-fit_at t (ls ∷ lists) zero rs f e = let same : ls ≡ rs = cc in subst (Fit t) same f.0
-fit_at t (ls ∷ lists) (suc k) rs f e = fit_at t lists k rs f.1 e
-
 -- its facts fit, and can be written
 pub one_fits : (t : Tier) (lists : List (List (List Fact))) (k : ℕ) (rs : List (List Fact)) → AllStand t lists → slice_get lists k ≡ Some rs → FactsFit t 0 (all_facts rs) × AllByRecursion (CanWrite t) (all_facts rs)
-one_fits t lists k rs stand e = (facts_fit t 0 rs (fit_at t lists k rs stand.fit e), stand.can k rs e)
+one_fits t lists k rs stand e = (facts_fit t 0 rs (each_get t lists k rs stand.fit e), stand.can k rs e)
 
 -- the log that is restored is in range
 pub one_restored : (u : ℕ) (t : Tier) (lists : List (List (List Fact))) (a b : DiskState) (facts : List Fact) (at : ℕ) → AllStand t lists → ReadsOne lists b facts at → IsLogIn (CanStand t) FitsBallot (recover u (newest_first (log_facts facts)))

@@ -4,7 +4,7 @@ use Rattle.std.specs.Prelude.{◌==◌, ◌||◌, ◌⊎◌}
 use Rattle.std.proofs.lemmas.Bool.{cond_both, cases_Bool, eqb-true}
 use Rattle.log_model.specs.Log.{count_below}
 use Rattle.log_model.proofs.Basics.{count-one, length_push}
-use Rattle.round_model.specs.Lists.{mem}
+use Rattle.svc_api.specs.Orders.{mem}
 use Rattle.world.specs.Tallies.{with_sender}
 
 count-same : (n : ℕ) (f g : ℕ → Bool) → ((y : ℕ) → f y ≡ g y) → count_below n f ≡ count_below n g

@@ -2,6 +2,7 @@
 use Rattle.std.proofs.Common.{◌≡◌, ℕ, ◌+◌, ◌*◌, ◌<◌, ◌≤◌, true, List, [], ◌∷◌, map, refl, ap, subst, inl, inr, arith, Some, None, zero, suc}
 use Rattle.std.specs.Prelude.{slice_get}
 use Rattle.std.specs.List.{AllByRecursion}
+use Rattle.std.proofs.lemmas.Bool.{lt-ltb}
 use Rattle.aeg_base.specs.declared.names.Ballot.{Ballot}
 use Rattle.aeg_base.specs.declared.names.Tier.{Tier}
 use Rattle.aeg_base.specs.declared.names.Tier.TheVariants.{Mid as InMid, Inv, Pay}
@@ -15,7 +16,6 @@ use Rattle.log_values.specs.declared.any_value.AnyValue.TheVariants as values
 use Rattle.log_values.specs.declared.mid_value.MidValue.TheVariants.{Batch, Verdict as Decided}
 use Rattle.log_values.specs.Fields.{FitsBallot}
 use Rattle.log_values.specs.Records.{FitsFact}
-use Rattle.log_values.proofs.BoolTests.{lt_is}
 use Rattle.frames.specs.declared.message.Msg.TheVariants as msgs
 use Rattle.frames.specs.Headers.{is_sent_by_tier}
 use Rattle.frames.specs.LogMessages.{IsCarried, FitsLog, log_kind}
@@ -81,9 +81,9 @@ are_fit t x (s ∷ ss) l f zero k e = let same : log_packet t x s ≡ k = cc in 
 are_fit t x (s ∷ ss) l f (suc i) k e = are_fit t x ss l f.1 i k e
 
 pub peer_is : (u : ℕ) (t : Tier) (x : ℕ) → x < 2 * u + 1 → is_node_of u t (node t x) ≡ true
-peer_is u InMid x l = lt_is x (2 * u + 1) l
-peer_is u Inv x l = lt_is x (2 * u + 1) l
-peer_is u Pay x l = lt_is x (2 * u + 1) l
+peer_is u InMid x l = lt-ltb x (2 * u + 1) l
+peer_is u Inv x l = lt-ltb x (2 * u + 1) l
+peer_is u Pay x l = lt-ltb x (2 * u + 1) l
 
 pub all_reach : (u : ℕ) (t : Tier) (x : ℕ) (sends : List (ℕ × PaxMsg AnyValue)) → x < 2 * u + 1 → AllByRecursion (IsSendIn u (CanStand t) FitsBallot) sends → (i : ℕ) (k : Packet) → slice_get (log_packets t x sends) i ≡ Some k → Reaches u k.from k.to k.message
 all_reach u t x [] l f i k e = absurd (cc)

@@ -5,7 +5,7 @@ use Rattle.std.specs.Prelude.{IfSome, OnOk}
 use Rattle.std.specs.declared.alloc.Global.{Global}
 use Rattle.std.specs.declared.boxed.Box.{Box}
 use Rattle.std.specs.List.{AllByRecursion}
-use Rattle.std.proofs.lemmas.Bool.{cond_both}
+use Rattle.std.proofs.lemmas.Bool.{cond_both, false_from_ne_true}
 use Rattle.std.proofs.lemmas.List.{length-map}
 use Rattle.aeg_base.specs.declared.limits.TheConstants.{RECORD_BYTES}
 use Rattle.aeg_base.specs.declared.names.End.{End}
@@ -27,7 +27,6 @@ use Rattle.log_model.specs.Ranges.{IsLogIn, IsTurnIn, IsOwnIn}
 use Rattle.log_model.specs.World.{Mode, writes}
 use Rattle.log_model.specs.World.Mode.{Up, Down}
 use Rattle.log_model.proofs.Ranged.{msg_in, lead_in, offer_in}
-use Rattle.log_model.proofs.Rows.{no_from}
 use Rattle.log_values.specs.declared.any_value.AnyValue.{AnyValue}
 use Rattle.log_values.specs.declared.fact.Fact.{Fact}
 use Rattle.log_values.specs.Fields.{FitsBallot}
@@ -116,14 +115,14 @@ pub told_of : (at next place : ℕ) (facts : List Fact) (turn : LogTurn AnyValue
 told_of at next place facts turn a b r s k e f g = subst (λ z. Told z next (map as_fact turn.facts) a b s) e (subst (λ z. Told at next z a b s) f (subst (λ z. Told at next facts a b z) g k))
 
 past_at_ok : (at next : ℕ) (facts : List Fact) (a b : DiskState) → Told at next facts a b (Ok tt) → is_past (at + 1) facts ≡ false
-past_at_ok at next facts a b k = no_from (is_past (at + 1) facts) (λ e. go (k.past e))
+past_at_ok at next facts a b k = false_from_ne_true (is_past (at + 1) facts) (λ e. go (k.past e))
   where
     go : (◌≡◌ {A = Result (Unit {0}) AppendErr} (Ok tt) (Err (appends.Full (min (length_with (at + 1) facts) (2 ^ 64 - 1))))) ⊎ (◌≡◌ {A = Result (Unit {0}) AppendErr} (Ok tt) (Err appends.Memory)) → ⊥
     go (inl e) = absurd (cc)
     go (inr e) = absurd (cc)
 
 past_at_fault : (at next : ℕ) (facts : List Fact) (a b : DiskState) → Told at next facts a b (Err appends.Disk) → is_past (at + 1) facts ≡ false
-past_at_fault at next facts a b k = no_from (is_past (at + 1) facts) (λ e. go (k.past e))
+past_at_fault at next facts a b k = false_from_ne_true (is_past (at + 1) facts) (λ e. go (k.past e))
   where
     go : (◌≡◌ {A = Result (Unit {0}) AppendErr} (Err appends.Disk) (Err (appends.Full (min (length_with (at + 1) facts) (2 ^ 64 - 1))))) ⊎ (◌≡◌ {A = Result (Unit {0}) AppendErr} (Err appends.Disk) (Err appends.Memory)) → ⊥
     go (inl e) = absurd (cc)

@@ -41,6 +41,7 @@ use Rattle.tier_model.specs.BackRows as backs
 use Rattle.tier_model.specs.Mid.{Mid}
 use Rattle.tier_model.specs.Back.{Back}
 use Rattle.run_model.specs.BookingRuns.{booking_service}
+use Rattle.run_model.specs.Resolving as resolving
 
 -- A MIDDLE NODE
 
@@ -148,18 +149,13 @@ pub record NodePart (S : Type 0) : Type 0 where
   pub place : ℕ
   pub doubt : Bool
 
-abbrev pub is_up_in : {S : Type 0} → Mode S → Bool
-is_up_in (Up s) = true
-is_up_in Down = false
-is_up_in Gone = false
-
 abbrev pub is_down_in : {S : Type 0} → Mode S → Bool
 is_down_in (Up s) = false
 is_down_in Down = true
 is_down_in Gone = false
 
 abbrev pub is_up : {S : Type 0} → NodePart S → Bool
-is_up part = is_up_in part.mode
+is_up part = resolving.is_up part.mode
 
 -- a node before its first start, on a blank disk
 abbrev pub new_part : {S : Type 0} → NodePart S

@@ -6,7 +6,7 @@ use Rattle.aeg_base.specs.declared.names.Ballot.{Ballot}
 use Rattle.log_model.specs.declared.message.PaxMsg.{PaxMsg}
 use Rattle.log_model.specs.declared.message.PaxMsg.TheVariants.{Accepted}
 use Rattle.log_model.specs.World.{Packet}
-use Rattle.round_model.specs.Lists.{mem}
+use Rattle.svc_api.specs.Orders.{mem}
 
 -- the nodes that have sent Accepted with the ballot at the position, each once
 pub record Tally : Type 0 where

@@ -1,7 +1,7 @@
 // What is seen of a tier: how far its log is chosen.
 ghost use Rattle.std.specs.Prelude.{◌≡◌, ◌∷◌, [], ◌≤◌, ◌==◌, ◌&&◌, nat_lt, nat_le, OnOk, IfOk, length};
 ghost use Rattle.std.specs.Bool.{OnTrue};
-ghost use Rattle.round_model.specs.Lists.{mem};
+ghost use Rattle.svc_api.specs.Orders.{mem};
 ghost use Rattle.world.specs.Tallies.{is_of, adds, counted, tallies_from, is_chosen, new_seen, hears, grown};
 
 use aeg_base::{Ballot, Memory, Pos};

@@ -5,13 +5,12 @@ use Rattle.std.proofs.lemmas.Bool.{or_parts}
 use Rattle.std.proofs.lemmas.List.{length-append}
 use Rattle.aeg_base.specs.Store.{Store, same_key, value_at, written}
 use Rattle.aeg_base.specs.declared.names.Key.{Key}
-use Rattle.aeg_base.specs.declared.names.ReqId.{ReqId}
 use Rattle.aeg_base.proofs.StoreLaws.{value_at-written}
 use Rattle.svc_api.specs.Plan.{Plan, Reads, Writes, Ends, store_after, ending_of, IsKey, IsEnding, IsBounded}
 use Rattle.svc_api.specs.Requests.{IsRequest}
 use Rattle.svc_api.specs.Segment.{Beginning, IsProper}
 use Rattle.exec_model.specs.declared.job.Seg.{Seg}
-use Rattle.exec_model.specs.Jobs.{Beginnings, plan_in, plan_at}
+use Rattle.exec_model.specs.Jobs.{Beginnings, AreProper, plan_in, plan_at}
 use Rattle.exec_model.specs.Serial.{serial}
 use Rattle.tier_laws.specs.Said.{IsStore, IsJob}
 use Rattle.aeg_base.proofs.ChangeLaws.{key_parts}
@@ -63,10 +62,6 @@ unwritten (Writes key value rest) s q h =
 unwritten (Ends e) s q h = refl
 
 -- THE SEGMENTS OF A JOB
-
--- the programs keep the limits
-abbrev pub AreProper : Beginnings → Type 0
-AreProper begins = (who : ReqId) (body : List ℕ) (stage : ℕ) → IsRequest who → IsProper (begins who body stage)
 
 bounded_in : (o : Option Beginning) (answer : Option ℕ) → IsProper o → IsBounded 32 8 (plan_in o answer)
 bounded_in None answer h = (lit< tt, lit≤ tt)

@@ -14,7 +14,7 @@ use Rattle.svc_api.specs.Plan.{IsKey, IsEnding}
 use Rattle.svc_api.specs.Segment.{Segment}
 use Rattle.svc_api.specs.declared.outcome.Outcome.{Outcome}
 use Rattle.exec_model.specs.declared.job.Seg.{Seg}
-use Rattle.exec_model.specs.Jobs.{plan_at}
+use Rattle.exec_model.specs.Jobs.{plan_at, AreProper}
 use Rattle.aeg_base.specs.Changes.{changed_among, changes}
 use Rattle.exec_model.specs.Outcomes as outcomes
 use Rattle.log_values.specs.Outcomes.{outcome, outcome_at, is_key_below, FitsPair, FitsOutcome}
@@ -29,7 +29,7 @@ use Rattle.aeg_base.proofs.ChangeLaws.{all_among, key_parts, same_itself, sorted
 use Rattle.svc_api.proofs.Pigeons.{has, IsOnce, Tells, no_longer}
 use Rattle.svc_api.proofs.Orders.{order_short}
 use Rattle.tier_laws.proofs.Services.Serial.{Agrees, segment_is, serial_is}
-use Rattle.tier_laws.proofs.Services.Stores.{AreProper, AreBounded, bounded, one_store_in, one_end_in, serial_in, all_wrote, few_keys, kept_value}
+use Rattle.tier_laws.proofs.Services.Stores.{AreBounded, bounded, one_store_in, one_end_in, serial_in, all_wrote, few_keys, kept_value}
 use Rattle.tier_laws.proofs.Lists.{length-tabulate}
 
 -- THEY ARE KEYS OF STORES, WHOSE VALUES DIFFER

@@ -10,7 +10,8 @@ ghost use Rattle.log_values.specs.declared.any_value.AnyValue.{AnyValue};
 ghost use Rattle.log_values.specs.Fields.{FitsBallot};
 ghost use Rattle.paxos_log.specs.TierLog.{CanOffer};
 ghost use Rattle.server_model.specs.Server.{same_tier};
-ghost use Rattle.tier_model.specs.Moves.{is_node_of, index_of, asks, log_facts, log_packets};
+ghost use Rattle.tier_model.specs.Moves.{is_node_of, asks, log_facts, log_packets};
+ghost use Rattle.frames.specs.Headers.{end_index};
 ghost use Rattle.aeg_disk.specs.Disk.{Later};
 ghost use Rattle.fact_journal.specs.Standing.{StandsFor};
 ghost use Rattle.log_values.specs.declared.fact.Fact.{Fact};
@@ -142,7 +143,7 @@ impl LogNode {
 
     /// The index of another end, where it is a node of the same tier.
     pub fn peer(&self, from: End) -> Option<u8>
-        ensures { MatchOption result (is_node_of self.now.faults self.now.tier from ≡ false) (λ index. (is_node_of self.now.faults self.now.tier from ≡ true) × ((index ≡ index_of from) × (index < 2 * self.now.faults + 1))) }
+        ensures { MatchOption result (is_node_of self.now.faults self.now.tier from ≡ false) (λ index. (is_node_of self.now.faults self.now.tier from ≡ true) × ((index ≡ end_index from) × (index < 2 * self.now.faults + 1))) }
     {
         match from {
             End::Client(_) => None,

@@ -1,5 +1,5 @@
 use Rattle.std.proofs.Common.{◌≡◌, drop}
-use Rattle.exec_model.specs.Machine.{mem}
+use Rattle.svc_api.specs.Orders.{mem}
 use Rattle.exec_core.proofs.rounds.contains.Given as goal
 
 abbrev pub invariant-loop-x : goal.invariant-loop-x

@@ -1,5 +1,6 @@
 use Rattle.std.proofs.Common.{◌≡◌, ◌∙◌, sym, ap, cond, false}
-use Rattle.exec_model.specs.Machine.{State, mem, act}
+use Rattle.exec_model.specs.Machine.{State, act}
+use Rattle.svc_api.specs.Orders.{mem}
 use Rattle.exec_model.specs.Jobs.{plan_at}
 use Rattle.exec_core.specs.States.{whole_of}
 use Rattle.exec_core.proofs.Loops.{all_mem}

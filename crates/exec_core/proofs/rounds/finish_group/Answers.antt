@@ -1,6 +1,6 @@
-use Rattle.std.proofs.Common.{rules, ◌≡◌, ◌+◌, ◌≤◌, ◌∙◌, refl, length, get_or, true, false, arith}
+use Rattle.std.proofs.Common.{rules, ◌≡◌, ◌≤◌, ◌∙◌, refl, length, get_or, true, false, arith}
 use Rattle.std.proofs.lemmas.Grind.{common_steps}
-use Rattle.exec_model.specs.Machine.{is_running, turn}
+use Rattle.exec_model.specs.Machine.{is_running}
 use Rattle.exec_core.specs.States.{progress_of}
 use Rattle.exec_core.proofs.Loops.{can_still, keeps_on}
 use Rattle.exec_core.proofs.Finishing.{mem_at, none_of, finishes_more, finishes_next, finishes_all}

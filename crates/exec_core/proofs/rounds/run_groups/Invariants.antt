@@ -1,6 +1,7 @@
 use Rattle.std.proofs.Common.{◌≡◌, ℕ, ◌+◌, ◌*◌, ◌≤◌, length, drop, true}
 use Rattle.exec_model.specs.Jobs.{plan_at}
-use Rattle.exec_model.specs.Machine.{State, mem, is_running, concat, turns, complete}
+use Rattle.exec_model.specs.Machine.{State, is_running, concat, turns, complete}
+use Rattle.svc_api.specs.Orders.{mem}
 use Rattle.key_mixer.specs.Lists.{lists_of}
 use Rattle.exec_core.specs.States.{progress_of, begun}
 use Rattle.exec_core.proofs.rounds.run_groups.Given as goal

@@ -1,7 +1,8 @@
 use Rattle.std.proofs.Common.{◌≡◌, ◌+◌, ◌∙◌, ap, sym, subst, inl, not, length, [], ◌∷◌, ◌++◌, arith}
 use Rattle.exec_model.specs.Serial.{serial, serial_end}
 use Rattle.exec_model.specs.Jobs.{plan_at}
-use Rattle.exec_model.specs.Machine.{mem, any_running, or_ended}
+use Rattle.exec_model.specs.Machine.{any_running, or_ended}
+use Rattle.svc_api.specs.Orders.{mem}
 use Rattle.exec_core.specs.States.{progress_of, owner_of, state_of, whole_of, went_on, Goes}
 use Rattle.exec_core.proofs.Loops.{all_mem, can_still}
 use Rattle.exec_core.proofs.Turns.{turn-went, turn-busy, rerun-ended, rerun-outside, apart}

@@ -2,10 +2,10 @@ use Rattle.std.proofs.Common.{ℕ, ◌≤◌, List, length}
 use Rattle.std.specs.List.{All}
 use Rattle.aeg_base.specs.Store.{Store}
 use Rattle.exec_model.specs.declared.job.Job.{Job}
-use Rattle.exec_model.specs.Jobs.{Beginnings, run_job}
+use Rattle.exec_model.specs.Jobs.{Beginnings, run_job, AreProper}
 use Rattle.exec_core.specs.declared.ran.Ran.{Ran}
 use Rattle.exec_core.specs.Jobs.{BeginsWell, IsRan}
-use Rattle.rollback.specs.Runs.{AreNumbers, AreProper, WasRun}
+use Rattle.rollback.specs.Runs.{AreNumbers, WasRun}
 use Rattle.rollback.specs.Views.{token_of}
 use Rattle.rollback.proofs.Commits.{reads_of}
 use Rattle.rollback.proofs.Fits.{run_fits}

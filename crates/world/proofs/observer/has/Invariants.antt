@@ -1,5 +1,5 @@
 use Rattle.std.proofs.Common.{◌≡◌, drop}
-use Rattle.round_model.specs.Lists.{mem}
+use Rattle.svc_api.specs.Orders.{mem}
 use Rattle.world.proofs.observer.has.Given as goal
 
 -- what is left tells what all tell
