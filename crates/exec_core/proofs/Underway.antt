@@ -1,7 +1,8 @@
 -- A machine between two turns is in the state that its steps lead to.
-use Rattle.std.proofs.Common.{◌≡◌, ℕ, zero, suc, ◌+◌, ◌<◌, ◌≤◌, true, List, [], ◌∷◌, ◌++◌, length, get_or, drop, Option, Result, Ok, Err, refl, sym, ap, subst, ◌∙◌, arith}
+use Rattle.std.proofs.Common.{◌≡◌, ℕ, zero, suc, ◌+◌, ◌<◌, ◌≤◌, true, false, List, [], ◌∷◌, ◌++◌, length, get_or, drop, Option, Result, Ok, Err, refl, sym, ap, subst, ◌∙◌, arith}
 use Rattle.std.specs.Prelude.{IfOk}
 use Rattle.std.specs.List.{All}
+use Rattle.std.proofs.lemmas.Bool.{and_parts, both_ways}
 use Rattle.std.specs.declared.vec.Vec.{Vec}
 use Rattle.std.specs.declared.alloc.Global.{Global}
 use Rattle.aeg_base.specs.Store.{Store}
@@ -22,7 +23,7 @@ use Rattle.exec_core.specs.declared.ran.Ran.{Ran}
 use Rattle.exec_core.specs.Jobs.{BeginsWell, IsRan}
 use Rattle.exec_core.specs.Rounds.{CanRun}
 use Rattle.exec_core.specs.States.{owner_of, progress_of, whole_of, AreMembers}
-use Rattle.exec_core.specs.Underway.{begun_on, state_at, left_by, IsReached}
+use Rattle.exec_core.specs.Underway.{begun_on, can_step, state_after, state_at, left_by, IsReached}
 use Rattle.exec_core.proofs.Loops.{all_mem}
 use Rattle.exec_core.proofs.Groups.{at_group, lists_all, run-over}
 use Rattle.exec_core.proofs.Replays.{replayed}
@@ -93,6 +94,19 @@ state_with plan w gs = record (state_at plan w) {
 
 pub state_here : {P : Type 0} (plan : P → Option ℕ → Plan) (w : Work P) (gs : List (List ℕ)) → drop w.at (lists_of w.groups.items) ≡ gs → state_at plan w ≡ state_with plan w gs
 state_here plan w gs e = ap (state_with plan w) e
+
+-- a segment that is not of the group at work makes no step
+pub apart : {P : Type 0} (plan : P → Option ℕ → Plan) (w : Work P) (g : List ℕ) (rest : List (List ℕ)) (i : ℕ) → drop w.at (lists_of w.groups.items) ≡ g ∷ rest → mem i g ≡ false → can_step (state_at plan w) i ≡ true → ⊥
+apart plan w g rest i e away can_go =
+    both_ways (mem i g) away (sym (ap (λ (t : State). mem i t.group) (state_here plan w (g ∷ rest) e)) ∙ (and_parts _ _ can_go).0)
+
+-- the state after the steps so far tells who can step
+pub steps_on : {P : Type 0} (plan : P → Option ℕ → Plan) (begins begins' : Beginnings) (segs segs' : List Seg) (s s' : Store) (w : Work P) (steps : List ℕ) (i : ℕ)
+    → begins ≡ begins' → segs ≡ segs' → s ≡ s' → steps ≡ w.m.steps.items → IsReached plan begins segs s w
+    → can_step (state_after begins' segs' s' steps) i ≡ true → can_step (state_at plan w) i ≡ true
+steps_on plan begins begins' segs segs' s s' w steps i b j t e r can_go =
+    let same : state_after begins' segs' s' steps ≡ state_at plan w = (λ k. state_after (sym b k) (sym j k) (sym t k) (e k)) ∙ r.state in
+    sym (ap (λ (u : State). can_step u i) same) ∙ can_go
 
 -- a turn leads on
 pub leads_on : (plans : ℕ → Plan) (t0 u v : State) (i : ℕ) → turns plans t0 u.steps ≡ u → v ≡ turn plans u i → turns plans t0 v.steps ≡ v

@@ -1,11 +1,12 @@
 -- A job in the middle of its run.
-use Rattle.std.specs.Prelude.{◌≡◌, ℕ, ◌≤◌, List, [], ◌∷◌, length, drop, Option, if◌then◌else◌, nat_lt, map, unwrap_or, Bool, false, refl}
+use Rattle.std.specs.Prelude.{◌≡◌, ◌&&◌, ℕ, ◌≤◌, List, [], ◌∷◌, length, drop, Option, if◌then◌else◌, nat_lt, map, unwrap_or, Bool, false, refl}
 use Rattle.std.specs.Coded.{Coded, code_by, coded×, coded_list, coded_bool, coded_ℕ}
 use Rattle.std.specs.List.{All}
 use Rattle.svc_api.specs.Plan.{Plan}
+use Rattle.svc_api.specs.Orders.{mem}
 use Rattle.aeg_base.specs.Store.{Store}
 use Rattle.exec_model.specs.declared.job.Seg.{Seg}
-use Rattle.exec_model.specs.Machine.{State, Running, Ended, end_of, start, turns}
+use Rattle.exec_model.specs.Machine.{State, Running, Ended, end_of, is_running, start, turns}
 use Rattle.exec_model.specs.Jobs.{Beginnings, Run, plan_at, groups_of, said_nothing, below}
 use Rattle.key_mixer.specs.Lists.{lists_of}
 use Rattle.exec_core.specs.declared.machine.Machine.{Machine}
@@ -34,6 +35,14 @@ state_at plan w = record {
   steps = w.m.steps.items;
 }
 
+-- segment i is one of the group at work, and runs
+abbrev pub can_step : State → ℕ → Bool
+can_step t i = mem i t.group && is_running (t.progress i)
+
+-- the state that the machine begun on this job and store is in after these steps
+abbrev pub state_after : Beginnings → List Seg → Store → List ℕ → State
+state_after begins segs s steps = turns (plan_at begins segs) (begun_on begins segs s) steps
+
 -- what a machine leaves once its segments have ended
 abbrev pub left_by : {P : Type 0} → (P → Option ℕ → Plan) → Machine P → List ℕ → Store → Run
 left_by plan m order s = record {
@@ -50,7 +59,7 @@ pub record IsReached {P : Type 0} (plan : P → Option ℕ → Plan) (begins : B
   pub slots : length w.m.slots.items ≡ length segs
   pub locks : length w.m.owner.items ≡ 256
   pub redo : w.m.redo ≤ w.at
-  pub state : turns (plan_at begins segs) (begun_on begins segs s) w.m.steps.items ≡ state_at plan w
+  pub state : state_after begins segs s w.m.steps.items ≡ state_at plan w
 
 -- what callers see of a run: the steps that were made, the groups from the one at work on, and whether memory was wanting
 pub record RunView : Type 0 where

@@ -3,7 +3,7 @@ ghost use Rattle.std.specs.Prelude.{◌≡◌, ◌≤◌, ◌++◌, ◌∷◌, �
 ghost use Rattle.std.specs.List.{All};
 ghost use Rattle.exec_model.specs.Jobs.{groups_of, run_job};
 ghost use Rattle.exec_core.specs.Jobs.{BeginsWell, IsRan};
-ghost use Rattle.exec_core.specs.Underway.{IsUnderway, first_of};
+ghost use Rattle.exec_core.specs.Underway.{IsUnderway, can_step, first_of, state_after};
 
 use crate::batch::Batch;
 use crate::ran::Ran;
@@ -104,6 +104,7 @@ impl<'a, S: Service, T: Task> JobRun<'a, S, T> {
     /// Segment `i` makes one step, if it runs and its group is at work. Answers whether it runs on.
     pub fn turn(&mut self, i: u8) -> bool
         ensures on { IsTrue result → self.new ≡ record self.old { steps = self.old.steps ++ i ∷ [] } }
+        ensures made { self.old.short ≡ false → can_step (state_after T.begins T.segs T.start self.old.steps) i ≡ true → (self.new.short ≡ true) ⊎ (self.new.steps ≡ self.old.steps ++ i ∷ []) }
         ensures noted { self.new.short ≡ false → (self.new.steps ≡ self.old.steps) ⊎ (self.new.steps ≡ self.old.steps ++ i ∷ []) }
     {
         if self.short {

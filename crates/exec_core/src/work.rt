@@ -3,7 +3,7 @@ ghost use Rattle.std.specs.Prelude.{◌≡◌, ◌≤◌, ◌<◌, ◌+◌, ◌+
 ghost use Rattle.std.specs.List.{All};
 ghost use Rattle.exec_model.specs.Machine.{next, turns};
 ghost use Rattle.exec_core.specs.Jobs.{BeginsWell};
-ghost use Rattle.exec_core.specs.Underway.{IsReached, state_at};
+ghost use Rattle.exec_core.specs.Underway.{IsReached, can_step, state_at};
 
 use crate::batch::Batch;
 use crate::machine::{Logged, Machine, is_running};
@@ -73,6 +73,7 @@ pub fn turn_of<S: Service>(
     requires reached { IsReached S.Prog.plan (S.beginning svc.now) segs.now w.old.cells.start w.old }
     ensures reached { OnOk result (IsReached S.Prog.plan (S.beginning svc.now) segs.now w.old.cells.start w.new) }
     ensures on { IfOk result (λ on. on ≡ true → (w.new.m.steps.items ≡ w.old.m.steps.items ++ i ∷ []) × (w.new.at ≡ w.old.at)) }
+    ensures made { OnOk result (can_step (state_at S.Prog.plan w.old) i ≡ true → w.new.m.steps.items ≡ w.old.m.steps.items ++ i ∷ []) }
     ensures noted { OnOk result ((w.new.m.steps.items ≡ w.old.m.steps.items) ⊎ (w.new.m.steps.items ≡ w.old.m.steps.items ++ i ∷ [])) }
     ensures groups { w.new.groups ≡ w.old.groups }
     ensures start { w.new.cells.start ≡ w.old.cells.start }

@@ -1,5 +1,6 @@
 use Rattle.std.proofs.Common.{rules, ◌≡◌, ◌+◌, ◌∙◌, ◌⊎◌, sym, ap, refl, subst, drop, ◌∷◌, [], ◌++◌, false, true, arith}
 use Rattle.std.proofs.lemmas.Grind.{common_steps}
+use Rattle.std.proofs.lemmas.Bool.{and_parts}
 use Rattle.exec_model.specs.Jobs.{plan_at}
 use Rattle.exec_model.specs.Machine.{State, is_running, next, turn}
 use Rattle.exec_model.proofs.Executor.{turn-less}
@@ -7,7 +8,7 @@ use Rattle.key_mixer.specs.Lists.{lists_of}
 use Rattle.exec_core.specs.States.{whole_of, going, progress_of}
 use Rattle.exec_core.proofs.Finishing.{some_state}
 use Rattle.exec_core.proofs.Noting.{turn_steps, turn_most}
-use Rattle.exec_core.proofs.Underway.{can_turn, turned, turned_over}
+use Rattle.exec_core.proofs.Underway.{group_at, apart, can_turn, turned, turned_over}
 use Rattle.exec_core.proofs.work.turn_of.Goals as goal
 
 pub turn-requires : goal.turn-requires
@@ -21,6 +22,13 @@ index-requires-2 g c =
     let can = can_turn g.S.Prog.Program.plan (g.S.Service.beginning c.args.svc.now) c.args.segs.now c.args.w.now.cells.start c.args.w.now c.index.result.now c.as_slice-group.result.now c.args.i
     c.requires.begins c.requires.few c.requires.reached (search rules) c.index.ensures c.as_slice-group.ensures.value (search rules) in
     let a = can.slot in let b = c.in_ok-over.ensures.slots in let d = c.from.ensures in omega arith
+
+pub returns-then-not-contains-clause-made : goal.returns-then-not-contains-clause-made
+returns-then-not-contains-clause-made g c can_go =
+    let w = c.args.w.now in
+    let xs = c.as_slice-group.result.now in
+    let here = group_at (g.S.Service.beginning c.args.svc.now) c.args.segs.now w.groups.items w.at c.index.result.now xs c.requires.few c.requires.reached.groups (search rules) c.index.ensures c.as_slice-group.ensures.value in
+    absurd (apart g.S.Prog.Program.plan w xs (drop (w.at + 1) (lists_of w.groups.items)) c.args.i here.here (search rules) can_go)
 
 pub returns-then-over : goal.returns-then-over
 returns-then-over g c =
@@ -40,6 +48,7 @@ returns-then-over g c =
           c.requires.reached can.at refl refl refl c.in_ok-over.ensures.slots c.in_ok-over.ensures.locks c.in_ok-over.ensures.redo_most goes
           e.state e.at e.machine.0 e.machine.1 e.machine.2 e.groups;
       on = λ on. cc;
+      made = λ can_go. ap (λ v. v.items) e.machine.3 ∙ ap (λ (t : State). t.steps) (goes (some_state xs) refl) ∙ turn_steps plans u c.args.i can.member (and_parts _ _ can_go).1;
       noted = subst (λ ys. (ys ≡ w.m.steps.items) ⊎ (ys ≡ w.m.steps.items ++ c.args.i ∷ [])) (sym (ap (λ v. v.items) e.machine.3 ∙ ap (λ (t : State). t.steps) (goes (some_state xs) refl))) (turn_most plans u c.args.i can.member);
       groups = e.groups;
       start = e.start ∙ c.in_ok-over.ensures.start;
@@ -65,6 +74,7 @@ returns g c =
           let after : is_running (progress_of plan v.m.slots.items c.args.i) ≡ true = grind (arith, common_steps) in
           let before : is_running (progress_of plan w.m.slots.items c.args.i) ≡ true = turn-less plans u c.args.i c.args.i (sym (ap (λ (t : State). is_running (t.progress c.args.i)) here) ∙ after) in
           (ap (λ (t : State). t.steps) here ∙ turn_steps plans u c.args.i can.member before, refl);
+      made = λ can_go. ap (λ (t : State). t.steps) here ∙ turn_steps plans u c.args.i can.member (and_parts _ _ can_go).1;
       noted = subst (λ ys. (ys ≡ w.m.steps.items) ⊎ (ys ≡ w.m.steps.items ++ c.args.i ∷ [])) (sym (ap (λ (t : State). t.steps) here)) (turn_most plans u c.args.i can.member);
       groups = refl;
       start = c.in_ok-over.ensures.start;
