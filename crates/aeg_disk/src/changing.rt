@@ -3,7 +3,7 @@ ghost use Rattle.std.specs.Prelude.{◌≡◌, ◌+◌, ◌-◌, ◌<◌, ◌≤
 ghost use Rattle.aeg_disk.specs.Disk.{written};
 ghost use Rattle.aeg_disk.specs.Memory.{write_of, loss_of, kept_of};
 
-use crate::tape::Tape;
+use crate::tape::{Tape, narrow};
 use aeg_base::Memory;
 use std::alloc::Global;
 
@@ -81,7 +81,9 @@ fn write_over(
     ensures err { OnErr result ((bytes.new.items ≡ bytes.old.items) × (tape.new ≡ tape.old)) }
 {
     let before = bytes.len();
-    grow(bytes, at + piece.len())?;
+    // A place that no note can have takes no room.
+    let end = narrow(at + piece.len())?;
+    grow(bytes, end as usize)?;
     if note(tape, &bytes[..before], at, piece.len(), settles).is_err() {
         bytes.truncate(before);
         return Err(Memory);

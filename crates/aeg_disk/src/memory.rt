@@ -8,8 +8,8 @@ use crate::tape::Tape;
 use aeg_base::Memory;
 use std::alloc::Global;
 
-/// A disk in memory. It keeps what undoes each write and sync, and copies nothing at a sync. For a place or a length past
-/// 32 bits, which its notes can't hold, there is no memory.
+/// A disk in memory. It keeps what undoes each write and sync, and copies nothing at a sync. For a write that its notes, of
+/// 32 bits, can't tell there is no memory.
 #[derive(Drop)]
 pub struct MemDisk {
     alloc: Global,

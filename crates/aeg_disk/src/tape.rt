@@ -34,7 +34,7 @@ fn length_after(note: &Note) -> u64
 }
 
 /// A number as a note has it.
-fn narrow(n: usize) -> Result<u32, Memory>
+pub(crate) fn narrow(n: usize) -> Result<u32, Memory>
     ensures { IfOk result (λ m. m ≡ n) }
 {
     match u32::try_from(n) {
