@@ -1,6 +1,7 @@
 // Clearing a booking, and releasing its seats.
 ghost use Rattle.std.specs.Prelude.{◌≡◌, IfOk};
 ghost use Rattle.booking.specs.Course.{IsTurn, clear_plan, clear_budget};
+ghost use Rattle.booking.specs.declared.course.Course.TheVariants.{Clears};
 ghost use Rattle.booking.specs.Places.{closing_text as closing_text_of, releases};
 
 use crate::course::{ClearPlace, Closing, Course};
@@ -8,6 +9,17 @@ use crate::text::{cancelled, fixed, release};
 use crate::turn::{Turn, calls, replies, writes};
 use aeg_base::{Bytes, Memory, Tier};
 use std::alloc::Global;
+
+// A booking's keys are cleared from this place on.
+fn clears(booking: u32, closing: Closing, place: ClearPlace) -> Course
+    ensures { result ≡ Clears booking closing place }
+{
+    Course::Clears {
+        booking,
+        closing,
+        place,
+    }
+}
 
 pub fn clear_turn(
     alloc: Global,
@@ -18,55 +30,12 @@ pub fn clear_turn(
     ensures { IfOk result (IsTurn (clear_plan booking closing place) (clear_budget place)) }
 {
     match place {
-        ClearPlace::Status => {
-            let place = ClearPlace::Trip;
-            Ok(writes(
-                5,
-                booking,
-                0,
-                Course::Clears {
-                    booking,
-                    closing,
-                    place,
-                },
-            ))
-        }
-        ClearPlace::Trip => {
-            let place = ClearPlace::Qty;
-            Ok(writes(
-                6,
-                booking,
-                0,
-                Course::Clears {
-                    booking,
-                    closing,
-                    place,
-                },
-            ))
-        }
-        ClearPlace::Qty => {
-            let place = ClearPlace::Closes;
-            Ok(writes(
-                7,
-                booking,
-                0,
-                Course::Clears {
-                    booking,
-                    closing,
-                    place,
-                },
-            ))
-        }
+        ClearPlace::Status => Ok(writes(5, booking, 0, clears(booking, closing, ClearPlace::Trip))),
+        ClearPlace::Trip => Ok(writes(6, booking, 0, clears(booking, closing, ClearPlace::Qty))),
+        ClearPlace::Qty => Ok(writes(7, booking, 0, clears(booking, closing, ClearPlace::Closes))),
         ClearPlace::Closes => {
             let text = closing_text(alloc, booking, closing)?;
-            Ok(replies(
-                text,
-                Course::Clears {
-                    booking,
-                    closing,
-                    place,
-                },
-            ))
+            Ok(replies(text, clears(booking, closing, place)))
         }
     }
 }
