@@ -1,5 +1,4 @@
 pub mod AnswerLaws
-pub mod BlankDisks
 pub mod DiskLaws
 pub mod PlayLaws
 pub mod ReadingLaws

@@ -3,7 +3,6 @@
 #![tactic(auto)]
 
 mod count;
-mod disks;
 mod lines;
 mod playing;
 mod reading;
@@ -22,6 +21,7 @@ pub use status::{LimitKind, Status};
 use std::process::ExitCode;
 use std::{env, io};
 pub use top::{aegean, single_call};
+use world::memory_disks;
 
 /// The words of the command line behind the program's name.
 fn words_of(rt: &(impl std::rt::Env + AllocGlobal)) -> io::Result<Vec<String>> {
@@ -38,7 +38,7 @@ fn main(rt: HostRuntime) -> ExitCode {
         report::report(&mut err, Status::Memory);
         return ExitCode::from(Status::Memory.code());
     };
-    let Ok(mut disks) = disks::memory_disks(rt.alloc(), Vec::new(rt.alloc())) else {
+    let Ok(mut disks) = memory_disks(rt.alloc(), Vec::new(rt.alloc())) else {
         report::report(&mut err, Status::Memory);
         return ExitCode::from(Status::Memory.code());
     };

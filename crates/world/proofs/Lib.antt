@@ -42,3 +42,4 @@ pub mod BackMoves
 pub mod Stepping
 pub mod Backends
 pub mod CommandEvents
+pub mod BlankDisks

@@ -1,6 +1,7 @@
 //! All nodes, clients and packets of a run, and the text that its events print.
 #![tactic(auto)]
 
+mod node_disks;
 mod nodes;
 mod observer;
 mod parts;
@@ -10,5 +11,9 @@ mod text;
 mod watch;
 mod world;
 
+pub use node_disks::memory_disks;
 pub use stop::Stop;
 pub use world::World;
+
+#[cfg(test)]
+mod tests;

@@ -1,7 +1,7 @@
 use Rattle.std.proofs.Common.{◌≡◌, ◌∷◌, ◌++◌, [], length, length-append, ap, sym, subst, List, arith}
 use Rattle.aeg_disk.specs.declared.memory.MemDisk.{MemDisk}
-use Rattle.aegean_main.proofs.BlankDisks.{AllBlank, blank_more, are_blank}
-use Rattle.aegean_main.proofs.disks.memory_disks.Goals as goal
+use Rattle.world.proofs.BlankDisks.{AllBlank, blank_more, are_blank}
+use Rattle.world.proofs.node_disks.memory_disks.Goals as goal
 
 pub disks-preserved : goal.disks-preserved
 disks-preserved c =

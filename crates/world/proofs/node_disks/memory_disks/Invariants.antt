@@ -1,6 +1,6 @@
 use Rattle.std.proofs.Common.{◌-◌, ◌≤◌, length}
-use Rattle.aegean_main.proofs.BlankDisks.{AllBlank}
-use Rattle.aegean_main.proofs.disks.memory_disks.Given as goal
+use Rattle.world.proofs.BlankDisks.{AllBlank}
+use Rattle.world.proofs.node_disks.memory_disks.Given as goal
 
 abbrev pub invariant-disks : goal.invariant-disks
 invariant-disks l = AllBlank l.disks.items × (length l.disks.items ≤ 15)
