@@ -2,5 +2,7 @@
 #![tactic(auto)]
 
 mod mixer;
+#[cfg(test)]
+mod tests;
 
 pub use mixer::groups;

@@ -5,6 +5,8 @@ mod column;
 mod copies;
 mod room;
 mod store;
+#[cfg(test)]
+mod tests;
 mod undo;
 
 pub use store::Store;
