@@ -1,10 +1,183 @@
 // Worked runs, over a source and sinks in memory.
-use crate::disks::memory_disks;
 use crate::{LimitKind, Status, aegean};
+use aeg_base::Memory;
 use aeg_base::limits::INPUT_BYTES;
 use aeg_io::{MemSink, MemSource};
-use std::alloc::{AllocError, Global};
+use std::alloc::Global;
+use std::process::Abort;
 use std::test::Fail;
+use world::memory_disks;
+
+/// An input, and what it comes to: the status's number, the text and the line on standard error.
+type Run = (&'static str, u8, &'static str, &'static str);
+
+const SINGLE_RUNS: [Run; 15] = [
+    // The unreplicated server opens a trip and refuses a look at a booking that isn't there.
+    (
+        "start 1.1 0 open 1 5 10 0\nstart 1.2 0 look 5\n",
+        0,
+        "reply 1.1 opened 1\nreply 1.2 refused 9 NoBooking\nsteps 2\n",
+        "",
+    ),
+    // A client's first request must have number 1.
+    ("start 1.2 0 look 5\n", 6, "", "illegal: line 1 row 1\n"),
+    // A segment that replies can't be given a call number.
+    (
+        "start 1.1 5 open 1 5 10 0\n",
+        6,
+        "",
+        "illegal: line 1 row 7\n",
+    ),
+    // Without lines there are no steps.
+    ("", 0, "steps 0\n", ""),
+    // A start line has a whole request.
+    ("start 1.1 0 open 1 5 10\n", 2, "", "script: line 1 row 5\n"),
+    // A served call's number is at least 1, and the whole input is read before the first step.
+    (
+        "start 1.1 0 open 1 5 10 0\nserve inv 0\n",
+        2,
+        "",
+        "script: line 2 row 3\n",
+    ),
+    // The unreplicated server opens a trip and books it with two nested calls.
+    (
+        "start 1.1 0 open 1 5 10 0\nstart 1.2 1 book 1 2\nserve inv 1\nresume 1.2 1\nserve pay 1\nresume 1.2 0\n",
+        0,
+        "reply 1.1 opened 1\ncall inv 1 reserve 1 2\nanswer inv 1 0\ncall pay 1 charge 1 20\nanswer pay 1 0\nreply 1.2 booked 17\nsteps 6\n",
+        "",
+    ),
+    // A request can't go on before its nested call was served.
+    (
+        "start 1.1 0 open 1 5 10 0\nstart 1.2 1 book 1 2\nresume 1.2 1\nserve pay 1\nresume 1.2 0\n",
+        6,
+        "reply 1.1 opened 1\ncall inv 1 reserve 1 2\n",
+        "illegal: line 3 row 6\n",
+    ),
+    // A payment above the client's amount is denied, and the seats are released.
+    (
+        "start 1.1 0 open 1 5 10000 0\nstart 1.2 1 book 1 2\nserve inv 1\nresume 1.2 1\nserve pay 1\nresume 1.2 2\n",
+        0,
+        "reply 1.1 opened 1\ncall inv 1 reserve 1 2\nanswer inv 1 0\ncall pay 1 charge 1 20000\nanswer pay 1 2\ncall inv 2 release 1 2\nsteps 6\n",
+        "",
+    ),
+    // A call that nobody made can't be served.
+    ("serve inv 1\n", 6, "", "illegal: line 1 row 4\n"),
+    // A client has one request in progress.
+    (
+        "start 1.1 0 open 1 5 10 0\nstart 1.2 1 book 1 2\nstart 1.3 0 look 1\n",
+        6,
+        "reply 1.1 opened 1\ncall inv 1 reserve 1 2\n",
+        "illegal: line 3 row 2\n",
+    ),
+    // A request that was replied to can't go on.
+    (
+        "start 1.1 0 open 1 5 10 0\nresume 1.1 0\n",
+        6,
+        "reply 1.1 opened 1\n",
+        "illegal: line 2 row 5\n",
+    ),
+    // A segment that calls needs a number.
+    (
+        "start 1.1 0 open 1 5 10 0\nstart 1.2 0 book 1 2\n",
+        6,
+        "reply 1.1 opened 1\n",
+        "illegal: line 2 row 7\n",
+    ),
+    // A tier's numbers are given once.
+    (
+        "start 1.1 0 open 1 5 10 0\nstart 1.2 1 book 1 2\nstart 2.1 1 book 1 1\n",
+        6,
+        "reply 1.1 opened 1\ncall inv 1 reserve 1 2\n",
+        "illegal: line 3 row 8\n",
+    ),
+    // A call is served once.
+    (
+        "start 1.1 0 open 1 5 10 0\nstart 1.2 1 book 1 2\nserve inv 1\nserve inv 1\n",
+        6,
+        "reply 1.1 opened 1\ncall inv 1 reserve 1 2\nanswer inv 1 0\n",
+        "illegal: line 4 row 4\n",
+    ),
+];
+
+const SCRIPTS: [Run; 6] = [
+    // A script with a header alone runs no event and prints the closing lines.
+    (
+        "tiers 0 depth 1\n",
+        0,
+        "log mid 0\nlog inv 0\nlog pay 0\npackets 0\n",
+        "",
+    ),
+    // Empty input has no header, so line 1 is refused.
+    ("", 2, "", "script: line 1 row 1\n"),
+    // A frame cut short is dropped; cut at its full length it is the whole frame.
+    (
+        "tiers 1 depth 1\nlead m0\nshort 0 0\nshort 0 12\nshort 0 13\n",
+        0,
+        "drop m1 short\ndrop m1 short\nlog mid 0\nlog inv 0\nlog pay 0\npackets 3\n",
+        "",
+    ),
+    // A leader offers one position at a time, and then has no tokens for the verdict.
+    (
+        "tiers 1 depth 1\nlead m0\nflow\nsubmit 1 open 1 5 10 0\nflow\noffer m0\noffer m0\nflow\noffer m0\n",
+        0,
+        "idle m0 in-flight 0\nidle m0 no-tokens 0\nlog mid 1\nlog inv 0\nlog pay 0\npackets 18\n",
+        "",
+    ),
+    // A line's first word is unknown.
+    (
+        "tiers 1 depth 1\njump m0\n",
+        2,
+        "",
+        "script: line 2 row 2\n",
+    ),
+    // Numbers have no leading zeros.
+    (
+        "tiers 1 depth 1\ndeliver 00\n",
+        2,
+        "",
+        "script: line 2 row 3\n",
+    ),
+];
+
+/// Nodes go down and come back.
+const POWER_SCRIPTS: [Run; 5] = [
+    // The power goes at the third device call of an acceptance, and what was written stays: m1 reports the value that it
+    // accepted, and m2 offers it.
+    (
+        "tiers 1 depth 1\nlead m0\nflow\nsubmit 1 open 1 5 10 0\ndeliver 4\noffer m0\ncut 3 keep deliver 7\nrestart m1\nlead m2\ndeliver 13\ndeliver 14\noffer m2\n",
+        0,
+        "down m1 cut\nlog mid 0\nlog inv 0\nlog pay 0\npackets 20\n",
+        "",
+    ),
+    // At the second call what was not synced is lost: m1 comes back without the record, and m2 has nothing to offer.
+    (
+        "tiers 1 depth 1\nlead m0\nflow\nsubmit 1 open 1 5 10 0\ndeliver 4\noffer m0\ncut 2 drop deliver 7\nrestart m1\nlead m2\ndeliver 13\ndeliver 14\noffer m2\n",
+        0,
+        "down m1 cut\nidle m2 nothing\nlog mid 0\nlog inv 0\nlog pay 0\npackets 15\n",
+        "",
+    ),
+    // Commands name nodes that are down, up or gone, and a packet that was never sent.
+    (
+        "tiers 0 depth 1\noffer m0\ncrash m0\nlead m0\nrestart m0\nrestart m0\nwipe m0\nrestart m0\ndeliver 7\n",
+        0,
+        "idle m0 not-leader\nidle m0 down\nidle m0 up\ngone m0\nnone 7\nlog mid 0\nlog inv 0\nlog pay 0\npackets 0\n",
+        "",
+    ),
+    // Power is cut during a delivery, a lead or an offer alone.
+    (
+        "tiers 1 depth 1\ncut 1 keep flow\n",
+        2,
+        "",
+        "script: line 2 row 3\n",
+    ),
+    // An event has four device writes and syncs.
+    (
+        "tiers 1 depth 1\ncut 5 keep lead m0\n",
+        2,
+        "",
+        "script: line 2 row 3\n",
+    ),
+];
 
 /// Runs a command on an input whose read of this number fails.
 fn called(
@@ -14,7 +187,7 @@ fn called(
     failing: u32,
     out: &mut MemSink,
     err: &mut MemSink,
-) -> Result<Status, AllocError> {
+) -> Result<Status, Memory> {
     let words = vec![in alloc; String::from_str(alloc, command)?]?;
     let fails = vec![in alloc; failing]?;
     let mut source = MemSource::new(input, fails, 4096);
@@ -29,7 +202,7 @@ fn single(
     failing: u32,
     out: &mut MemSink,
     err: &mut MemSink,
-) -> Result<Status, AllocError> {
+) -> Result<Status, Memory> {
     called(alloc, "single", input, failing, out, err)
 }
 
@@ -40,16 +213,32 @@ fn replay(
     failing: u32,
     out: &mut MemSink,
     err: &mut MemSink,
-) -> Result<Status, AllocError> {
+) -> Result<Status, Memory> {
     called(alloc, "replay", input, failing, out, err)
 }
 
+/// What a command makes of an input: its status, its text and its line on standard error.
+fn made(alloc: Global, command: &str, input: &str) -> Result<(Status, MemSink, MemSink), Memory> {
+    let mut out = MemSink::new(alloc, Vec::new(alloc), 10);
+    let mut err = MemSink::new(alloc, Vec::new(alloc), 10);
+    let bytes = Vec::from_slice(alloc, input.as_bytes())?;
+    let status = called(alloc, command, bytes, 99, &mut out, &mut err)?;
+    Ok((status, out, err))
+}
+
+/// Runs a command on each input, and checks what it comes to.
+fn come_to(rt: &impl Abort, alloc: Global, command: &str, runs: &[Run]) -> Result<(), Fail> {
+    for &(input, code, text, note) in runs {
+        let (status, out, err) = made(alloc, command, input)?;
+        assert_eq!(rt; status.code(), code, "{input}");
+        assert_eq!(rt; out.taken(), text.as_bytes(), "{input}");
+        assert_eq!(rt; err.taken(), note.as_bytes(), "{input}");
+    }
+    Ok(())
+}
+
 /// Runs the program without a word.
-fn without_a_word(
-    alloc: Global,
-    out: &mut MemSink,
-    err: &mut MemSink,
-) -> Result<Status, AllocError> {
+fn without_a_word(alloc: Global, out: &mut MemSink, err: &mut MemSink) -> Result<Status, Memory> {
     let mut source = MemSource::new(Vec::new(alloc), Vec::new(alloc), 1);
     let mut disks = memory_disks(alloc, Vec::new(alloc))?;
     Ok(aegean(alloc, &[], &mut source, out, err, &mut disks))
@@ -57,104 +246,7 @@ fn without_a_word(
 
 #[test]
 fn worked_runs(rt: HostRuntime) -> Result<(), Fail> {
-    let alloc = rt.alloc();
-    let table = [
-        // The unreplicated server opens a trip and refuses a look at a booking that isn't there.
-        (
-            "start 1.1 0 open 1 5 10 0\nstart 1.2 0 look 5\n",
-            0,
-            "reply 1.1 opened 1\nreply 1.2 refused 9 NoBooking\nsteps 2\n",
-            "",
-        ),
-        // A client's first request must have number 1.
-        ("start 1.2 0 look 5\n", 6, "", "illegal: line 1 row 1\n"),
-        // A segment that replies can't be given a call number.
-        (
-            "start 1.1 5 open 1 5 10 0\n",
-            6,
-            "",
-            "illegal: line 1 row 7\n",
-        ),
-        // Without lines there are no steps.
-        ("", 0, "steps 0\n", ""),
-        // A start line has a whole request.
-        ("start 1.1 0 open 1 5 10\n", 2, "", "script: line 1 row 5\n"),
-        // A served call's number is at least 1, and the whole input is read before the first step.
-        (
-            "start 1.1 0 open 1 5 10 0\nserve inv 0\n",
-            2,
-            "",
-            "script: line 2 row 3\n",
-        ),
-        // The unreplicated server opens a trip and books it with two nested calls.
-        (
-            "start 1.1 0 open 1 5 10 0\nstart 1.2 1 book 1 2\nserve inv 1\nresume 1.2 1\nserve pay 1\nresume 1.2 0\n",
-            0,
-            "reply 1.1 opened 1\ncall inv 1 reserve 1 2\nanswer inv 1 0\ncall pay 1 charge 1 20\nanswer pay 1 0\nreply 1.2 booked 17\nsteps 6\n",
-            "",
-        ),
-        // A request can't go on before its nested call was served.
-        (
-            "start 1.1 0 open 1 5 10 0\nstart 1.2 1 book 1 2\nresume 1.2 1\nserve pay 1\nresume 1.2 0\n",
-            6,
-            "reply 1.1 opened 1\ncall inv 1 reserve 1 2\n",
-            "illegal: line 3 row 6\n",
-        ),
-        // A payment above the client's amount is denied, and the seats are released.
-        (
-            "start 1.1 0 open 1 5 10000 0\nstart 1.2 1 book 1 2\nserve inv 1\nresume 1.2 1\nserve pay 1\nresume 1.2 2\n",
-            0,
-            "reply 1.1 opened 1\ncall inv 1 reserve 1 2\nanswer inv 1 0\ncall pay 1 charge 1 20000\nanswer pay 1 2\ncall inv 2 release 1 2\nsteps 6\n",
-            "",
-        ),
-        // A call that nobody made can't be served.
-        ("serve inv 1\n", 6, "", "illegal: line 1 row 4\n"),
-        // A client has one request in progress.
-        (
-            "start 1.1 0 open 1 5 10 0\nstart 1.2 1 book 1 2\nstart 1.3 0 look 1\n",
-            6,
-            "reply 1.1 opened 1\ncall inv 1 reserve 1 2\n",
-            "illegal: line 3 row 2\n",
-        ),
-        // A request that was replied to can't go on.
-        (
-            "start 1.1 0 open 1 5 10 0\nresume 1.1 0\n",
-            6,
-            "reply 1.1 opened 1\n",
-            "illegal: line 2 row 5\n",
-        ),
-        // A segment that calls needs a number.
-        (
-            "start 1.1 0 open 1 5 10 0\nstart 1.2 0 book 1 2\n",
-            6,
-            "reply 1.1 opened 1\n",
-            "illegal: line 2 row 7\n",
-        ),
-        // A tier's numbers are given once.
-        (
-            "start 1.1 0 open 1 5 10 0\nstart 1.2 1 book 1 2\nstart 2.1 1 book 1 1\n",
-            6,
-            "reply 1.1 opened 1\ncall inv 1 reserve 1 2\n",
-            "illegal: line 3 row 8\n",
-        ),
-        // A call is served once.
-        (
-            "start 1.1 0 open 1 5 10 0\nstart 1.2 1 book 1 2\nserve inv 1\nserve inv 1\n",
-            6,
-            "reply 1.1 opened 1\ncall inv 1 reserve 1 2\nanswer inv 1 0\n",
-            "illegal: line 4 row 4\n",
-        ),
-    ];
-    for (input, code, text, note) in table {
-        let mut out = MemSink::new(alloc, Vec::new(alloc), 10);
-        let mut err = MemSink::new(alloc, Vec::new(alloc), 10);
-        let bytes = Vec::from_slice(alloc, input.as_bytes())?;
-        let status = single(alloc, bytes, 99, &mut out, &mut err)?;
-        assert_eq!(rt; status.code(), code, "{input}");
-        assert_eq!(rt; out.taken(), text.as_bytes(), "{input}");
-        assert_eq!(rt; err.taken(), note.as_bytes(), "{input}");
-    }
-    Ok(())
+    come_to(&rt, rt.alloc(), "single", &SINGLE_RUNS)
 }
 
 #[test]
@@ -195,110 +287,12 @@ fn faults_limits_and_usage(rt: HostRuntime) -> Result<(), Fail> {
 
 #[test]
 fn worked_runs_of_scripts(rt: HostRuntime) -> Result<(), Fail> {
-    let alloc = rt.alloc();
-    let table = [
-        // A script with a header alone runs no event and prints the closing lines.
-        (
-            "tiers 0 depth 1\n",
-            0,
-            "log mid 0\nlog inv 0\nlog pay 0\npackets 0\n",
-            "",
-        ),
-        // Empty input has no header, so line 1 is refused.
-        ("", 2, "", "script: line 1 row 1\n"),
-        // A frame cut short is dropped; cut at its full length it is the whole frame.
-        (
-            "tiers 1 depth 1\nlead m0\nshort 0 0\nshort 0 12\nshort 0 13\n",
-            0,
-            "drop m1 short\ndrop m1 short\nlog mid 0\nlog inv 0\nlog pay 0\npackets 3\n",
-            "",
-        ),
-        // A leader offers one position at a time, and then has no tokens for the verdict.
-        (
-            "tiers 1 depth 1\nlead m0\nflow\nsubmit 1 open 1 5 10 0\nflow\noffer m0\noffer m0\nflow\noffer m0\n",
-            0,
-            "idle m0 in-flight 0\nidle m0 no-tokens 0\nlog mid 1\nlog inv 0\nlog pay 0\npackets 18\n",
-            "",
-        ),
-        // A line's first word is unknown.
-        (
-            "tiers 1 depth 1\njump m0\n",
-            2,
-            "",
-            "script: line 2 row 2\n",
-        ),
-        // Numbers have no leading zeros.
-        (
-            "tiers 1 depth 1\ndeliver 00\n",
-            2,
-            "",
-            "script: line 2 row 3\n",
-        ),
-    ];
-    for (input, code, text, note) in table {
-        let mut out = MemSink::new(alloc, Vec::new(alloc), 10);
-        let mut err = MemSink::new(alloc, Vec::new(alloc), 10);
-        let bytes = Vec::from_slice(alloc, input.as_bytes())?;
-        let status = replay(alloc, bytes, 99, &mut out, &mut err)?;
-        assert_eq!(rt; status.code(), code, "{input}");
-        assert_eq!(rt; out.taken(), text.as_bytes(), "{input}");
-        assert_eq!(rt; err.taken(), note.as_bytes(), "{input}");
-    }
-    Ok(())
+    come_to(&rt, rt.alloc(), "replay", &SCRIPTS)
 }
 
-/// Scripts in which nodes go down and come back, with what they print.
 #[test]
 fn scripts_of_power(rt: HostRuntime) -> Result<(), Fail> {
-    let alloc = rt.alloc();
-    let table = [
-        // The power goes at the third device call of an acceptance, and what was written stays: m1 reports the value that it
-        // accepted, and m2 offers it.
-        (
-            "tiers 1 depth 1\nlead m0\nflow\nsubmit 1 open 1 5 10 0\ndeliver 4\noffer m0\ncut 3 keep deliver 7\nrestart m1\nlead m2\ndeliver 13\ndeliver 14\noffer m2\n",
-            0,
-            "down m1 cut\nlog mid 0\nlog inv 0\nlog pay 0\npackets 20\n",
-            "",
-        ),
-        // At the second call what was not synced is lost: m1 comes back without the record, and m2 has nothing to offer.
-        (
-            "tiers 1 depth 1\nlead m0\nflow\nsubmit 1 open 1 5 10 0\ndeliver 4\noffer m0\ncut 2 drop deliver 7\nrestart m1\nlead m2\ndeliver 13\ndeliver 14\noffer m2\n",
-            0,
-            "down m1 cut\nidle m2 nothing\nlog mid 0\nlog inv 0\nlog pay 0\npackets 15\n",
-            "",
-        ),
-        // Commands name nodes that are down, up or gone, and a packet that was never sent.
-        (
-            "tiers 0 depth 1\noffer m0\ncrash m0\nlead m0\nrestart m0\nrestart m0\nwipe m0\nrestart m0\ndeliver 7\n",
-            0,
-            "idle m0 not-leader\nidle m0 down\nidle m0 up\ngone m0\nnone 7\nlog mid 0\nlog inv 0\nlog pay 0\npackets 0\n",
-            "",
-        ),
-        // Power is cut during a delivery, a lead or an offer alone.
-        (
-            "tiers 1 depth 1\ncut 1 keep flow\n",
-            2,
-            "",
-            "script: line 2 row 3\n",
-        ),
-        // An event has four device writes and syncs.
-        (
-            "tiers 1 depth 1\ncut 5 keep lead m0\n",
-            2,
-            "",
-            "script: line 2 row 3\n",
-        ),
-    ];
-    for (input, code, text, note) in table {
-        let mut out = MemSink::new(alloc, Vec::new(alloc), 10);
-        let mut err = MemSink::new(alloc, Vec::new(alloc), 10);
-        let bytes = Vec::from_slice(alloc, input.as_bytes())?;
-        let status = replay(alloc, bytes, 99, &mut out, &mut err)?;
-        assert_eq!(rt; status.code(), code, "{input}");
-        assert_eq!(rt; out.taken(), text.as_bytes(), "{input}");
-        assert_eq!(rt; err.taken(), note.as_bytes(), "{input}");
-    }
-    Ok(())
+    come_to(&rt, rt.alloc(), "replay", &POWER_SCRIPTS)
 }
 
 /// The fifth call of m0's disk is the first write of its first record: it fails, and m0 comes back without the record.

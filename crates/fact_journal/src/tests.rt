@@ -134,63 +134,84 @@ fn what_a_stop_leaves_of_a_record(rt: HostRuntime) -> Result<(), Fail> {
     Ok(())
 }
 
+/// The bytes of a node's journal in a tier, and how many facts opening it gives, or what it refuses.
+const RESTARTS: [(Tier, &[u8], Result<usize, OpenErr>); 12] = [
+    // an empty batch and a Serial verdict are learned
+    (
+        Tier::Mid,
+        &[1, 0, 0, 0, 9, 3, 0, 0, 1, 0, 3, 0, 1, 3, 0],
+        Ok(2),
+    ),
+    // the verdict alone
+    (
+        Tier::Mid,
+        &[1, 0, 0, 0, 4, 3, 0, 1, 3, 0],
+        Err(OpenErr::BadRecord { at: 0 }),
+    ),
+    // the batch twice, in one record and in two
+    (
+        Tier::Mid,
+        &[1, 0, 0, 0, 10, 3, 0, 0, 1, 0, 3, 0, 0, 1, 0, 0],
+        Err(OpenErr::BadRecord { at: 0 }),
+    ),
+    (
+        Tier::Mid,
+        &[
+            1, 0, 0, 0, 5, 3, 0, 0, 1, 0, 1, 0, 0, 0, 5, 3, 0, 0, 1, 0, 0,
+        ],
+        Err(OpenErr::BadRecord { at: 10 }),
+    ),
+    // a verdict at an even position, and a batch at an odd one
+    (
+        Tier::Mid,
+        &[1, 0, 0, 0, 4, 3, 0, 0, 3, 0],
+        Err(OpenErr::BadRecord { at: 0 }),
+    ),
+    (
+        Tier::Mid,
+        &[1, 0, 0, 0, 10, 2, 0, 1, 0, 0, 0, 1, 0, 1, 0, 0],
+        Err(OpenErr::BadRecord { at: 0 }),
+    ),
+    // a floor of 2 is settled: at a backend, and not in the middle
+    (
+        Tier::Inv,
+        &[1, 0, 0, 0, 8, 3, 0, 0, 5, 0, 0, 0, 2, 0],
+        Ok(1),
+    ),
+    (
+        Tier::Mid,
+        &[1, 0, 0, 0, 8, 3, 0, 0, 5, 0, 0, 0, 2, 0],
+        Err(OpenErr::BadRecord { at: 0 }),
+    ),
+    // an empty batch at a backend
+    (
+        Tier::Pay,
+        &[1, 0, 0, 0, 5, 3, 0, 0, 1, 0, 0],
+        Err(OpenErr::BadRecord { at: 0 }),
+    ),
+    // no record: another fact, and a fact cut short
+    (
+        Tier::Mid,
+        &[1, 0, 0, 0, 1, 9, 0],
+        Err(OpenErr::BadRecord { at: 0 }),
+    ),
+    (
+        Tier::Mid,
+        &[1, 0, 0, 0, 6, 1, 0, 0, 0, 1, 0, 1, 0, 0, 0, 3, 1, 0, 0, 0],
+        Err(OpenErr::BadRecord { at: 11 }),
+    ),
+    // a gate that no whole entry follows goes first
+    (
+        Tier::Mid,
+        &[1, 0, 0, 0, 1, 9, 1],
+        Err(OpenErr::BadRecord { at: 6 }),
+    ),
+];
+
 #[test]
 fn what_a_restart_takes(rt: HostRuntime) -> Result<(), Fail> {
     let alloc = rt.alloc();
-    let bad = |at| Err(OpenErr::BadRecord { at });
-    let table = [
-        // an empty batch and a Serial verdict are learned
-        (
-            Tier::Mid,
-            [1u8, 0, 0, 0, 9, 3, 0, 0, 1, 0, 3, 0, 1, 3, 0].as_slice(),
-            Ok(2usize),
-        ),
-        // the verdict alone
-        (Tier::Mid, &[1, 0, 0, 0, 4, 3, 0, 1, 3, 0], bad(0)),
-        // the batch twice, in one record and in two
-        (
-            Tier::Mid,
-            &[1, 0, 0, 0, 10, 3, 0, 0, 1, 0, 3, 0, 0, 1, 0, 0],
-            bad(0),
-        ),
-        (
-            Tier::Mid,
-            &[
-                1, 0, 0, 0, 5, 3, 0, 0, 1, 0, 1, 0, 0, 0, 5, 3, 0, 0, 1, 0, 0,
-            ],
-            bad(10),
-        ),
-        // a verdict at an even position, and a batch at an odd one
-        (Tier::Mid, &[1, 0, 0, 0, 4, 3, 0, 0, 3, 0], bad(0)),
-        (
-            Tier::Mid,
-            &[1, 0, 0, 0, 10, 2, 0, 1, 0, 0, 0, 1, 0, 1, 0, 0],
-            bad(0),
-        ),
-        // a floor of 2 is settled: at a backend, and not in the middle
-        (
-            Tier::Inv,
-            &[1, 0, 0, 0, 8, 3, 0, 0, 5, 0, 0, 0, 2, 0],
-            Ok(1),
-        ),
-        (
-            Tier::Mid,
-            &[1, 0, 0, 0, 8, 3, 0, 0, 5, 0, 0, 0, 2, 0],
-            bad(0),
-        ),
-        // an empty batch at a backend
-        (Tier::Pay, &[1, 0, 0, 0, 5, 3, 0, 0, 1, 0, 0], bad(0)),
-        // no record: another fact, and a fact cut short
-        (Tier::Mid, &[1, 0, 0, 0, 1, 9, 0], bad(0)),
-        (
-            Tier::Mid,
-            &[1, 0, 0, 0, 6, 1, 0, 0, 0, 1, 0, 1, 0, 0, 0, 3, 1, 0, 0, 0],
-            bad(11),
-        ),
-        // a gate that no whole entry follows goes first
-        (Tier::Mid, &[1, 0, 0, 0, 1, 9, 1], bad(6)),
-    ];
-    for (tier, bytes, answer) in table {
+    for (tier, bytes, answer) in RESTARTS {
         let mut disk = SureDisk::new(alloc);
         disk.write_at(0, bytes)?;
         assert_eq!(rt;

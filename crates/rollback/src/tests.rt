@@ -146,7 +146,7 @@ fn one_trip_is_opened_once(rt: HostRuntime) -> Result<(), Fail> {
     Ok(())
 }
 
-/// The steps of an executor with a given schedule.
+/// The run of an executor with a given schedule, on a blank store.
 fn given_run<S: Service>(
     alloc: Global,
     svc: &S,
