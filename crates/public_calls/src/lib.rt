@@ -1,0 +1,3 @@
+//! Tests of public calls, over all crates but the program: each call once where it succeeds, with values from outside.
+//! A file has the calls of one crate.
+#![tactic(auto)]
