@@ -2,9 +2,9 @@
 ghost use Rattle.std.specs.Prelude.{◌≤◌, OnOk};
 ghost use Rattle.kv_store.specs.Stores.{StaysWithin};
 
-use super::*;
 use aeg_base::limits::KEY_CLASSES;
 use aeg_base::{Cells, Key};
+use kv_store::{Store, UndoList};
 use std::alloc::Global;
 use std::process::Abort;
 use std::test::*;

@@ -2,9 +2,9 @@
 ghost use Rattle.std.specs.Prelude.{IsTrue};
 ghost use Rattle.one_server.specs.Steps.{IsNamed};
 
-use crate::{Hist, OneServer, StepErr, Told};
 use aeg_base::limits::{CLIENTS, LAST_SEQ};
 use aeg_base::{Bytes, CallNo, ReqId, Tier};
+use one_server::{Hist, OneServer, StepErr, Told};
 use std::alloc::Global;
 use std::process::Abort;
 use std::test::Fail;

@@ -1,6 +1,6 @@
 // Calls one after another, with their codes and what they leave.
-use crate::{Inventory, Payment};
 use aeg_base::Bytes;
+use backend_svc::{Inventory, Payment};
 use std::alloc::Global;
 use std::test::Fail;
 use svc_api::Backend;
