@@ -7,7 +7,10 @@ const TEXTS: [(&[u8], &[&[u8]]); 4] = [
     (b"", &[]),
     (b"serve inv 1", &[b"serve inv 1"]),
     (b"serve inv 1\n", &[b"serve inv 1"]),
-    (b"serve inv 1\n\nserve pay 1\n", &[b"serve inv 1", b"", b"serve pay 1"]),
+    (
+        b"serve inv 1\n\nserve pay 1\n",
+        &[b"serve inv 1", b"", b"serve pay 1"],
+    ),
 ];
 
 fn has_lines(rt: &impl Abort, text: &[u8], lines: &[&[u8]]) {
