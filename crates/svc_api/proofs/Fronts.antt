@@ -1,5 +1,5 @@
 -- The stores that a segment comes by.
-use Rattle.std.specs.Prelude.{◌≡◌, ℕ, ◌⊎◌, Option, Some, None, OnErr, refl}
+use Rattle.std.specs.Prelude.{ℕ, Option, Some, None, OnErr, refl}
 use Rattle.std.specs.declared.result.Result.{Result}
 use Rattle.std.specs.declared.result.Result.TheVariants.{Ok, Err}
 use Rattle.std.proofs.Common.{inl, inr, subst}
