@@ -4,8 +4,6 @@
 mod inventory;
 mod ledger;
 mod payment;
-#[cfg(test)]
-mod tests;
 
 pub use inventory::Inventory;
 pub use payment::Payment;

@@ -13,8 +13,6 @@ mod refusal;
 mod request;
 mod returning;
 mod service;
-#[cfg(test)]
-mod tests;
 mod text;
 mod turn;
 mod view;

@@ -5,8 +5,6 @@ mod column;
 mod copies;
 mod room;
 mod store;
-#[cfg(test)]
-mod tests;
 mod undo;
 
 pub use store::Store;

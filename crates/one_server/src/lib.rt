@@ -16,6 +16,3 @@ mod write;
 pub use refusal::StepErr;
 pub use server::OneServer;
 pub use server_model::{Hist, Told};
-
-#[cfg(test)]
-mod tests;

@@ -1,5 +1,5 @@
 -- What a program does from here on, as a tree of its actions, and what that comes to when it runs whole and alone.
-use Rattle.std.specs.Prelude.{◌≡◌, ℕ, ◌-◌, ◌<◌, ◌≤◌, ◌^◌, Bool, true, List, [], ◌∷◌, length, Option, Some, None}
+use Rattle.std.specs.Prelude.{◌≡◌, ℕ, ◌-◌, ◌<◌, ◌≤◌, ◌^◌, ◌⊎◌, Bool, true, List, [], ◌∷◌, length, Option, Some, None}
 use Rattle.aeg_base.specs.Store.{Store, value_at, written}
 use Rattle.aeg_base.specs.Locks.{lock_number}
 use Rattle.aeg_base.specs.declared.names.Key.{Key}
@@ -26,6 +26,12 @@ abbrev pub ending_of : Plan → Store → Ending
 ending_of (Reads key rest) s = ending_of (rest (value_at s key)) s
 ending_of (Writes key value rest) s = ending_of rest (written s key value)
 ending_of (Ends ending) s = ending
+
+-- run from s, the plan comes by t: that is s itself, or the store after one write of the plan or more
+abbrev pub ComesBy : Plan → Store → Store → Type 0
+ComesBy (Reads key rest) s t = ComesBy (rest (value_at s key)) s t
+ComesBy (Writes key value rest) s t = (t ≡ s) ⊎ ComesBy rest (written s key value) t
+ComesBy (Ends ending) s t = t ≡ s
 
 -- the keys that it touches, in order
 abbrev pub keys_of : Plan → Store → List Key

@@ -19,11 +19,12 @@ pub trait Program: Drop {
     /// Where the request goes on after a call.
     ghost stage_of: { Self → ℕ };
 
-    /// The next action. It is handed the value of the last read, or the answer's code at a resumption, and else none.
+    /// The next action. The declared locks stay. It is handed the value of the last read, or the answer's code at a resumption, and else none.
     fn next(&mut self, last: Option<u64>) -> Result<Action, Memory>
         ensures follows { IfOk result (λ action. Follows (plan self.old last) action (plan self.new) (stage_of self.new)) }
         ensures falls { IfOk result (λ action. IsEnd action ⊎ (budget self.new < budget self.old)) }
         ensures keys { IfOk result NamesKey }
+        ensures locks { locks self.new ≡ locks self.old }
         ensures unchanged { OnErr result (self.new ≡ self.old) };
 
     fn declared(&self) -> LockSet

@@ -1,6 +1,6 @@
 // One segment, action by action.
-ghost use Rattle.std.specs.Prelude.{◌≡◌, IfOk, OnOk};
-ghost use Rattle.svc_api.specs.Plan.{store_after, ending_of};
+ghost use Rattle.std.specs.Prelude.{◌≡◌, IfOk, OnOk, OnErr};
+ghost use Rattle.svc_api.specs.Plan.{store_after, ending_of, ComesBy};
 
 use crate::{Action, Ending, Program};
 use aeg_base::{Cells, Memory};
@@ -13,6 +13,7 @@ pub fn run_segment<P: Program, C: Cells>(
 ) -> Result<Ending, Memory>
     ensures ending { IfOk result (λ ending. ending ≡ ending_of (P.plan prog.old answer) (C.store cells.old)) }
     ensures store { OnOk result (C.store cells.new ≡ store_after (P.plan prog.old answer) (C.store cells.old)) }
+    ensures front { OnErr result (ComesBy (P.plan prog.old answer) (C.store cells.old) (C.store cells.new)) }
     ensures kept { C.start cells.new ≡ C.start cells.old }
 {
     let mut last = answer;

@@ -2,9 +2,9 @@
 ghost use Rattle.std.specs.Prelude.{◌≤◌, OnOk};
 ghost use Rattle.kv_store.specs.Stores.{StaysWithin};
 
-use super::*;
 use aeg_base::limits::KEY_CLASSES;
 use aeg_base::{Cells, Key};
+use kv_store::{Store, UndoList};
 use std::alloc::Global;
 use std::process::Abort;
 use std::test::*;
@@ -20,7 +20,9 @@ const NEVER: Key = Key { class: 7, id: 1 };
 type Pairs = &'static [(Key, u64)];
 
 /// A put, the values afterwards of the keys above, in their order, and the pairs.
-const PUTS: [(Key, u64, [u64; 4], Pairs); 6] = [
+type Put = (Key, u64, [u64; 4], Pairs);
+
+const PUTS: [Put; 6] = [
     (HIGH, 7, [0, 0, 7, 0], &[(HIGH, 7)]),
     (LOW, 5, [5, 0, 7, 0], &[(LOW, 5), (HIGH, 7)]),
     (MIDDLE, 4, [5, 4, 7, 0], &[(LOW, 5), (MIDDLE, 4), (HIGH, 7)]),
@@ -38,31 +40,53 @@ fn values(store: &Store) -> [u64; 4] {
     ]
 }
 
+/// Checks the pairs of a store.
+fn has_pairs(rt: &impl Abort, store: &Store, pairs: &[(Key, u64)]) -> Result<(), Fail> {
+    assert_eq!(rt; store.pairs()?.as_slice(), pairs);
+    Ok(())
+}
+
+/// Makes a put, and checks what the store has then.
+fn holds(rt: &impl Abort, store: &mut Store, row: &Put) -> Result<(), Fail> {
+    let (key, value, held, pairs) = *row;
+    if key.class >= KEY_CLASSES {
+        return Err("a class out of range".into());
+    }
+    store.put(key, value)?;
+    assert_eq!(rt; (values(store), store.len()), (held, pairs.len()));
+    has_pairs(rt, store, pairs)
+}
+
 #[test]
 fn a_store_holds_what_was_put(rt: HostRuntime) -> Result<(), Fail> {
     let mut store = Store::new(rt.alloc());
-    for (key, value, held, pairs) in PUTS {
-        if key.class >= KEY_CLASSES {
-            return Err("a class out of range".into());
-        }
-        store.put(key, value)?;
-        assert_eq!(rt; values(&store), held);
-        assert_eq!(rt; store.pairs()?.as_slice(), pairs);
-        assert_eq!(rt; store.len(), pairs.len());
+    for row in &PUTS {
+        holds(&rt, &mut store, row)?;
     }
+    Ok(())
+}
+
+/// A store with one pair.
+fn with_one(alloc: Global) -> Result<Store, Fail> {
+    let mut store = Store::new(alloc);
+    store.put(HIGH, 7)?;
+    Ok(store)
+}
+
+/// Takes the pair out, and puts in another.
+fn exchange(store: &mut Store) -> Result<(), Fail> {
+    store.put(HIGH, 0)?;
+    store.put(LOW, 5)?;
     Ok(())
 }
 
 #[test]
 fn a_copy_stays_as_it_was(rt: HostRuntime) -> Result<(), Fail> {
-    let mut store = Store::new(rt.alloc());
-    store.put(HIGH, 7)?;
+    let mut store = with_one(rt.alloc())?;
     let copy = store.copy()?;
-    store.put(HIGH, 0)?;
-    store.put(LOW, 5)?;
-    assert_eq!(rt; copy.pairs()?.as_slice(), [(HIGH, 7)].as_slice());
-    assert_eq!(rt; store.pairs()?.as_slice(), [(LOW, 5)].as_slice());
-    Ok(())
+    exchange(&mut store)?;
+    has_pairs(&rt, &copy, &[(HIGH, 7)])?;
+    has_pairs(&rt, &store, &[(LOW, 5)])
 }
 
 /// The pairs before the puts of a list.
@@ -101,7 +125,7 @@ fn shows(
     pairs: &[(Key, u64)],
     changed: &[(Key, u64)],
 ) -> Result<(), Fail> {
-    assert_eq!(rt; store.pairs()?.as_slice(), pairs);
+    has_pairs(rt, store, pairs)?;
     assert_eq!(rt; store.changed(list)?.as_slice(), changed);
     assert_eq!(rt; store.pairs_before(list)?.as_slice(), BEFORE.as_slice());
     Ok(())
@@ -130,23 +154,43 @@ fn before(alloc: Global) -> Result<Store, Fail> {
     Ok(store)
 }
 
+/// Makes the puts of the list.
+fn put_all(rt: &impl Abort, store: &mut Store, list: &mut UndoList) -> Result<(), Fail>
+    requires left { StaysWithin list.old.top list.old.entries store.old.map }
+    requires room { list.old.top ≤ store.old.room }
+    ensures left { OnOk result (StaysWithin list.new.top list.new.entries store.new.map) }
+    ensures room { OnOk result (list.new.top ≤ store.new.room) }
+{
+    let [first, second, third, fourth] = LOGGED;
+    put(rt, store, list, first)?;
+    put(rt, store, list, second)?;
+    put(rt, store, list, third)?;
+    put(rt, store, list, fourth)
+}
+
+/// Takes back all puts but the first, and checks what is shown then. One key was put twice since then, so the order
+/// counts.
+fn back_to_the_first(rt: &impl Abort, store: &mut Store, list: &mut UndoList) -> Result<(), Fail>
+    requires left { StaysWithin list.old.top list.old.entries store.old.map }
+    requires room { list.old.top ≤ store.old.room }
+    ensures left { OnOk result (StaysWithin list.new.top list.new.entries store.new.map) }
+    ensures room { OnOk result (list.new.top ≤ store.new.room) }
+{
+    if list.len() != 4 {
+        return Err("a list of four puts".into());
+    }
+    store.undo_to(list, 1);
+    assert_eq!(rt; list.len(), 1);
+    let (_, _, pairs, changed) = LOGGED[0];
+    shows(rt, store, list, pairs, changed)
+}
+
 #[test]
 fn puts_are_undone(rt: HostRuntime) -> Result<(), Fail> {
     let mut store = before(rt.alloc())?;
     let mut list = UndoList::new(rt.alloc());
-    let [first, second, third, fourth] = LOGGED;
-    put(&rt, &mut store, &mut list, first)?;
-    put(&rt, &mut store, &mut list, second)?;
-    put(&rt, &mut store, &mut list, third)?;
-    put(&rt, &mut store, &mut list, fourth)?;
-    if list.len() != 4 {
-        return Err("a list of four puts".into());
-    }
-    // one key was put twice since then, so the order counts
-    store.undo_to(&mut list, 1);
-    assert_eq!(rt; list.len(), 1);
-    let (_, _, pairs, changed) = first;
-    shows(&rt, &store, &list, pairs, changed)?;
+    put_all(&rt, &mut store, &mut list)?;
+    back_to_the_first(&rt, &mut store, &mut list)?;
     store.undo(&mut list);
     assert_eq!(rt; list.len(), 0);
     shows(&rt, &store, &list, &BEFORE, &[])

@@ -1,6 +1,6 @@
 // The actions of each segment, and the rules that texts break.
-use crate::{BadRequest, BookProg, Booking, read_request};
 use aeg_base::{Bytes, Key, ReqId, Tier};
+use booking::{BadRequest, BookProg, Booking, read_request};
 use std::alloc::Global;
 use std::process::Abort;
 use std::test::Fail;
@@ -306,4 +306,30 @@ fn texts_that_are_no_requests(rt: HostRuntime) {
     for (text, row) in &BAD {
         is_bad(&rt, text, *row);
     }
+}
+
+/// Two requests of the client, and whether their first segments declare a lock of the same key.
+const LOCKING: [(&str, &str, bool); 5] = [
+    ("book 1 2", "open 1 5 10 0", true),
+    ("book 1 2", "look 17", true),
+    ("book 1 2", "cancel 18", true),
+    ("book 1 2", "open 2 5 10 0", false),
+    ("book 1 2", "look 18", false),
+];
+
+/// Whether the first segments of two requests share a lock; none where a text is no request.
+fn share_a_lock(alloc: Global, one: &str, other: &str) -> Result<Option<bool>, Fail> {
+    let (Some(one), Some(other)) = (begun(alloc, one, 0)?, begun(alloc, other, 0)?) else {
+        return Ok(None);
+    };
+    Ok(Some(one.declared().meets(&other.declared())))
+}
+
+#[test]
+fn locks_of_segments(rt: HostRuntime) -> Result<(), Fail> {
+    for (one, other, share) in &LOCKING {
+        let shared = share_a_lock(rt.alloc(), one, other)?;
+        assert_eq!(rt; shared, Some(*share), "{one} and {other}");
+    }
+    Ok(())
 }

@@ -2,9 +2,9 @@
 ghost use Rattle.std.specs.Prelude.{IsTrue};
 ghost use Rattle.one_server.specs.Steps.{IsNamed};
 
-use crate::{Hist, OneServer, StepErr, Told};
 use aeg_base::limits::{CLIENTS, LAST_SEQ};
 use aeg_base::{Bytes, CallNo, ReqId, Tier};
+use one_server::{Hist, OneServer, StepErr, Told};
 use std::alloc::Global;
 use std::process::Abort;
 use std::test::Fail;
@@ -98,7 +98,9 @@ const A_DECLINED_PAYMENT: &[Step] = &[
 
 /// How many steps of the booking were made, a step that is refused then, the text of its request, and the rule that
 /// refuses it.
-const REFUSALS: &[(usize, Hist, &str, u8)] = &[
+type Refusal = (usize, Hist, &'static str, u8);
+
+const REFUSALS: &[Refusal] = &[
     // A client's first request must have number 1.
     (0, Hist::Start(BOOKING, 0), "look 5", 1),
     // A segment that replies can't be given a call number.
@@ -152,31 +154,46 @@ fn telling_of(told: &Told) -> Telling<'_> {
     }
 }
 
-/// A new server that has made these steps, each of which tells what it should.
+/// Makes a step, which tells what it should.
+fn tells(rt: &impl Abort, alloc: Global, server: &mut OneServer, step: &Step) -> Result<(), Fail> {
+    let (hist, text, told) = step;
+    let made = make(rt, alloc, server, hist, text)?;
+    assert_eq!(rt; telling_of(&made), *told, "{hist:?}");
+    Ok(())
+}
+
+/// A new server that has made these steps.
 fn after(rt: &impl Abort, alloc: Global, steps: &[Step]) -> Result<OneServer, Fail> {
     let mut server = OneServer::new(alloc);
-    for (hist, text, told) in steps {
-        let made = make(rt, alloc, &mut server, hist, text)?;
-        assert_eq!(rt; telling_of(&made), *told, "{hist:?}");
+    for step in steps {
+        tells(rt, alloc, &mut server, step)?;
     }
     Ok(server)
+}
+
+fn is_reply(rt: &impl Abort, told: &(ReqId, Bytes), reply: &(ReqId, &[u8])) {
+    assert_eq!(rt; (told.0, told.1.items()), *reply);
 }
 
 /// Checks the server's replies.
 fn has_replied(rt: &impl Abort, server: &OneServer, replies: &[(ReqId, &[u8])]) {
     let told = server.replies();
     assert_eq!(rt; told.len(), replies.len());
-    for (reply, (who, text)) in told.iter().zip(replies) {
-        assert_eq!(rt; (reply.0, reply.1.items()), (*who, *text));
+    for (told, reply) in told.iter().zip(replies) {
+        is_reply(rt, told, reply);
     }
+}
+
+fn is_call(rt: &impl Abort, told: &(Tier, CallNo, Bytes), call: &(Tier, CallNo, &[u8])) {
+    assert_eq!(rt; (told.0, told.1, told.2.items()), *call);
 }
 
 /// Checks the server's nested calls.
 fn has_called(rt: &impl Abort, server: &OneServer, calls: &[(Tier, CallNo, &[u8])]) {
     let told = server.calls();
     assert_eq!(rt; told.len(), calls.len());
-    for (call, (tier, number, text)) in told.iter().zip(calls) {
-        assert_eq!(rt; (call.0, call.1, call.2.items()), (*tier, *number, *text));
+    for (told, call) in told.iter().zip(calls) {
+        is_call(rt, told, call);
     }
 }
 
@@ -215,17 +232,21 @@ fn a_declined_payment_releases_the_seats(rt: HostRuntime) -> Result<(), Fail> {
     Ok(())
 }
 
+fn is_refused(rt: &impl Abort, alloc: Global, refusal: &Refusal) -> Result<(), Fail> {
+    let (count, hist, text, row) = *refusal;
+    if count > A_BOOKING.len() {
+        return Err("the booking has fewer steps".into());
+    }
+    let mut server = after(rt, alloc, &A_BOOKING[..count])?;
+    let made = make(rt, alloc, &mut server, &hist, text);
+    assert_eq!(rt; made.err(), Some(StepErr::Illegal { row }), "{hist:?}");
+    Ok(())
+}
+
 #[test]
 fn steps_that_break_a_rule_are_refused(rt: HostRuntime) -> Result<(), Fail> {
-    let alloc = rt.alloc();
-    for (count, hist, text, row) in REFUSALS {
-        let mut server = after(&rt, alloc, &A_BOOKING[..*count])?;
-        let made = make(&rt, alloc, &mut server, hist, text);
-        assert_eq!(rt;
-            made.err(),
-            Some(StepErr::Illegal { row: *row }),
-            "{hist:?}"
-        );
+    for refusal in REFUSALS {
+        is_refused(&rt, rt.alloc(), refusal)?;
     }
     Ok(())
 }
