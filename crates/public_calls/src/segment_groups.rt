@@ -1,7 +1,7 @@
 // Groups of jobs, worked out by hand.
-use super::*;
 use aeg_base::LockSet;
 use aeg_base::limits::{JOB_SEGMENTS, LOCKS};
+use key_mixer::groups;
 use std::alloc::Global;
 use std::test::*;
 

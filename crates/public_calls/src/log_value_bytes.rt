@@ -1,16 +1,14 @@
-// Values, tokens and records, as they stand in frames and journals.
-ghost use Rattle.log_values.specs.Records.{FitsRecord};
-ghost use Rattle.log_values.specs.Values.{FitsAny};
+// Values and tokens, as they stand in frames and journals.
+ghost use Rattle.log_values.specs.Values.{FitsAny, FitsBack, FitsMid};
 
-use super::*;
 use aeg_base::{Bytes, Key, Value};
+use log_values::{
+    AnyValue, BackValue, MidValue, Token, Verdict, encode_outcome, read_outcome,
+};
 use std::alloc::Global;
 use std::process::Abort;
 use std::test::*;
 use svc_api::Outcome;
-
-/// The record that promises ballot (1, 0), as it stands in a journal.
-const PROMISE: [u8; 6] = [1, 0, 0, 0, 1, 0];
 
 /// What a job leaves that opens trip 1 with 5 seats at a price of 10, and its reply.
 const OPENED: &[u8] = b"\x00\x02\x00\x00\x00\x00\x01\x00\x00\x00\x00\x00\x00\x00\x05\
@@ -18,7 +16,7 @@ const OPENED: &[u8] = b"\x00\x02\x00\x00\x00\x00\x01\x00\x00\x00\x00\x00\x00\x00
 
 const OPENED_PAIRS: [(Key, u64); 2] = [(Key { class: 0, id: 1 }, 5), (Key { class: 1, id: 1 }, 10)];
 
-/// Values of each kind.
+/// Values of each kind: those of the middle log, and then those of a backend's.
 const VALUES: [&[u8]; 7] = [
     b"\x01\x00",
     b"\x01\x01\x01\x00\x00\x00\x01\x0dopen 1 5 10 0",
@@ -48,13 +46,6 @@ const NO_VALUES: [&[u8]; 13] = [
     b"\x05\x00\x00\x00\x01",
     b"\x06",
 ];
-
-/// A record with a fact of each kind: ballot (2, 1) is promised, a verdict is accepted at position 1 and learned there,
-/// and the answer of inventory's call 1 is held.
-const FACTS: &[u8] = b"\x01\x00\x00\x00\x02\x01\
-    \x02\x00\x01\x00\x00\x00\x02\x01\x03\
-    \x03\x00\x01\x03\
-    \x04\x01\x00\x00\x00\x01\x00";
 
 /// Checks that the value is written as these bytes.
 fn is_written(rt: &impl Abort, alloc: Global, value: &AnyValue, bytes: &[u8]) -> Result<(), Fail>
@@ -133,29 +124,90 @@ fn a_token_tells_the_outcome(rt: HostRuntime) -> Result<(), Fail> {
     tells(&rt, rt.alloc(), &token, &OPENED_PAIRS, 1)
 }
 
-/// Checks that the record is written as these bytes.
-fn is_kept(rt: &impl Abort, alloc: Global, kept: &Record, bytes: &[u8]) -> Result<(), Fail>
-    requires { FitsRecord kept.now }
+/// Checks that the value of a middle log is written as these bytes.
+fn is_mid_written(rt: &impl Abort, alloc: Global, value: &MidValue, bytes: &[u8]) -> Result<(), Fail>
+    requires { FitsMid value.now }
 {
     let mut out = Bytes::new(alloc);
-    kept.encode(&mut out)?;
+    value.encode(&mut out)?;
     assert_eq!(rt; out.items(), bytes);
     Ok(())
 }
 
-/// Checks that the bytes are a record of so many facts, which is written so.
-fn is_record(rt: &impl Abort, alloc: Global, bytes: &[u8], count: usize) -> Result<(), Fail> {
-    let Some(record) = Record::decode(alloc, bytes)? else {
-        return Err("a record".into());
+/// Checks that the bytes are a value of a middle log, which is written so and copied.
+fn is_mid(rt: &impl Abort, alloc: Global, bytes: &[u8]) -> Result<(), Fail> {
+    let Some(value) = MidValue::decode(alloc, bytes)? else {
+        return Err("a value".into());
     };
-    assert_eq!(rt; record.facts().len(), count);
-    is_kept(rt, alloc, &record, bytes)
+    let copy = value.copy()?;
+    assert!(rt; value.same(&copy));
+    is_mid_written(rt, alloc, &value, bytes)
 }
 
 #[test]
-fn a_record_is_read_and_written(rt: HostRuntime) -> Result<(), Fail> {
-    is_record(&rt, rt.alloc(), &PROMISE, 1)?;
-    is_record(&rt, rt.alloc(), FACTS, 4)?;
-    assert!(rt; Record::decode(rt.alloc(), &[])?.is_none());
+fn each_value_of_a_middle_log_is_read_and_written(rt: HostRuntime) -> Result<(), Fail> {
+    for bytes in &VALUES[..5] {
+        is_mid(&rt, rt.alloc(), bytes)?;
+    }
+    for bytes in &VALUES[5..] {
+        assert!(rt; MidValue::decode(rt.alloc(), bytes)?.is_none());
+    }
+    Ok(())
+}
+
+/// Checks that the value of a backend's log is written as these bytes.
+fn is_back_written(
+    rt: &impl Abort,
+    alloc: Global,
+    value: &BackValue,
+    bytes: &[u8],
+) -> Result<(), Fail>
+    requires { FitsBack value.now }
+{
+    let mut out = Bytes::new(alloc);
+    value.encode(&mut out)?;
+    assert_eq!(rt; out.items(), bytes);
+    Ok(())
+}
+
+/// Checks that the bytes are a value of a backend's log, which is written so and copied.
+fn is_back(rt: &impl Abort, alloc: Global, bytes: &[u8]) -> Result<(), Fail> {
+    let Some(value) = BackValue::decode(alloc, bytes)? else {
+        return Err("a value".into());
+    };
+    let copy = value.copy()?;
+    assert!(rt; value.same(&copy));
+    is_back_written(rt, alloc, &value, bytes)
+}
+
+#[test]
+fn each_value_of_a_backend_log_is_read_and_written(rt: HostRuntime) -> Result<(), Fail> {
+    for bytes in &VALUES[5..] {
+        is_back(&rt, rt.alloc(), bytes)?;
+    }
+    for bytes in &VALUES[..5] {
+        assert!(rt; BackValue::decode(rt.alloc(), bytes)?.is_none());
+    }
+    Ok(())
+}
+
+/// What a value is, told by its parts.
+fn names_of(value: &MidValue) -> (usize, usize) {
+    match value {
+        MidValue::Batch(entries) => (entries.items().len(), 0),
+        MidValue::Verdict(Verdict::Commit { order, .. }) => (0, order.items().len()),
+        MidValue::Verdict(Verdict::Serial) => (0, 0),
+    }
+}
+
+#[test]
+fn a_value_has_its_parts(rt: HostRuntime) -> Result<(), Fail> {
+    let wanted = [(0, 0), (1, 0), (0, 1), (0, 2), (0, 0)];
+    for i in 0..5 {
+        let Some(value) = MidValue::decode(rt.alloc(), VALUES[i])? else {
+            return Err("a value".into());
+        };
+        assert_eq!(rt; names_of(&value), wanted[i]);
+    }
     Ok(())
 }
