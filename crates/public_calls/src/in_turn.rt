@@ -57,11 +57,7 @@ fn turn_groups<S: Service, G: Gate, T: Task>(
     Ok(())
 }
 
-fn turn_members<S: Service, G: Gate, T: Task>(
-    gate: &G,
-    run: &mut JobRun<'_, S, T>,
-    group: &[u8],
-) {
+fn turn_members<S: Service, G: Gate, T: Task>(gate: &G, run: &mut JobRun<'_, S, T>, group: &[u8]) {
     for i in group {
         turn_segment(gate, run, *i);
     }

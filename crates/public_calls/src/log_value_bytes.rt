@@ -2,9 +2,7 @@
 ghost use Rattle.log_values.specs.Values.{FitsAny, FitsBack, FitsMid};
 
 use aeg_base::{Bytes, Key, Value};
-use log_values::{
-    AnyValue, BackValue, MidValue, Token, Verdict, encode_outcome, read_outcome,
-};
+use log_values::{AnyValue, BackValue, MidValue, Token, Verdict, encode_outcome, read_outcome};
 use std::alloc::Global;
 use std::process::Abort;
 use std::test::*;
@@ -125,7 +123,12 @@ fn a_token_tells_the_outcome(rt: HostRuntime) -> Result<(), Fail> {
 }
 
 /// Checks that the value of a middle log is written as these bytes.
-fn is_mid_written(rt: &impl Abort, alloc: Global, value: &MidValue, bytes: &[u8]) -> Result<(), Fail>
+fn is_mid_written(
+    rt: &impl Abort,
+    alloc: Global,
+    value: &MidValue,
+    bytes: &[u8],
+) -> Result<(), Fail>
     requires { FitsMid value.now }
 {
     let mut out = Bytes::new(alloc);
@@ -191,8 +194,8 @@ fn each_value_of_a_backend_log_is_read_and_written(rt: HostRuntime) -> Result<()
     Ok(())
 }
 
-/// What a value is, told by its parts.
-fn names_of(value: &MidValue) -> (usize, usize) {
+/// How many entries a batch has, and how many numbers the order of a Commit.
+fn counts_of(value: &MidValue) -> (usize, usize) {
     match value {
         MidValue::Batch(entries) => (entries.items().len(), 0),
         MidValue::Verdict(Verdict::Commit { order, .. }) => (0, order.items().len()),
@@ -207,7 +210,7 @@ fn a_value_has_its_parts(rt: HostRuntime) -> Result<(), Fail> {
         let Some(value) = MidValue::decode(rt.alloc(), VALUES[i])? else {
             return Err("a value".into());
         };
-        assert_eq!(rt; names_of(&value), wanted[i]);
+        assert_eq!(rt; counts_of(&value), wanted[i]);
     }
     Ok(())
 }

@@ -38,7 +38,13 @@ fn names_are_read(rt: &impl Abort, from: &mut Cursor<'_>) {
 fn places_are_read(rt: &impl Abort, from: &mut Cursor<'_>) {
     assert_eq!(rt; take_position(from), Some(4_095));
     assert_eq!(rt; take_stage(from), Some(3));
-    assert_eq!(rt; take_ballot(from), Some(Ballot { counter: 1, node: 4 }));
+    assert_eq!(rt;
+        take_ballot(from),
+        Some(Ballot {
+            counter: 1,
+            node: 4
+        })
+    );
     assert!(rt; from.is_empty());
 }
 
@@ -52,7 +58,13 @@ fn fields_are_read_in_their_ranges(rt: HostRuntime) {
 #[test]
 fn a_ballot_is_written(rt: HostRuntime) -> Result<(), Fail> {
     let mut out = Bytes::new(rt.alloc());
-    put_ballot(&mut out, Ballot { counter: 1, node: 4 })?;
+    put_ballot(
+        &mut out,
+        Ballot {
+            counter: 1,
+            node: 4,
+        },
+    )?;
     assert_eq!(rt; out.items(), &FIELDS[17..]);
     Ok(())
 }

@@ -3,7 +3,9 @@ ghost use Rattle.std.specs.Prelude.{◌≤◌, length};
 ghost use Rattle.exec_model.specs.Groups.{IsOrder};
 ghost use Rattle.rollback.specs.Runs.{AreNumbers};
 
-use crate::booking_jobs::{Ask, BOOKS, SAME_TRIP, are_same, blank, is_run, job_of, linked, run_asks, schedule};
+use crate::booking_jobs::{
+    Ask, BOOKS, SAME_TRIP, are_same, blank, is_run, job_of, linked, run_asks, schedule,
+};
 use booking::Booking;
 use exec_core::{Exec, GivenExec, Ran, run_serial};
 use kv_store::Store;

@@ -16,7 +16,6 @@ use kv_store::Store;
 use log_values::{Token, Verdict};
 use rollback::{Spec, settle_cold};
 use std::alloc::Global;
-use std::ptr;
 use std::test::Fail;
 use svc_api::{Ending, Outcome, Service};
 
@@ -178,12 +177,21 @@ fn a_run_with_the_agreed_token_is_kept(rt: HostRuntime) -> Result<(), Fail> {
     Ok(())
 }
 
-/// Where the first end of an outcome lies in memory.
-fn place_of_ends(outcome: &Outcome) -> Result<*const Ending, Fail> {
-    match outcome.ends.items().first() {
-        Some(end) => Ok(end as *const Ending),
-        None => Err("no end".into()),
+fn text_room(ending: Ending) -> usize {
+    match ending {
+        Ending::Reply(text) => text.into_vec().capacity(),
+        Ending::Call { body, .. } => body.into_vec().capacity(),
     }
+}
+
+/// The room that the texts of an outcome take. One that was read from a token has no more than its texts; one that a run
+/// made has what was left when they were written.
+fn room_of(outcome: Outcome) -> usize {
+    let mut room: usize = 0;
+    for ending in outcome.ends.into_vec() {
+        room = room.saturating_add(text_room(ending));
+    }
+    room
 }
 
 /// Settles a run by the Commit of its own token.
@@ -202,24 +210,44 @@ fn own_settled<S: Service>(
     Ok(outcome)
 }
 
-/// Whether a run that is settled by its own token leaves the very outcome that it made.
-fn keeps_its_outcome<S: Service>(alloc: Global, svc: &S, base: &Store) -> Result<bool, Fail>
+/// The room of the outcome that a run makes.
+fn made_room<S: Service>(alloc: Global, svc: &S, base: &Store) -> Result<usize, Fail>
     requires { AreNumbers base.now.map }
 {
     let mut here = base.copy()?;
     let job = job_of(alloc, svc, &BOOKS)?;
     let ran = run_made(alloc, svc, &job, &[], &mut here)?;
-    let made = place_of_ends(&ran.outcome)?;
-    let spec = begun(alloc, job, ran)?;
+    Ok(room_of(ran.outcome))
+}
+
+/// The room of the outcome that is left where such a run is settled by its own token.
+fn kept_room<S: Service>(alloc: Global, svc: &S, base: &Store) -> Result<usize, Fail>
+    requires { AreNumbers base.now.map }
+{
+    let mut here = base.copy()?;
+    let job = job_of(alloc, svc, &BOOKS)?;
+    let spec = speculate(alloc, svc, job, &[], &mut here)?;
     let outcome = own_settled(alloc, svc, spec, &mut here)?;
-    Ok(ptr::eq(place_of_ends(&outcome)?, made))
+    Ok(room_of(outcome))
+}
+
+/// The room of the outcome that is left where another run meets the Commit of such a run.
+fn told_room<S: Service>(alloc: Global, svc: &S, base: &Store) -> Result<usize, Fail>
+    requires { AreNumbers base.now.map }
+{
+    let (_, token) = agreed(alloc, svc, base)?;
+    let verdict = committed(alloc, token)?;
+    let (_, outcome) = other_settled(alloc, svc, base, &verdict)?;
+    Ok(room_of(outcome))
 }
 
 #[test]
 fn a_kept_run_is_not_made_again(rt: HostRuntime) -> Result<(), Fail> {
     let svc = Booking::new(rt.alloc());
     let base = linked(rt.alloc(), &svc)?;
-    assert!(rt; keeps_its_outcome(rt.alloc(), &svc, &base)?);
+    let made = made_room(rt.alloc(), &svc, &base)?;
+    assert_eq!(rt; kept_room(rt.alloc(), &svc, &base)?, made);
+    assert!(rt; told_room(rt.alloc(), &svc, &base)? != made);
     Ok(())
 }
 

@@ -49,7 +49,12 @@ fn threads_meet(rt: HostRuntime) -> Result<(), Fail> {
     Ok(())
 }
 
-fn turned_in_order<S: Service, G: Gate>(alloc: Global, gate: &G, svc: &S, asks: &[Ask]) -> Result<Ran, Fail>
+fn turned_in_order<S: Service, G: Gate>(
+    alloc: Global,
+    gate: &G,
+    svc: &S,
+    asks: &[Ask],
+) -> Result<Ran, Fail>
     requires { length asks.now ≤ 32 }
 {
     let job = job_of(alloc, svc, asks)?;
