@@ -101,9 +101,13 @@ impl<'a, S: Service, T: Task> JobRun<'a, S, T> {
         Ok(Vec::new(alloc))
     }
 
-    /// Segment `i` makes one step, if it runs and its group is at work. Answers whether it runs on.
+    /// Segment `i` makes one step, if it runs and its group is at work. Answers whether it can make another: its group is
+    /// still at work, it runs, and memory was not wanting.
     pub fn turn(&mut self, i: u8) -> bool
         ensures on { IsTrue result → self.new ≡ record self.old { steps = self.old.steps ++ i ∷ [] } }
+        ensures runs { self.new.short ≡ false → result ≡ can_step (state_after T.begins T.segs T.start self.new.steps) i }
+        ensures wanting { self.new.short ≡ true → result ≡ false }
+        ensures idle { self.old.short ≡ true → self.new ≡ self.old }
         ensures made { self.old.short ≡ false → can_step (state_after T.begins T.segs T.start self.old.steps) i ≡ true → (self.new.short ≡ true) ⊎ (self.new.steps ≡ self.old.steps ++ i ∷ []) }
         ensures noted { self.new.short ≡ false → (self.new.steps ≡ self.old.steps) ⊎ (self.new.steps ≡ self.old.steps ++ i ∷ []) }
     {
@@ -124,6 +128,7 @@ impl<'a, S: Service, T: Task> JobRun<'a, S, T> {
     pub fn leave(self, alloc: Global, store: &mut Store) -> Result<Ran, Memory>
         ensures ran { IfOk result (λ ran. IsRan T.start store.new.map (run_job T.begins T.segs T.start ran.steps) ran) }
         ensures steps { self.entry.left ≡ [] → IfOk result (λ ran. ran.steps ≡ self.entry.steps) }
+        ensures afresh { (self.entry.left ≡ [] → ⊥) → IfOk result (λ ran. ran.steps ≡ (run_job T.begins T.segs T.start []).steps) }
         ensures room { IfOk result (λ ran. ran.undo.top ≤ store.new.room) }
         ensures short { self.entry.short ≡ true → IsErr result }
         ensures unchanged { OnErr result (store.new.map ≡ T.start) }

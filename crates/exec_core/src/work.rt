@@ -61,7 +61,7 @@ pub fn begin_work<S: Service>(
     })
 }
 
-/// Segment `i` makes one step, if it runs and its group is at work. Answers whether it runs on.
+/// Segment `i` makes one step, if it runs and its group is at work. Answers whether it can make another.
 pub fn turn_of<S: Service>(
     svc: &S,
     segs: &[Seg],
@@ -73,6 +73,7 @@ pub fn turn_of<S: Service>(
     requires reached { IsReached S.Prog.plan (S.beginning svc.now) segs.now w.old.cells.start w.old }
     ensures reached { OnOk result (IsReached S.Prog.plan (S.beginning svc.now) segs.now w.old.cells.start w.new) }
     ensures on { IfOk result (λ on. on ≡ true → (w.new.m.steps.items ≡ w.old.m.steps.items ++ i ∷ []) × (w.new.at ≡ w.old.at)) }
+    ensures runs { IfOk result (λ on. on ≡ can_step (state_at S.Prog.plan w.new) i) }
     ensures made { OnOk result (can_step (state_at S.Prog.plan w.old) i ≡ true → w.new.m.steps.items ≡ w.old.m.steps.items ++ i ∷ []) }
     ensures noted { OnOk result ((w.new.m.steps.items ≡ w.old.m.steps.items) ⊎ (w.new.m.steps.items ≡ w.old.m.steps.items ++ i ∷ [])) }
     ensures groups { w.new.groups ≡ w.old.groups }

@@ -2,10 +2,6 @@
 #![tactic(auto)]
 
 mod group;
-#[cfg(test)]
-mod in_turn;
 mod locked;
-#[cfg(test)]
-mod tests;
 
 pub use locked::LockedExec;

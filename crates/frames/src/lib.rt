@@ -19,6 +19,3 @@ pub use outbox::Outbox;
 pub use reading::decode;
 pub use turn::{Fault, Idle, RunNote, Turn};
 pub use writing::{encode, encode_log};
-
-#[cfg(test)]
-mod tests;

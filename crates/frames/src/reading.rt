@@ -1,5 +1,5 @@
 // Reading frames.
-ghost use Rattle.std.specs.Prelude.{◌≡◌, IfOk, Some};
+ghost use Rattle.std.specs.Prelude.{◌≡◌, ◌≢◌, IfOk, Some};
 ghost use Rattle.aeg_base.specs.declared.names.End.{End};
 ghost use Rattle.frames.specs.declared.message.Msg.{Msg};
 ghost use Rattle.frames.specs.declared.header.Refused.{Refused};
@@ -24,7 +24,8 @@ pub fn tier_in(from: End) -> Tier
 
 #[tactic(auto, unfolding(crate::specs::Frames::frame_of))]
 fn frame_in(alloc: Global, bytes: &[u8]) -> Result<(Header, Msg), FrameErr>
-    ensures { Decodes result (frame_of bytes.now) }
+    ensures exact { Decodes result (frame_of bytes.now) }
+    ensures unread { (r : Refused) → refusal bytes.now ≡ Some r → r ≢ Refused.Row 6 → result ≡ Err (FrameErr.Refused r) }
 {
     let mut from = Cursor::new(bytes);
     let header = match take_header(&mut from) {
@@ -53,6 +54,9 @@ pub fn decode(alloc: Global, bytes: &[u8]) -> Result<(Header, Msg), FrameErr>
     ensures only { (from : End) (msg : Msg) → IsFrame bytes.now from msg → GivesOrMemory result (header_for from msg, msg) }
     ensures refused { (r : Refused) → IsRefusedBy result r → refusal bytes.now ≡ Some r }
     ensures exact { Decodes result (frame_of bytes.now) }
+
+    // What is refused before the body is read takes no memory.
+    ensures unread { (r : Refused) → refusal bytes.now ≡ Some r → r ≢ Refused.Row 6 → result ≡ Err (FrameErr.Refused r) }
 {
     frame_in(alloc, bytes)
 }

@@ -2,7 +2,5 @@
 #![tactic(auto)]
 
 mod mixer;
-#[cfg(test)]
-mod tests;
 
 pub use mixer::groups;

@@ -32,6 +32,3 @@ pub use misread::Misread;
 pub use order::{is_permutation, put_commit, take_commit};
 pub use record::Record;
 pub use token::{Token, encode_outcome, read_outcome};
-
-#[cfg(test)]
-mod tests;

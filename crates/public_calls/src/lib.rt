@@ -5,12 +5,32 @@
 #[cfg(test)]
 mod backend_calls;
 #[cfg(test)]
+mod booking_jobs;
+#[cfg(test)]
 mod booking_segments;
+#[cfg(test)]
+mod frame_bytes;
+#[cfg(test)]
+mod in_turn;
 #[cfg(test)]
 mod lines_and_words;
 #[cfg(test)]
+mod log_fact_bytes;
+#[cfg(test)]
+mod log_value_bytes;
+#[cfg(test)]
+mod log_value_fields;
+#[cfg(test)]
 mod one_server_steps;
+#[cfg(test)]
+mod runs_by_schedule;
+#[cfg(test)]
+mod segment_groups;
 #[cfg(test)]
 mod segment_runs;
 #[cfg(test)]
+mod speculative_runs;
+#[cfg(test)]
 mod store_puts;
+#[cfg(test)]
+mod threaded_jobs;

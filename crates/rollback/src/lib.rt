@@ -4,8 +4,6 @@
 mod cold;
 mod law;
 mod spec;
-#[cfg(test)]
-mod tests;
 
 pub use cold::settle_cold;
 pub use law::{commit_is_serial, outcomes_have_tokens, runs_keep_numbers};

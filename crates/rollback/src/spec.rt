@@ -1,5 +1,5 @@
 // What a round ran before it was agreed.
-ghost use Rattle.std.specs.Prelude.{◌≡◌, ◌≤◌, Some, IfOk, IfErr, OnErr, IsTrue, length};
+ghost use Rattle.std.specs.Prelude.{◌≡◌, ◌≤◌, Some, IfOk, IfErr, OnErr, IsTrue, false, length};
 ghost use Rattle.std.specs.List.{All};
 ghost use Rattle.kv_store.specs.Stores.{unwound};
 ghost use Rattle.exec_core.specs.Jobs.{BeginsWell};
@@ -56,8 +56,9 @@ impl Spec {
         &self.token
     }
 
-    /// Settles the round by its verdict. A run with a Commit's token is kept; any other is undone, and the verdict
-    /// applied to the store at the job's start. After want of memory the store is the one at the job's start.
+    /// Settles the round by its verdict. A run with a Commit's token is kept, which takes no memory; any other is undone,
+    /// and the verdict applied to the store at the job's start. After want of memory the store is the one at the job's
+    /// start.
     pub fn settle<S: Service>(
         self,
         svc: &S,
@@ -68,6 +69,7 @@ impl Spec {
         requires reads { IsReadable verdict.now (length (job_of self).segs) }
         requires begins { IsSerial verdict.now → All (BeginsWell (S.beginning svc.now)) (job_of self).segs }
         requires few { IsSerial verdict.now → length (job_of self).segs ≤ 32 }
+        ensures kept { HasToken verdict.now (token_of self) → (result ≡ Ok (ran_of self).outcome) × (store.new ≡ store.old) }
         ensures settled { IfOk result (Settled (S.beginning svc.now) (job_of self).segs verdict.now (unwound (ran_of self).undo.entries store.old.map) store.new.map) }
         ensures undone { OnErr result (store.new.map ≡ unwound (ran_of self).undo.entries store.old.map) }
     {
@@ -98,7 +100,8 @@ impl Spec {
     }
 
     fn is_told_by(&self, verdict: &Verdict) -> bool
-        ensures { IsTrue result → HasToken verdict.now (token_of self.now) }
+        ensures yes { IsTrue result → HasToken verdict.now (token_of self.now) }
+        ensures no { result ≡ false → ¬ HasToken verdict.now (token_of self.now) }
     {
         match verdict {
             Verdict::Commit { token, .. } => token.same(&self.token),

@@ -7,6 +7,7 @@ use Rattle.exec_model.proofs.Executor.{turn-less}
 use Rattle.key_mixer.specs.Lists.{lists_of}
 use Rattle.exec_core.specs.States.{whole_of, going, progress_of}
 use Rattle.exec_core.proofs.Finishing.{some_state}
+use Rattle.exec_core.proofs.Going.{not_so, none_on, on_here}
 use Rattle.exec_core.proofs.Noting.{turn_steps, turn_most}
 use Rattle.exec_core.proofs.Underway.{group_at, apart, can_turn, turned, turned_over}
 use Rattle.exec_core.proofs.work.turn_of.Goals as goal
@@ -30,6 +31,13 @@ returns-then-not-contains-clause-made g c can_go =
     let here = group_at (g.S.Service.beginning c.args.svc.now) c.args.segs.now w.groups.items w.at c.index.result.now xs c.requires.few c.requires.reached.groups (search rules) c.index.ensures c.as_slice-group.ensures.value in
     absurd (apart g.S.Prog.Program.plan w xs (drop (w.at + 1) (lists_of w.groups.items)) c.args.i here.here (search rules) can_go)
 
+pub returns-then-not-contains-clause-runs : goal.returns-then-not-contains-clause-runs
+returns-then-not-contains-clause-runs g c =
+    let w = c.args.w.now in
+    let xs = c.as_slice-group.result.now in
+    let here = group_at (g.S.Service.beginning c.args.svc.now) c.args.segs.now w.groups.items w.at c.index.result.now xs c.requires.few c.requires.reached.groups (search rules) c.index.ensures c.as_slice-group.ensures.value in
+    not_so _ (apart g.S.Prog.Program.plan w xs (drop (w.at + 1) (lists_of w.groups.items)) c.args.i here.here (search rules))
+
 pub returns-then-over : goal.returns-then-over
 returns-then-over g c =
     let plan = g.S.Prog.Program.plan in
@@ -48,6 +56,7 @@ returns-then-over g c =
           c.requires.reached can.at refl refl refl c.in_ok-over.ensures.slots c.in_ok-over.ensures.locks c.in_ok-over.ensures.redo_most goes
           e.state e.at e.machine.0 e.machine.1 e.machine.2 e.groups;
       on = λ on. cc;
+      runs = none_on plan v c.next_group.new.w xs c.args.i can.member (c.in_ok-over.ensures.ended yes) e.machine.0;
       made = λ can_go. ap (λ v. v.items) e.machine.3 ∙ ap (λ (t : State). t.steps) (goes (some_state xs) refl) ∙ turn_steps plans u c.args.i can.member (and_parts _ _ can_go).1;
       noted = subst (λ ys. (ys ≡ w.m.steps.items) ⊎ (ys ≡ w.m.steps.items ++ c.args.i ∷ [])) (sym (ap (λ v. v.items) e.machine.3 ∙ ap (λ (t : State). t.steps) (goes (some_state xs) refl))) (turn_most plans u c.args.i can.member);
       groups = e.groups;
@@ -74,6 +83,7 @@ returns g c =
           let after : is_running (progress_of plan v.m.slots.items c.args.i) ≡ true = grind (arith, common_steps) in
           let before : is_running (progress_of plan w.m.slots.items c.args.i) ≡ true = turn-less plans u c.args.i c.args.i (sym (ap (λ (t : State). is_running (t.progress c.args.i)) here) ∙ after) in
           (ap (λ (t : State). t.steps) here ∙ turn_steps plans u c.args.i can.member before, refl);
+      runs = on_here plan v xs (drop (w.at + 1) (lists_of w.groups.items)) c.args.i c.is_running.result can.at can.member (grind (arith, common_steps));
       made = λ can_go. ap (λ (t : State). t.steps) here ∙ turn_steps plans u c.args.i can.member (and_parts _ _ can_go).1;
       noted = subst (λ ys. (ys ≡ w.m.steps.items) ⊎ (ys ≡ w.m.steps.items ++ c.args.i ∷ [])) (sym (ap (λ (t : State). t.steps) here)) (turn_most plans u c.args.i can.member);
       groups = refl;

@@ -1,0 +1,168 @@
+// Frames as bytes, and the packets that a turn sends.
+ghost use Rattle.frames.specs.Frames.{FitsFrame};
+
+use aeg_base::{Ballot, Bytes, End, NodeId, Tier};
+use frames::{
+    FrameErr, Header, Msg, Outbox, Refused, carries, decode, decode_header, encode, encode_log,
+};
+use log_model::PaxMsg;
+use log_values::{AnyValue, BackValue, MidValue, Verdict};
+use std::alloc::Global;
+use std::process::Abort;
+use std::test::*;
+
+const PREPARE: [u8; 13] = [1, 3, 0, 0, 0, 7, 0, 0, 0, 1, 0, 0, 0];
+
+/// A frame of each kind, from 1 on.
+const FRAMES: [&[u8]; 14] = [
+    b"\x01\x01\x03\x01\x00\x0b\x00\x00\x00\x01\x06look 5",
+    b"\x01\x02\x00\x00\x00\x08\x01\x00\x00\x00\x01\x02hi",
+    &PREPARE,
+    b"\x01\x04\x00\x00\x00\x08\x00\x00\x00\x01\x00\x00\x00\x00",
+    b"\x01\x05\x01\x00\x00\x0c\x00\x00\x00\x01\x00\x00\x00\x05\x00\x00\x00\x02",
+    b"\x01\x06\x02\x00\x00\x0c\x00\x00\x00\x01\x00\x00\x00\x05\x00\x00\x00\x02",
+    b"\x01\x07\x00\x01\x00\x02\x00\x00",
+    b"\x01\x08\x00\x00\x00\x03\x00\x01\x03",
+    b"\x01\x09\x00\x00\x00\x06\x00\x00\x00\x00\x00\x00",
+    b"\x01\x0a\x00\x00\x00\x10\x00\x00\x00\x01\x0breserve 1 2",
+    b"\x01\x0b\x01\x00\x00\x05\x00\x00\x00\x01\x00",
+    b"\x01\x0c\x00\x00\x00\x06\x01\x00\x00\x00\x01\x00",
+    b"\x01\x0d\x00\x00\x00\x04\x00\x00\x00\x02",
+    b"\x01\x0e\x02\x04\x00\x02\x10\x00",
+];
+
+/// Checks that the message is written as these bytes.
+fn is_written_so(
+    rt: &impl Abort,
+    alloc: Global,
+    from: End,
+    msg: &Msg,
+    bytes: &[u8],
+) -> Result<(), Fail>
+    requires { FitsFrame from msg.now }
+{
+    let again = encode(alloc, from, msg)?;
+    assert_eq!(rt; again.items(), bytes);
+    Ok(())
+}
+
+fn is_frame(rt: &impl Abort, alloc: Global, bytes: &[u8]) -> Result<(), Fail> {
+    let Ok((header, msg)) = decode(alloc, bytes) else {
+        return Err("a frame".into());
+    };
+    is_written_so(rt, alloc, header.from, &msg, bytes)
+}
+
+fn is_short(alloc: Global, bytes: &[u8]) -> bool {
+    let read = decode(alloc, bytes);
+    matches!(read, Err(FrameErr::Refused(Refused::Short)))
+}
+
+#[test]
+fn each_kind_is_read_and_written(rt: HostRuntime) -> Result<(), Fail> {
+    for bytes in FRAMES {
+        is_frame(&rt, rt.alloc(), bytes)?;
+    }
+    Ok(())
+}
+
+fn fronts_are_short(alloc: Global, bytes: &[u8]) -> bool {
+    for n in 0..bytes.len() {
+        if !is_short(alloc, &bytes[..n]) {
+            return false;
+        }
+    }
+    true
+}
+
+#[test]
+fn prefixes_are_short(rt: HostRuntime) {
+    for bytes in FRAMES {
+        assert!(rt; fronts_are_short(rt.alloc(), bytes));
+    }
+}
+
+/// Frames that are damaged, each with the row that refuses it.
+const DAMAGED: [(&[u8], u8); 6] = [
+    (&[0, 3, 0, 0, 0, 7, 0, 0, 0, 1, 0, 0, 0], 1),
+    (&[1, 15, 0, 0, 0, 7, 0, 0, 0, 1, 0, 0, 0], 2),
+    (&[1, 3, 0, 5, 0, 7, 0, 0, 0, 1, 0, 0, 0], 3),
+    (&[1, 3, 0, 0, 0x20, 1, 0, 0, 0, 1, 0, 0, 0], 4),
+    (&[1, 3, 0, 0, 0, 7, 0, 0, 0, 1, 0, 0, 0, 0], 5),
+    (&[1, 3, 0, 0, 0, 7, 0, 0, 0, 0, 0, 0, 0], 6),
+];
+
+fn is_refused(alloc: Global, bytes: &[u8], row: u8) -> bool {
+    let read = decode(alloc, bytes);
+    matches!(read, Err(FrameErr::Refused(Refused::Row(found))) if found == row)
+}
+
+#[test]
+fn damaged_frames_name_their_rows(rt: HostRuntime) {
+    for (bytes, row) in DAMAGED {
+        assert!(rt; is_refused(rt.alloc(), bytes, row));
+    }
+    assert!(rt; is_short(rt.alloc(), &PREPARE[..12]));
+}
+
+#[test]
+fn a_header_is_read_alone(rt: HostRuntime) {
+    let read = decode_header(&PREPARE);
+    assert!(rt;
+        matches!(
+            read,
+            Ok(Header {
+                kind: 3,
+                len: 7,
+                ..
+            })
+        )
+    );
+}
+
+/// The first node of the middle tier.
+const FIRST: NodeId = NodeId {
+    tier: Tier::Mid,
+    index: 0,
+};
+
+#[test]
+fn a_message_of_a_log_is_written(rt: HostRuntime) -> Result<(), Fail> {
+    let ballot = Ballot {
+        counter: 1,
+        node: 0,
+    };
+    let frame = encode_log(rt.alloc(), FIRST, &PaxMsg::Prepare(ballot, 0))?;
+    assert_eq!(rt; frame.items(), PREPARE.as_slice());
+    Ok(())
+}
+
+#[test]
+fn a_log_has_values_of_its_kind(rt: HostRuntime) {
+    let serial = AnyValue::Mid(MidValue::Verdict(Verdict::Serial));
+    let settle = AnyValue::Back(BackValue::Settle { floor: 2 });
+    assert!(rt; carries(Tier::Mid, 1, &serial));
+    assert!(rt; !carries(Tier::Mid, 0, &serial));
+    assert!(rt; !carries(Tier::Inv, 1, &serial));
+    assert!(rt; carries(Tier::Pay, 0, &settle));
+    assert!(rt; !carries(Tier::Mid, 0, &settle));
+}
+
+fn three_packets(alloc: Global) -> Result<Outbox, Fail> {
+    let mut outbox = Outbox::new(alloc);
+    for client in 1..4 {
+        outbox.push(End::Client(client), Bytes::new(alloc))?;
+    }
+    Ok(outbox)
+}
+
+#[test]
+fn packets_go_in_their_order(rt: HostRuntime) -> Result<(), Fail> {
+    let mut outbox = three_packets(rt.alloc())?;
+    assert_eq!(rt; outbox.items().len(), 3);
+    outbox.truncate(2);
+    let packets = outbox.into_vec();
+    assert_eq!(rt; packets.len(), 2);
+    assert_eq!(rt; packets[1].0, End::Client(2));
+    Ok(())
+}
