@@ -8,3 +8,5 @@ mod acceptors_and_learners;
 mod marks;
 #[cfg(test)]
 mod message_copies;
+#[cfg(test)]
+mod one_log;
