@@ -5,8 +5,12 @@
 #[cfg(test)]
 mod acceptors_and_learners;
 #[cfg(test)]
+mod journals_of_facts;
+#[cfg(test)]
 mod marks;
 #[cfg(test)]
 mod message_copies;
 #[cfg(test)]
 mod one_log;
+#[cfg(test)]
+mod scripts_and_packets;
