@@ -1,5 +1,5 @@
 -- Which lists of records a disk stands for.
-use Rattle.std.proofs.Common.{◌≡◌, ℕ, ◌+◌, ◌≤◌, List, [], ◌∷◌, length, get_or, Bool, true, false, refl, sym, ap, ◌∙◌, subst, arith}
+use Rattle.std.proofs.Common.{◌≡◌, ℕ, ◌+◌, ◌≤◌, List, [], ◌∷◌, length, get_or, true, refl, sym, ap, ◌∙◌, subst, arith}
 use Rattle.aeg_disk.specs.Disk.{DiskState, Image, IsImage, Later, Blank, SameContent}
 use Rattle.aeg_disk.proofs.Images.{image_same}
 use Rattle.node_journal.specs.Journal.{records, size_of, Ends}
@@ -51,29 +51,6 @@ same_stands lists a b h same tells = record {
 
 pub same_facts : (rs : List (List Fact)) (a b : DiskState) (at : ℕ) → HasFacts rs a at → SameContent a b → HasFacts rs b at
 same_facts rs a b at h same = record { images = λ c i. h.images c (image_same a b c same i); read = ap records same.bytes ∙ h.read; long = h.long }
-
--- arming a disk and putting the power back change no content
-pub armed_same : (a b : DiskState) (nth : ℕ) (keep : Bool) → b ≡ record a { armed = nth; keep = keep } → SameContent a b × (b.tells ≡ a.tells)
-armed_same a b nth keep e = (
-  record {
-    bytes = ap (λ (s : DiskState). s.bytes) e;
-    kept = ap (λ (s : DiskState). s.kept) e;
-    ranges = ap (λ (s : DiskState). s.ranges) e;
-    past = ap (λ (s : DiskState). s.past) e;
-  },
-  ap (λ (s : DiskState). s.tells) e,
-)
-
-pub powered_same : (a b : DiskState) → b ≡ record a { stopped = false; armed = 0 } → SameContent a b × (b.tells ≡ a.tells)
-powered_same a b e = (
-  record {
-    bytes = ap (λ (s : DiskState). s.bytes) e;
-    kept = ap (λ (s : DiskState). s.kept) e;
-    ranges = ap (λ (s : DiskState). s.ranges) e;
-    past = ap (λ (s : DiskState). s.past) e;
-  },
-  ap (λ (s : DiskState). s.tells) e,
-)
 
 -- what a crash at any moment of an opening leaves
 pub still_stands : (lists : List (List (List Fact))) (a b : DiskState) → StandsFor lists a → LeavesOnly a b (WasThere a) → Later a b → StandsFor lists b

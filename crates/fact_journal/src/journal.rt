@@ -2,7 +2,7 @@
 ghost use Rattle.std.specs.Prelude.{◌≡◌, ◌⊎◌, ◌↔◌, ℕ, ◌+◌, ◌-◌, ◌≤◌, ◌^◌, min, List, [], true, false, length, IfOk, OnOk, OnErr};
 ghost use Rattle.std.specs.List.{AllByRecursion};
 ghost use Rattle.aeg_disk.specs.Disk.{Rose, Later};
-ghost use Rattle.node_journal.specs.Append.{LeavesOnly};
+ghost use Rattle.node_journal.specs.Append.{LeavesOnly, IsFaultless};
 ghost use Rattle.node_journal.specs.Opening.{WasThere};
 ghost use Rattle.log_model.specs.World.{writes};
 ghost use Rattle.log_values.specs.declared.fact.Fact.{Fact};
@@ -98,6 +98,8 @@ impl FactJournal {
 
         // It doesn't give up by itself: either the disk has failed, or it stands stopped.
         ensures cause { result ≡ Err AppendErr.Disk → ((D.state disk.new).stopped ≡ true) ⊎ Rose (D.state disk.old).faults (D.state disk.new).faults }
+        // And what the disk failed is answered as that.
+        ensures told { (result ≡ Err AppendErr.Disk) ⊎ IsFaultless (D.state disk.old) (D.state disk.new) }
         ensures later { Later (D.state disk.old) (D.state disk.new) }
     {
         if facts.facts().is_empty() {
@@ -135,6 +137,8 @@ impl FactJournal {
         ensures any_moment { (D.state disk.old).tells ≡ true → LeavesOnly (D.state disk.old) (D.state disk.new) (WasThere (D.state disk.old)) }
 
         ensures cause { result ≡ Err OpenErr.Disk → ((D.state disk.new).stopped ≡ true) ⊎ Rose (D.state disk.old).faults (D.state disk.new).faults }
+        // And what the disk failed is answered as that.
+        ensures told { (result ≡ Err OpenErr.Disk) ⊎ IsFaultless (D.state disk.old) (D.state disk.new) }
         ensures later { Later (D.state disk.old) (D.state disk.new) }
     {
         match open_on(alloc, disk) {

@@ -9,6 +9,3 @@ mod reading;
 pub use journal::FactJournal;
 pub use laws::{few_facts_are_short, fitting_facts, fitting_records, refusals, standing_disks};
 pub use node_journal::{AppendErr, OpenErr};
-
-#[cfg(test)]
-mod tests;

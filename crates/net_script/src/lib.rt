@@ -11,8 +11,6 @@ mod placing;
 mod refusal;
 mod script;
 mod soup;
-#[cfg(test)]
-mod tests;
 mod words;
 
 pub use client_end::ClientEnd;

@@ -1,5 +1,5 @@
 // The list of all packets.
-ghost use Rattle.std.specs.Prelude.{◌≡◌, ◌<◌, ◌≤◌, ◌++◌, ◌∷◌, [], length, slice_get, option_map, OnOk, OnErr, IfOk, IfSome};
+ghost use Rattle.std.specs.Prelude.{◌≡◌, ◌≢◌, ◌<◌, ◌≤◌, ◌++◌, ◌∷◌, [], length, slice_get, option_map, OnOk, OnErr, IfOk, IfSome, IfNone};
 ghost use Rattle.net_script.specs.Soups.{packet_of, IsIn, HasGrown};
 
 use aeg_base::limits::PACKETS;
@@ -40,7 +40,8 @@ impl Model for Soup {
 /// The packet with these bytes, where they are those of the last one.
 fn again(run: &[u8], last: Option<&Sent>, to: End, bytes: &[u8]) -> Option<Sent>
     requires { IfSome last (λ sent. IsIn run.now sent.now) }
-    ensures { IfSome result (λ sent. (packet_of run.now sent ≡ (to, bytes.now)) × IsIn run.now sent) }
+    ensures same { IfSome result (λ sent. (packet_of run.now sent ≡ (to, bytes.now)) × IsIn run.now sent) }
+    ensures other { IfNone result (IfSome last.entry (λ sent. (packet_of run.now sent.now).1 ≢ bytes.now)) }
 {
     let last = last?;
     let mine = &run[last.from as usize..last.until as usize];

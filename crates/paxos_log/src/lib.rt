@@ -9,6 +9,3 @@ mod turns;
 
 pub use log_model::{Fact, LogIdle, LogTurn, Offering, PaxMsg};
 pub use tier_log::TierLog;
-
-#[cfg(test)]
-mod tests;

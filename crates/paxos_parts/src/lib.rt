@@ -15,6 +15,3 @@ pub use log_model::{Fact, PaxMsg};
 pub use members::Members;
 pub use seen::Seen;
 pub use vote::Vote;
-
-#[cfg(test)]
-mod tests;

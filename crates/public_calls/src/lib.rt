@@ -3,6 +3,8 @@
 #![tactic(auto)]
 
 #[cfg(test)]
+mod acceptors_and_learners;
+#[cfg(test)]
 mod backend_calls;
 #[cfg(test)]
 mod booking_jobs;
@@ -13,6 +15,8 @@ mod frame_bytes;
 #[cfg(test)]
 mod in_turn;
 #[cfg(test)]
+mod journals_of_facts;
+#[cfg(test)]
 mod lines_and_words;
 #[cfg(test)]
 mod log_fact_bytes;
@@ -21,9 +25,17 @@ mod log_value_bytes;
 #[cfg(test)]
 mod log_value_fields;
 #[cfg(test)]
+mod marks;
+#[cfg(test)]
+mod message_copies;
+#[cfg(test)]
+mod one_log;
+#[cfg(test)]
 mod one_server_steps;
 #[cfg(test)]
 mod runs_by_schedule;
+#[cfg(test)]
+mod scripts_and_packets;
 #[cfg(test)]
 mod segment_groups;
 #[cfg(test)]

@@ -3,10 +3,10 @@ ghost use Rattle.std.specs.Prelude.{◌≡◌, ◌≤◌, length, IfOk};
 ghost use Rattle.std.specs.List.{AllByRecursion};
 ghost use Rattle.log_values.specs.Records.{record_text, FitsFact};
 
-use crate::{AppendErr, FactJournal, OpenErr};
 use aeg_base::limits::RECORD_BYTES;
 use aeg_base::{Ballot, Bytes, Memory, Seq, Tier};
 use aeg_disk::{Device, Disk, DiskErr, MemDisk, SureDisk};
+use fact_journal::{AppendErr, FactJournal, OpenErr};
 use log_values::{AnyValue, Fact, MidValue, Record, Verdict};
 use std::alloc::Global;
 use std::test::Fail;
@@ -89,7 +89,8 @@ fn a_journal_with_one_promise(rt: HostRuntime) -> Result<(), Fail> {
         bytes.items(),
         [1, 0, 0, 0, 6, 1, 0, 0, 0, 1, 0, 0].as_slice()
     );
-    let (_journal, facts) = FactJournal::open_on(alloc, &mut disk, Tier::Mid)?;
+    let (journal, facts) = FactJournal::open_on(alloc, &mut disk, Tier::Mid)?;
+    assert_eq!(rt; journal.place(), 11);
     assert_eq!(rt; facts.len(), 1);
     assert!(rt; matches!(&facts[0], Fact::Promised(b) if b.counter == 1 && b.node == 0));
     Ok(())

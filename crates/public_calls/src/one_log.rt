@@ -2,36 +2,16 @@
 ghost use Rattle.std.specs.Prelude.{◌≡◌, ◌+◌, ◌*◌, ◌<◌};
 ghost use Rattle.paxos_log.specs.TierLog.{HasPlace, new_log};
 
-use super::*;
-use aeg_base::{Ballot, Memory, Pos, Value};
+use crate::marks::{FIRST, Mark, VALUE};
+use aeg_base::{Ballot, Memory, Pos};
+use paxos_log::{Fact, LogIdle, LogTurn, Offering, PaxMsg, TierLog};
 use std::process::Abort;
-use std::test::*;
-
-/// A value that a log agrees on.
-#[derive(Clone, Copy, Debug, PartialEq)]
-struct Mark(u8);
-
-impl Value for Mark {
-    fn copy(&self) -> Result<Self, Memory> {
-        Ok(*self)
-    }
-
-    fn same(&self, other: &Self) -> bool {
-        self.0 == other.0
-    }
-}
-
-const FIRST: Ballot = Ballot {
-    counter: 1,
-    node: 0,
-};
+use std::test::Fail;
 
 const HIGHER: Ballot = Ballot {
     counter: 2,
     node: 1,
 };
-
-const VALUE: Mark = Mark(7);
 
 const PREPARE: PaxMsg<Mark> = PaxMsg::Prepare(FIRST, 0);
 

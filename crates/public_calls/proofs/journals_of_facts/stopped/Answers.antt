@@ -1,6 +1,7 @@
 use Rattle.std.proofs.Common.{sym, ◌∙◌}
-use Rattle.fact_journal.proofs.Standing.{armed_same, same_facts}
-use Rattle.fact_journal.proofs.tests.stopped.Goals as goal
+use Rattle.fact_journal.proofs.Standing.{same_facts}
+use Rattle.public_calls.proofs.ArmedDisks.{armed_same}
+use Rattle.public_calls.proofs.journals_of_facts.stopped.Goals as goal
 
 pub append-requires-clause-ready : goal.append-requires-clause-ready
 append-requires-clause-ready g c = λ t.

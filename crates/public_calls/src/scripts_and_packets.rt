@@ -2,9 +2,9 @@
 ghost use Rattle.std.specs.Prelude.{◌+◌, ◌<◌, ◌≤◌};
 ghost use Rattle.aeg_base.specs.declared.limits.TheConstants.{LAST_SEQ};
 
-use crate::{ClientEnd, CutLine, Event, Script, ScriptErr, Soup, parse_script};
 use aeg_base::limits::INPUT_BYTES;
-use aeg_base::{Bytes, End, NodeId, Tier};
+use aeg_base::{Bytes, End, NodeId, Seq, Tier};
+use net_script::{ClientEnd, CutLine, Event, Script, ScriptErr, Soup, parse_script};
 use std::alloc::Global;
 use std::process::Abort;
 use std::test::Fail;
@@ -125,6 +125,13 @@ fn nodes_are_cut_crashed_restarted_and_wiped(rt: HostRuntime) -> Result<(), Fail
     Ok(())
 }
 
+#[test]
+fn a_script_takes_over_what_was_read(rt: HostRuntime) {
+    let script = Script::of(1, 2, Seq::new(rt.alloc()));
+    assert_eq!(rt; (script.u(), script.depth()), (1, 2));
+    assert!(rt; script.event(0).is_none());
+}
+
 fn text_of(alloc: Global, text: &str) -> Result<Bytes, Fail> {
     Ok(Bytes::of(Vec::from_slice(alloc, text.as_bytes())?))
 }
@@ -185,6 +192,7 @@ fn closes(rt: &impl Abort, client: &mut ClientEnd)
 #[test]
 fn a_client_has_one_open_request(rt: HostRuntime) -> Result<(), Fail> {
     let mut client = ClientEnd::new(rt.alloc(), 3);
+    assert_eq!(rt; client.client(), 3);
     let look = text_of(rt.alloc(), "look 5")?;
     submits(&rt, &mut client, &look, Some(1))?;
     submits(&rt, &mut client, &look, None)?;

@@ -1,32 +1,13 @@
-use super::*;
-use aeg_base::{Ballot, Memory, Value};
-use std::test::*;
-
-/// A value that is accepted and learned.
-#[derive(Clone, Copy, Debug, PartialEq)]
-struct Mark(u8);
-
-impl Value for Mark {
-    fn copy(&self) -> Result<Self, Memory> {
-        Ok(*self)
-    }
-
-    fn same(&self, other: &Self) -> bool {
-        self.0 == other.0
-    }
-}
-
-const FIRST: Ballot = Ballot {
-    counter: 1,
-    node: 0,
-};
+// An acceptor, a learner, and sets of nodes.
+use crate::marks::{FIRST, Mark, VALUE};
+use aeg_base::Ballot;
+use paxos_parts::{Acceptance, Acceptor, Learner, Members, Prepared, Seen, Vote};
+use std::test::Fail;
 
 const HIGHER: Ballot = Ballot {
     counter: 1,
     node: 2,
 };
-
-const VALUE: Mark = Mark(7);
 
 #[test]
 fn an_acceptor_promises_and_accepts(rt: HostRuntime) -> Result<(), Fail> {
@@ -78,4 +59,46 @@ fn members_and_ballots_are_counted(rt: HostRuntime) {
     let seen = Seen::new(3).with(0, FIRST).with(1, HIGHER).with(2, FIRST);
     assert_eq!(rt; seen.count(FIRST), 2);
     assert_eq!(rt; seen.at(1), Some(HIGHER));
+}
+
+/// The vote for the value at position 1, with the first ballot.
+fn voted() -> Vote<Mark> {
+    Vote {
+        at: 1,
+        ballot: FIRST,
+        value: VALUE,
+    }
+}
+
+#[test]
+fn a_restored_acceptor_weighs_by_its_vote(rt: HostRuntime) -> Result<(), Fail> {
+    let acceptor = Acceptor::restored(FIRST, Some(voted()));
+    assert!(rt; acceptor.has_voted(FIRST, 1));
+    assert_eq!(rt; acceptor.weigh(FIRST, 1), Acceptance::Again);
+    assert_eq!(rt; acceptor.weigh(HIGHER, 1), Acceptance::Accepted);
+    assert_eq!(rt; acceptor.report(1)?, Some((FIRST, VALUE)));
+    assert!(rt; matches!(acceptor.answer(HIGHER, 2)?, Prepared::Promised(None)));
+    Ok(())
+}
+
+#[test]
+fn an_acceptor_raises_its_promise_and_votes(rt: HostRuntime) {
+    let mut acceptor = Acceptor::new();
+    acceptor.raise(HIGHER);
+    assert_eq!(rt; acceptor.weigh(FIRST, 0), Acceptance::Stale(HIGHER));
+    acceptor.vote(HIGHER, 0, VALUE);
+    assert_eq!(rt; acceptor.promised(), HIGHER);
+    assert!(rt; acceptor.has_voted(HIGHER, 0));
+}
+
+#[test]
+fn a_learner_notes_who_accepted(rt: HostRuntime) -> Result<(), Fail> {
+    let mut learner = Learner::new(rt.alloc(), 1);
+    assert_eq!(rt; learner.faults(), 1);
+    learner.note(0, FIRST);
+    assert!(rt; !learner.completes(0, FIRST));
+    assert!(rt; learner.completes(2, FIRST));
+    learner.learn(VALUE)?;
+    assert_eq!(rt; learner.learned(0), Some(&VALUE));
+    Ok(())
 }
