@@ -1,5 +1,5 @@
 -- How a script's run goes on as it is written.
-use Rattle.std.proofs.Common.{◌≡◌, ℕ, ◌+◌, ◌<◌, ◌≤◌, inl, inr, Bool, cond, List, [], ◌∷◌, ◌++◌, drop, length, Option, Some, None, Result, Ok, Err, refl, sym, ap, subst, ◌∙◌, append-nil, zero, suc, arith}
+use Rattle.std.proofs.Common.{◌≡◌, ℕ, ◌+◌, ◌<◌, ◌≤◌, inl, inr, Bool, false, cond, List, [], ◌∷◌, ◌++◌, drop, length, Option, Some, None, Result, Ok, Err, refl, sym, ap, subst, ◌∙◌, append-nil, zero, suc, arith}
 use Rattle.std.specs.Prelude.{slice_get}
 use Rattle.aeg_base.specs.declared.limits.TheConstants.{PACKETS_BEFORE}
 use Rattle.aeg_disk.specs.Disk.{DiskState}
@@ -29,11 +29,11 @@ use Rattle.aegean_main.specs.declared.playing.Halt.TheVariants as halts
 -- ONE CALL OF A SCRIPT'S RUN
 
 -- a run in the tiers of the script
-abbrev pub run_in : Script → List TraceEvent → Place → Run
-run_in script es place = record { u = script.u; depth = script.depth; trace = es; place = place }
+abbrev pub run_in : Script → List TraceEvent → Place → Bool → Run
+run_in script es place ended = record { u = script.u; depth = script.depth; trace = es; place = place; has_ended = ended }
 
-same_run : (script : Script) (r : Run) → r.u ≡ script.u → r.depth ≡ script.depth → r ≡ run_in script r.trace r.place
-same_run script r e f = λ i. record { u = e i; depth = f i; trace = r.trace; place = r.place }
+same_run : (script : Script) (r : Run) → r.u ≡ script.u → r.depth ≡ script.depth → r ≡ run_in script r.trace r.place r.has_ended
+same_run script r e f = λ i. record { u = e i; depth = f i; trace = r.trace; place = r.place; has_ended = r.has_ended }
 
 -- a call that added its lines to a list that was empty
 pub made_alone : (old new : Run) (disks_before disks_now : List DiskState) (room lines bytes : List ℕ) (line : Event) (answer : Result Bool Stop) → room ≡ [] → bytes ≡ lines → Applies old new disks_before disks_now room lines line answer
@@ -56,12 +56,12 @@ record Moves (script : Script) (es : List TraceEvent) (new : Run) (left : List N
 abbrev pub turn_in : Script → List TraceEvent → Place → Event → Turned
 turn_in script es place line = turn (tiers script) (world (tiers script) es) place line
 
-moves_by : (script : Script) (number : ℕ) (line : Event) (rest : List Numbered) (es : List TraceEvent) (place : Place) (new : Run) (disks_first disks_before disks_now : List DiskState) (bytes : List ℕ) (again : Bool) (o : Option TraceEvent)
+moves_by : (script : Script) (number : ℕ) (line : Event) (rest : List Numbered) (es : List TraceEvent) (place : Place) (ended : Bool) (new : Run) (disks_first disks_before disks_now : List DiskState) (bytes : List ℕ) (again : Bool) (o : Option TraceEvent)
     → IsBefore (tiers script) script es place ((number, line) ∷ rest) → KeepsLimit script es → DisksStand script es disks_first disks_before → (turn_in script es place line).event ≡ o
-    → AppliesBy (run_in script es place) new disks_before disks_now [] bytes line (turn_in script es place line).place o (Ok again) → Moves script es new (cond again ((number, line) ∷ rest) rest) bytes disks_first disks_now
-moves_by script number line rest es place new disks_first disks_before disks_now bytes again None b k d e a =
+    → AppliesBy (run_in script es place ended) new disks_before disks_now [] bytes line (turn_in script es place line).place o (Ok again) → Moves script es new (cond again ((number, line) ∷ rest) rest) bytes disks_first disks_now
+moves_by script number line rest es place ended new disks_first disks_before disks_now bytes again None b k d e a =
     let at : Place = (turn_in script es place line).place in
-    let here : Moves script es (at_place (run_in script es place) at) rest [] disks_first disks_before = record {
+    let here : Moves script es (at_place (run_in script es place ended) at) rest [] disks_first disks_before = record {
       u = refl;
       depth = refl;
       before = before_rest (tiers script) script es place (number, line) rest e b;
@@ -74,11 +74,11 @@ moves_by script number line rest es place new disks_first disks_before disks_now
     let Q : List ℕ → Type 0 = λ z. Moves script es new rest z disks_first disks_now in
     let R : Bool → Type 0 = λ z. Moves script es new (cond z ((number, line) ∷ rest) rest) bytes disks_first disks_now in
     subst R (sym a.3) (subst Q (sym a.2) (subst D (sym a.1) (subst P (sym a.0) here)))
-moves_by script number line rest es place new disks_first disks_before disks_now bytes again (Some due) b k d e a =
+moves_by script number line rest es place ended new disks_first disks_before disks_now bytes again (Some due) b k d e a =
     let at : Place = (turn_in script es place line).place in
-    let m : MakesEvent (run_in script es place) new disks_before disks_now [] bytes due at = a.1 in
+    let m : MakesEvent (run_in script es place ended) new disks_before disks_now [] bytes due at = a.1 in
     let A : Run → Type 0 = λ r. AreDisks (world_of r) disks_now in
-    let here : Moves script es (with_event (run_in script es place) m.event at) (left_of (number, line) rest) bytes disks_first disks_now = record {
+    let here : Moves script es (with_event (run_in script es place ended) m.event at) (left_of (number, line) rest) bytes disks_first disks_now = record {
       u = refl;
       depth = refl;
       before = before_more (tiers script) script es place (number, line) rest due m.event e m.becomes m.finds b;
@@ -94,7 +94,7 @@ moves : (script : Script) (number : ℕ) (line : Event) (rest : List Numbered) (
     → Stands script old ((number, line) ∷ rest) disks_first disks_before start now → Applies old new disks_before disks_now [] bytes line (Ok again) → Moves script old.trace new (cond again ((number, line) ∷ rest) rest) bytes disks_first disks_now
 moves script number line rest disks_first disks_before disks_now start now old new bytes again s a =
     let P : Run → Type 0 = λ r. Applies r new disks_before disks_now [] bytes line (Ok again) in
-    moves_by script number line rest old.trace old.place new disks_first disks_before disks_now bytes again (turn_in script old.trace old.place line).event s.before s.keeps s.disks refl (subst P (same_run script old s.u s.depth) a)
+    moves_by script number line rest old.trace old.place old.has_ended new disks_first disks_before disks_now bytes again (turn_in script old.trace old.place line).event s.before s.keeps s.disks refl (subst P (same_run script old s.u s.depth) a)
 
 -- its bytes were written
 pub stands_on : (script : Script) (number : ℕ) (line : Event) (rest : List Numbered) (disks_first disks_before disks_now : List DiskState) (start before now : Option (List ℕ)) (old new : Run) (again : Bool)
@@ -138,11 +138,11 @@ breaks_off script number line rest disks_first disks_before disks_now start befo
     )
 
 -- an event is next, and too many packets were sent
-overflows_by : (script : Script) (number : ℕ) (line : Event) (rest : List Numbered) (es : List TraceEvent) (place : Place) (new : Run) (disks_before disks_now : List DiskState) (bytes : List ℕ) (o : Option TraceEvent)
+overflows_by : (script : Script) (number : ℕ) (line : Event) (rest : List Numbered) (es : List TraceEvent) (place : Place) (ended : Bool) (new : Run) (disks_before disks_now : List DiskState) (bytes : List ℕ) (o : Option TraceEvent)
     → IsBefore (tiers script) script es place ((number, line) ∷ rest) → KeepsLimit script es → (turn_in script es place line).event ≡ o
-    → AppliesBy (run_in script es place) new disks_before disks_now [] bytes line (turn_in script es place line).place o (Err stops.Limit) → Overflows script es × (disks_now ≡ disks_before)
-overflows_by script number line rest es place new disks_before disks_now bytes None b k e a = absurd a
-overflows_by script number line rest es place new disks_before disks_now bytes (Some event) b k e a =
+    → AppliesBy (run_in script es place ended) new disks_before disks_now [] bytes line (turn_in script es place line).place o (Err stops.Limit) → Overflows script es × (disks_now ≡ disks_before)
+overflows_by script number line rest es place ended new disks_before disks_now bytes None b k e a = absurd a
+overflows_by script number line rest es place ended new disks_before disks_now bytes (Some event) b k e a =
     let P : BookingWorld → Type 0 = λ w. PACKETS_BEFORE < length w.soup in (
       record {
         standing = b.standing;
@@ -161,7 +161,7 @@ halts_next script number line rest disks_first disks_before disks_now start befo
     let P : Run → Type 0 = λ r. Applies r new disks_before disks_now [] p.0 line (Err stops.Limit) in
     let Q : Option (List ℕ) → Type 0 = λ z. Gains start z (events_text script old.trace) in
     let L : List DiskState → Type 0 = λ z. Leaves script old.trace disks_first z in
-    let over = overflows_by script number line rest old.trace old.place new disks_before disks_now p.0 (turn_in script old.trace old.place line).event s.before s.keeps refl (subst P (same_run script old s.u s.depth) p.1) in
+    let over = overflows_by script number line rest old.trace old.place old.has_ended new disks_before disks_now p.0 (turn_in script old.trace old.place line).event s.before s.keeps refl (subst P (same_run script old s.u s.depth) p.1) in
     (old.trace, over.0, subst L (sym over.1) s.disks.leaves, subst Q (sym p.2) s.written)
 halts_next script number line rest disks_first disks_before disks_now start before now old new halts.Write p s =
     breaks_off script number line rest disks_first disks_before disks_now start before now old new p.0 p.1 p.2 p.3 s
@@ -188,7 +188,7 @@ plays_on old new line disks_before disks_now before now again d p = goes_by old 
 first_moves : (script : Script) (new : Run) (disks_before disks_now : List DiskState) (bytes : List ℕ) → script.u ≤ 2 → Starts (new_run script.u script.depth) new disks_before disks_now [] bytes → Moves script [] new script.events bytes disks_before disks_now
 first_moves script new disks_before disks_now bytes few s =
     let A : Run → Type 0 = λ r. AreDisks (world_of r) disks_now in
-    let here : Moves script [] (run_in script new.trace first_place) script.events bytes disks_before disks_now = record {
+    let here : Moves script [] (run_in script new.trace first_place false) script.events bytes disks_before disks_now = record {
       u = refl;
       depth = refl;
       before = before_first (tiers script) script new.trace s.become s.finds;

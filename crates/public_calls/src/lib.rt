@@ -33,6 +33,8 @@ mod one_log;
 #[cfg(test)]
 mod one_server_steps;
 #[cfg(test)]
+mod played_scripts;
+#[cfg(test)]
 mod runs_by_schedule;
 #[cfg(test)]
 mod scripts_and_packets;

@@ -1,6 +1,6 @@
 -- Small cases of the rules of rounds, computed, with the booking service's table.
 use Rattle.std.proofs.Common.{◌≡◌, ℕ, true, List, [], ◌∷◌, refl, Option, Some, None}
-use Rattle.std.specs.Prelude.{codes}
+use Rattle.std.specs.Prelude.{◌++◌, codes, map}
 use Rattle.std.specs.Fmt.{digits}
 use Rattle.aeg_base.specs.Numbers.{checked, number_at, with_number}
 use Rattle.aeg_base.specs.declared.names.Tier.TheVariants.{Inv, Pay}
@@ -90,6 +90,39 @@ opened = refl
 reserves : parked (after service 1 log no_codes 2) ≡ (record { client = 1; seq = 2; body = codes "book 1 2"; stage = 1; tier = Inv; num = 1; text = codes "reserve 1 2" } ∷ []) ∷ []
 unfolding digits checked number_at with_number
 reserves = refl
+
+abbrev fresh_after : Option Tables → List Entry → List Entry
+fresh_after None es = []
+fresh_after (Some T) es = fresh_entries service T es
+
+-- while it waits, its client's next request does too
+busy_client : fresh_after (after service 1 log no_codes 2) (entry 1 3 (codes "look 5") ∷ entry 2 1 (codes "look 5") ∷ []) ≡ entry 2 1 (codes "look 5") ∷ []
+unfolding digits checked number_at with_number
+busy_client = refl
+
+abbrev numbers_of : List (List Parked) → List ℕ
+numbers_of [] = []
+numbers_of (ps ∷ pss) = map (λ p. p.num) ps ++ numbers_of pss
+
+abbrev two_bookings : List AnyValue
+two_bookings = InMid (Batch (entry 1 1 (codes "open 1 5 10 0") ∷ [])) ∷ InMid (Decided Serial) ∷ InMid (Batch (entry 1 2 (codes "book 1 2") ∷ entry 2 1 (codes "book 1 2") ∷ [])) ∷ InMid (Decided Serial) ∷ []
+
+-- the calls of a round have numbers of their own
+two_numbers : numbers_of (parked (after service 1 two_bookings no_codes 2)) ≡ 1 ∷ 2 ∷ []
+unfolding digits checked number_at with_number
+two_numbers = refl
+
+-- a Commit whose order is none of the job comes to nothing
+abbrev commits : List ℕ → List AnyValue
+commits order = InMid (Batch (entry 1 1 (codes "open 1 5 10 0") ∷ [])) ∷ InMid (Decided (Commit [] order)) ∷ []
+
+in_an_order : told (after service 1 (commits (0 ∷ [])) no_codes 1) ≡ Some (codes "opened 1")
+unfolding digits checked number_at with_number
+in_an_order = refl
+
+in_no_order : after service 1 (commits (0 ∷ 0 ∷ [])) no_codes 1 ≡ None
+unfolding digits checked number_at with_number
+in_no_order = refl
 
 -- the next round has no job before the answer is there
 waits_for_the_answer : round service 1 log no_codes 2 ≡ None

@@ -114,6 +114,16 @@ the_floor_that_two_reached : own_value 1 floors ≡ Some (OfBack (Settle 2))
 unfolding digits checked number_at with_number
 the_floor_that_two_reached = refl
 
+-- a sender's floor only rises
+a_lower_floor : (gets floors 2 (msgs.Settle 2)).answer ≡ Idles why.Nothing
+unfolding digits checked number_at with_number
+a_lower_floor = refl
+
+-- and so does the one that is chosen
+settled_lower : (at_node (Learned 3 (OfBack (Settle 1)) ∷ Learned 2 (OfBack (Settle 2)) ∷ Learned 1 (OfBack (Call 2 reserve)) ∷ Learned 0 (OfBack (Call 1 reserve)) ∷ [])).floor ≡ 2
+unfolding digits checked number_at with_number
+settled_lower = refl
+
 not_from_its_own_tier : (on_frame 1 service Inv 0 served (node Inv 1) (msgs.Settle 2)).answer ≡ Dropped (Row 7)
 unfolding digits checked number_at with_number
 not_from_its_own_tier = refl

@@ -1,6 +1,6 @@
 -- Rows of a middle node of three, computed, with the booking service's table. Its programs are not of this crate, so
 -- where a job is run a booking's first segment is a program that only makes its call.
-use Rattle.std.proofs.Common.{◌≡◌, ℕ, List, [], ◌∷◌, refl, Option, Some}
+use Rattle.std.proofs.Common.{◌≡◌, ℕ, List, [], ◌∷◌, refl, Option, Some, None}
 use Rattle.std.specs.Prelude.{codes}
 use Rattle.std.specs.Fmt.{digits}
 use Rattle.aeg_base.specs.Numbers.{checked, number_at, with_number}
@@ -21,7 +21,7 @@ use Rattle.log_values.specs.declared.entry.Entry.{Entry}
 use Rattle.log_values.specs.declared.fact.Fact.{Fact}
 use Rattle.log_values.specs.declared.fact.Fact.TheVariants.{Learned, Held}
 use Rattle.log_values.specs.declared.mid_value.MidValue.TheVariants.{Batch, Verdict as Decided}
-use Rattle.log_values.specs.declared.mid_value.Verdict.TheVariants.{Serial}
+use Rattle.log_values.specs.declared.mid_value.Verdict.TheVariants.{Commit, Serial}
 use Rattle.frames.specs.declared.message.Msg.{Msg}
 use Rattle.frames.specs.declared.message.Msg.TheVariants as msgs
 use Rattle.frames.specs.declared.turn.Turn.TheVariants.{Ran, Idle as Idles, Dropped}
@@ -31,7 +31,7 @@ use Rattle.round_model.specs.Service.{Service}
 use Rattle.round_model.specs.Spelled.{spelled}
 use Rattle.tier_model.specs.Moves.{node, Packet, Move}
 use Rattle.tier_model.specs.Mid.{Mid}
-use Rattle.tier_model.specs.MidRows.{on_frame, work, recovered}
+use Rattle.tier_model.specs.MidRows.{on_frame, own_value, work, retry, recovered}
 
 -- THE SERVICE
 
@@ -81,6 +81,17 @@ skips_a_number : (asks (at_node two_rounds) 3 (codes "look 5")).answer ≡ Idles
 unfolding digits checked number_at with_number
 skips_a_number = refl
 
+abbrev asked : Mid
+asked = (asks (at_node []) 1 (codes "look 5")).state
+
+-- it is offered once, though it comes twice
+waits_for_its_round : own_value 1 service asked ≡ Some (OfMid (Batch (entry 1 (codes "look 5") ∷ [])))
+unfolding digits checked number_at with_number
+waits_for_its_round = refl
+
+waits_already : (asks asked 1 (codes "look 5")).answer ≡ Idles why.Nothing
+waits_already = refl
+
 no_request : (asks (at_node []) 1 (codes "look")).answer ≡ Dropped (Row 8)
 no_request = refl
 
@@ -107,6 +118,27 @@ what_ran = refl
 runs_once : (work 1 service 0 runs.state []).answer ≡ Idles why.Nothing
 unfolding digits checked number_at with_number run_job no_locks
 runs_once = refl
+
+abbrev votes : Mid → ℕ → Move Mid
+votes σ from = gets σ from (msgs.Token 1 token (0 ∷ []))
+
+-- one more token equal to its own, and it has a verdict to offer
+two_tokens_commit : own_value 1 service (votes runs.state 1).state ≡ Some (OfMid (Decided (Commit token (0 ∷ []))))
+unfolding digits checked number_at with_number run_job no_locks
+two_tokens_commit = refl
+
+own_token_alone : own_value 1 service runs.state ≡ None
+unfolding digits checked number_at with_number run_job no_locks
+own_token_alone = refl
+
+-- a token counts once, and not after its round's verdict
+voted_already : (votes (votes (at_node two_rounds) 1).state 1).answer ≡ Idles why.Nothing
+unfolding digits checked number_at with_number
+voted_already = refl
+
+voted_too_late : (gets (at_node two_rounds) 1 (msgs.Token 0 token (0 ∷ []))).answer ≡ Idles why.Nothing
+unfolding digits checked number_at with_number
+voted_too_late = refl
 
 abbrev learns_the_verdict : Move Mid
 learns_the_verdict = gets (at_node two_rounds) 1 (msgs.Log (Learn 3 (OfMid (Decided Serial))))
@@ -160,3 +192,29 @@ answered_twice = refl
 told_by_another : (gets waits 2 (msgs.Have Inv 1 0)).facts ≡ Held Inv 1 0 ∷ []
 unfolding digits checked number_at with_number
 told_by_another = refl
+
+-- no batch is offered while a round before it isn't applied
+not_before_the_round : own_value 1 service (at_node (Learned 5 (OfMid (Decided Serial)) ∷ three_rounds)) ≡ None
+unfolding digits checked number_at with_number run_job no_locks
+not_before_the_round = refl
+
+-- RETRIES
+
+-- it asks for the first open position, and calls again where it holds no answer
+calls_again : (retry 1 0 waits).sends ≡ tells 1 (msgs.Log (Ask 5)) ∷ tells 2 (msgs.Log (Ask 5)) ∷ reserve_at 0 ∷ reserve_at 1 ∷ reserve_at 2 ∷ []
+unfolding digits checked number_at with_number
+calls_again = refl
+
+-- an answer that it alone is known to hold raises no floor
+holds_it_alone : (retry 1 0 is_answered.state).sends ≡ tells 1 (msgs.Log (Ask 5)) ∷ tells 2 (msgs.Log (Ask 5)) ∷ tells 1 (msgs.Have Inv 1 0) ∷ tells 2 (msgs.Have Inv 1 0) ∷ []
+unfolding digits checked number_at with_number
+holds_it_alone = refl
+
+abbrev floor_at : ℕ → Packet
+floor_at y = record { from = node InMid 0; to = node Inv y; message = msgs.Settle 2 }
+
+-- held by two, it needn't be kept by inventory
+tells_the_floor : (retry 1 0 (gets is_answered.state 1 (msgs.Have Inv 1 0)).state).sends
+    ≡ tells 1 (msgs.Log (Ask 5)) ∷ tells 2 (msgs.Log (Ask 5)) ∷ tells 1 (msgs.Have Inv 1 0) ∷ tells 2 (msgs.Have Inv 1 0) ∷ floor_at 0 ∷ floor_at 1 ∷ floor_at 2 ∷ []
+unfolding digits checked number_at with_number
+tells_the_floor = refl

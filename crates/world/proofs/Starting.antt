@@ -1,5 +1,5 @@
 -- Restarts, one after another.
-use Rattle.std.proofs.Common.{◌≡◌, ℕ, ◌+◌, List, [], ◌∷◌, ◌++◌, sym, ap, ◌∙◌, subst, arith, append_assoc, append-nil, suc}
+use Rattle.std.proofs.Common.{◌≡◌, ℕ, ◌+◌, false, List, [], ◌∷◌, ◌++◌, sym, ap, ◌∙◌, subst, arith, append_assoc, append-nil, suc}
 use Rattle.std.specs.Prelude.{map}
 use Rattle.std.proofs.lemmas.List.{map-append}
 use Rattle.aeg_base.specs.declared.names.NodeId.{NodeId}
@@ -38,7 +38,7 @@ restarted_none p disks lines s = record {
   events = [];
   become = tt;
   finds = tt;
-  run = (λ i. record { u = p.parts.u; depth = p.depth; trace = sym (append-nil p.trace) i; place = place_at p.cursor });
+  run = (λ i. record { u = p.parts.u; depth = p.depth; trace = sym (append-nil p.trace) i; place = place_at p.cursor; has_ended = false });
   told = sym (append-nil lines);
   causes = tt;
   later = falls_none disks;

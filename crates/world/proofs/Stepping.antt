@@ -45,7 +45,7 @@ pub one_more : (old new : Progress) (parts : Parts) (due event : TraceEvent) (cu
 one_more old new parts due event cursor disks_before disks_after before now s becomes h e =
     let r = h old.parts.u old.depth (world_of (run_of old)) s.0 s.1 in
     let size : parts.u ≡ old.parts.u = r.shows.size in
-    let is : run_of (noted old parts event cursor) ≡ with_event (run_of old) event (place_at cursor) = (λ i. record { u = size i; depth = old.depth; trace = old.trace ++ event ∷ []; place = place_at cursor }) in
+    let is : run_of (noted old parts event cursor) ≡ with_event (run_of old) event (place_at cursor) = (λ i. record { u = size i; depth = old.depth; trace = old.trace ++ event ∷ []; place = place_at cursor; has_ended = false }) in
     let further = run-append (config old.parts.u old.depth) old.trace (event ∷ []) start in
     let later : Shows old.parts.u old.depth (world (config old.parts.u old.depth) (old.trace ++ event ∷ [])) parts = subst (λ z. Shows old.parts.u old.depth z parts) (sym further) r.shows in
     let on : AreDisks (world (config old.parts.u old.depth) (old.trace ++ event ∷ [])) disks_after = subst (λ z. AreDisks z disks_after) (sym further) r.disks in

@@ -23,9 +23,13 @@ use Rattle.world.specs.Standing.{Shows}
 abbrev pub place_at : ℕ → Place
 place_at cursor = record { cursor = cursor; phase = Flows }
 
--- what is known of it
+-- what is known of it, and whether its world has ended
+abbrev pub run_with : Bool → Progress → Run
+run_with ended p = record { u = p.parts.u; depth = p.depth; trace = p.trace; place = place_at p.cursor; has_ended = ended }
+
+-- of one that goes on
 abbrev pub run_of : Progress → Run
-run_of p = record { u = p.parts.u; depth = p.depth; trace = p.trace; place = place_at p.cursor }
+run_of p = run_with false p
 
 -- the parts are as its events left them
 abbrev pub IsInStep : Progress → Type 0

@@ -15,26 +15,27 @@ use Rattle.world.specs.declared.stop.Stop.{Stop}
 use Rattle.world.specs.declared.stop.Stop.TheVariants as stops
 use Rattle.run_model.specs.BookingRuns.{config, BookingWorld}
 
--- the list of the events that were made is all that it is known by
+-- It is known by the list of the events that were made. It has ended once a call wanted memory.
 pub record Run : Type 0 where
   pub u : ℕ
   pub depth : ℕ
   pub trace : List TraceEvent
   pub place : Place
+  pub has_ended : Bool
 
 -- the world after these events
 abbrev pub world_of : Run → BookingWorld
 world_of r = world (config r.u r.depth) r.trace
 
 abbrev pub new_run : ℕ → ℕ → Run
-new_run u depth = record { u = u; depth = depth; trace = []; place = first_place }
+new_run u depth = record { u = u; depth = depth; trace = []; place = first_place; has_ended = false }
 
 abbrev pub at_place : Run → Place → Run
-at_place r place = record { u = r.u; depth = r.depth; trace = r.trace; place = place }
+at_place r place = record { u = r.u; depth = r.depth; trace = r.trace; place = place; has_ended = r.has_ended }
 
 -- one event more
 abbrev pub with_event : Run → TraceEvent → Place → Run
-with_event r event place = record { u = r.u; depth = r.depth; trace = r.trace ++ event ∷ []; place = place }
+with_event r event place = record { u = r.u; depth = r.depth; trace = r.trace ++ event ∷ []; place = place; has_ended = r.has_ended }
 
 -- the line's turn now
 abbrev pub turn_of : Run → Event → Turned

@@ -14,6 +14,3 @@ mod world;
 pub use node_disks::memory_disks;
 pub use stop::Stop;
 pub use world::World;
-
-#[cfg(test)]
-mod tests;

@@ -1,5 +1,5 @@
 // The world that a script's lines are played in.
-ghost use Rattle.std.specs.Prelude.{◌≡◌, ◌++◌, ◌≤◌, length, map, IfOk, OnOk};
+ghost use Rattle.std.specs.Prelude.{◌≡◌, ◌++◌, ◌≤◌, ◌↔◌, length, map, IsTrue, IsErr, IfOk, OnOk};
 ghost use Rattle.net_script.specs.Events.{IsProper};
 ghost use Rattle.world.specs.Disks.{AreBlank, AreDisks};
 ghost use Rattle.world.specs.Run.{new_run, world_of, Starts, Applies, ComesFurther, closing_of};
@@ -24,17 +24,24 @@ pub struct World {
 impl Model for World {
     ghost use Rattle.std.specs.Prelude.{◌≡◌, false};
     ghost use Rattle.world.specs.Run.{Run};
-    ghost use Rattle.world.specs.Going.{run_of, IsInStep};
+    ghost use Rattle.world.specs.Going.{run_with, IsInStep};
 
     ghost Value = { Run };
 
-    ghost view = { λ w. run_of w.progress };
+    ghost view = { λ w. run_with w.has_ended w.progress };
 
     ghost invariant = { λ w. w.has_ended ≡ false → IsInStep w.progress };
 }
 
+/// Whether the answer ends the world.
+fn ends(answer: &Result<bool, Stop>) -> bool
+    ensures { IsTrue result ↔ (answer.now ≡ Err Stop.Memory) }
+{
+    matches!(answer, Err(Stop::Memory))
+}
+
 impl World {
-    /// All nodes are down on blank disks, and nothing was sent.
+    /// All nodes are down on blank disks, and nothing was sent. It has not ended.
     pub fn new(alloc: Global, u: u8, depth: u8) -> Result<Self, Memory>
         requires { u ≤ MAX_FAULTS }
         ensures { IfOk result (λ world. world ≡ new_run u depth) }
@@ -50,11 +57,9 @@ impl World {
     pub fn start<D: Device>(&mut self, disks: &mut [D], lines: &mut Bytes) -> Result<(), Memory>
         requires new { self.old ≡ new_run self.old.u self.old.depth }
         requires blank { AreBlank (map D.state disks.old) }
-        ensures { OnOk result (Starts self.old self.new (map D.state disks.old) (map D.state disks.new) lines.old lines.new) }
+        ensures starts { OnOk result (Starts self.old self.new (map D.state disks.old) (map D.state disks.new) lines.old lines.new) }
+        ensures ends { IsTrue self.new.has_ended ↔ IsErr result }
     {
-        if self.has_ended {
-            return Err(Memory);
-        }
         let answer = self.progress.start(disks, lines);
         self.has_ended = answer.is_err();
         answer
@@ -72,18 +77,21 @@ impl World {
         ensures applies { Applies self.old self.new (map D.state disks.old) (map D.state disks.new) lines.old lines.new line.now result }
         ensures further { ComesFurther self.old self.new result }
         ensures within { OnOk result (length (world_of self.new).soup ≤ PACKETS) }
+        ensures ended { IsTrue self.old.has_ended → result ≡ Err Stop.Memory }
+        ensures ends { IsTrue self.new.has_ended ↔ (result ≡ Err Stop.Memory) }
     {
         if self.has_ended {
             return Err(Stop::Memory);
         }
         let answer = self.progress.apply(line, disks, lines);
-        self.has_ended = matches!(answer, Err(Stop::Memory));
+        self.has_ended = ends(&answer);
         answer
     }
 
     /// Adds the closing lines.
     pub fn close(&self, lines: &mut Bytes) -> Result<(), Memory>
-        ensures { OnOk result (lines.new ≡ lines.old ++ closing_of self.now) }
+        ensures closes { OnOk result (lines.new ≡ lines.old ++ closing_of self.now) }
+        ensures ended { IsTrue self.now.has_ended → IsErr result }
     {
         if self.has_ended {
             return Err(Memory);

@@ -5,7 +5,6 @@ ghost use Rattle.net_script.specs.Events.{IsProper};
 ghost use Rattle.world.specs.Disks.{AreDisks};
 ghost use Rattle.world.specs.Run.{new_run, world_of};
 
-use crate::{Stop, World, memory_disks};
 use aeg_base::Bytes;
 use aeg_base::limits::{INPUT_BYTES, PACKETS};
 use aeg_disk::MemDisk;
@@ -13,6 +12,7 @@ use net_script::{Event, Script, parse_script};
 use run_model::{Fared, TraceEvent};
 use std::alloc::{AllocError, Global};
 use std::test::Fail;
+use world::{Stop, World, memory_disks};
 
 /// Plays a line until nothing is left of it.
 fn play(
@@ -53,11 +53,16 @@ fn play_lines(
     Ok(())
 }
 
-/// Plays a script from the first restarts to the closing lines, and answers what it prints.
-fn play_script(world: &mut World, alloc: Global, script: &Script) -> Result<Bytes, Stop>
+/// Plays a script from the first restarts to the closing lines, and answers what it prints. These calls of m0's disk fail.
+fn play_script(
+    world: &mut World,
+    alloc: Global,
+    script: &Script,
+    fails: Vec<u32>,
+) -> Result<Bytes, Stop>
     requires { world.old ≡ new_run script.now.u script.now.depth }
 {
-    let mut disks = memory_disks(alloc, Vec::new(alloc))?;
+    let mut disks = memory_disks(alloc, fails)?;
     let mut lines = Bytes::new(alloc);
     world.start(&mut disks, &mut lines)?;
     play_lines(world, script, &mut disks, &mut lines)?;
@@ -65,15 +70,20 @@ fn play_script(world: &mut World, alloc: Global, script: &Script) -> Result<Byte
     Ok(lines)
 }
 
-/// The world that a script's run ends in, and what the run prints.
-fn run(alloc: Global, text: &str) -> Result<(World, Bytes), Fail> {
+/// The world that a script's run ends in, and what the run prints. These calls of m0's disk fail.
+fn run_with(alloc: Global, text: &str, fails: Vec<u32>) -> Result<(World, Bytes), Fail> {
     if text.len() > INPUT_BYTES {
         return Err("a shorter text".into());
     }
     let script = parse_script(alloc, text.as_bytes())?;
     let mut world = World::new(alloc, script.u(), script.depth())?;
-    let lines = play_script(&mut world, alloc, &script)?;
+    let lines = play_script(&mut world, alloc, &script, fails)?;
     Ok((world, lines))
+}
+
+/// The same where no disk fails.
+fn run(alloc: Global, text: &str) -> Result<(World, Bytes), Fail> {
+    run_with(alloc, text, Vec::new(alloc))
 }
 
 /// The packets that were delivered whole, in the order of the events.
@@ -130,6 +140,32 @@ fn packets_flow_once_and_in_order(rt: HostRuntime) -> Result<(), Fail> {
     assert_eq!(rt;
         packets.as_slice(),
         [0, 1, 2, 3, 4, 5, 6, 7, 8, 9, 10, 11, 12, 13, 14, 15, 16, 17].as_slice()
+    );
+    Ok(())
+}
+
+/// The fifth call of m0's disk is the first write of its first record: it fails, and m0 comes back without the record.
+#[test]
+fn a_failing_write_leaves_no_record(rt: HostRuntime) -> Result<(), Fail> {
+    let alloc = rt.alloc();
+    let (world, lines) = run_with(
+        alloc,
+        "tiers 0 depth 1\nlead m0\nrestart m0\noffer m0\n",
+        vec![in alloc; 4]?,
+    )?;
+    assert_eq!(rt;
+        lines.items(),
+        b"down m0 disk\nidle m0 not-leader\nlog mid 0\nlog inv 0\nlog pay 0\npackets 0\n".as_slice()
+    );
+    // The three nodes were restarted, and the fourth event is the one that the disk failed in.
+    assert!(rt;
+        matches!(
+            world.trace().get(3),
+            Some(TraceEvent::Lead {
+                fared: Fared::Fault,
+                ..
+            })
+        )
     );
     Ok(())
 }

@@ -7,7 +7,7 @@ use Rattle.run_model.specs.declared.line.Event.{Event}
 use Rattle.run_model.specs.declared.trace.TraceEvent.{TraceEvent}
 use Rattle.world.specs.Disks.{AreDisks}
 use Rattle.world.specs.Run.{Run, world_of, turn_of, AppliesBy}
-use Rattle.world.proofs.tests.play.Goals as goal
+use Rattle.public_calls.proofs.played_scripts.play.Goals as goal
 
 -- after a call the disks are those of the world then
 disks_after : (old new : Run) (disks_before disks_now : List DiskState) (before now : List ℕ) (line : Event) (place : Place) (due : Option TraceEvent) (again : Bool) → AreDisks (world_of old) disks_before
