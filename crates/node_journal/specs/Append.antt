@@ -14,6 +14,11 @@ Ran at piece a z (Err e) =
     ⊎ ((b : DiskState) × (c : DiskState) × Writes (at + 1) piece a b (Ok tt) × Syncs b c (Ok tt) × Writes at (1 ∷ []) c z (Err e))
     ⊎ ((b : DiskState) × (c : DiskState) × (d : DiskState) × Writes (at + 1) piece a b (Ok tt) × Syncs b c (Ok tt) × Writes at (1 ∷ []) c d (Ok tt) × Syncs d z (Err e))
 
+-- neither a fault of the disk nor a stop came
+pub record IsFaultless (a b : DiskState) : Type 0 where
+  pub faults : b.faults ≡ a.faults
+  pub stopped : b.stopped ≡ a.stopped
+
 -- each image of each of these moments
 abbrev pub Each : List Moment → (List ℕ → Type 0) → Type 0
 Each [] P = Unit {0}

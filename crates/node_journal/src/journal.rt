@@ -2,7 +2,7 @@
 ghost use Rattle.std.specs.Prelude.{◌≡◌, ◌⊎◌, ◌↔◌, ℕ, ◌+◌, ◌-◌, ◌<◌, ◌≤◌, ◌^◌, min, List, [], ◌∷◌, ◌++◌, true, false, length, IfOk, OnOk, OnErr};
 ghost use Rattle.aeg_disk.specs.Disk.{Rose, Later, written};
 ghost use Rattle.node_journal.specs.Journal.{records, entry};
-ghost use Rattle.node_journal.specs.Append.{Ran, OldOrNew, LeavesOnly, StopMet, IsReady, HasList};
+ghost use Rattle.node_journal.specs.Append.{Ran, OldOrNew, LeavesOnly, StopMet, IsReady, HasList, IsFaultless};
 ghost use Rattle.node_journal.specs.declared.journal.AppendErr.TheVariants.{Memory as NoMemory};
 
 use aeg_base::limits::{JOURNAL_BYTES, RECORD_BYTES};
@@ -110,6 +110,8 @@ impl Journal {
 
         // It doesn't give up by itself: either the disk has failed, or it stands stopped.
         ensures cause { result ≡ Err AppendErr.Disk → ((D.state disk.new).stopped ≡ true) ⊎ Rose (D.state disk.old).faults (D.state disk.new).faults }
+        // And what the disk failed is answered as that.
+        ensures told { (result ≡ Err AppendErr.Disk) ⊎ IsFaultless (D.state disk.old) (D.state disk.new) }
 
         // Where an armed stop is met, the new record is there exactly at the third or fourth call with `keep`.
         ensures stopped { (D.state disk.old).stopped ≡ false → (D.state disk.new).stopped ≡ true → StopMet (records (D.state disk.old).bytes) self.old body.now (D.state disk.old) (D.state disk.new) }

@@ -3,7 +3,7 @@ ghost use Rattle.std.specs.Prelude.{◌≡◌, ◌≢◌, ◌⊎◌, ℕ, ◌+�
 ghost use Rattle.aeg_disk.specs.Disk.{Looks, Rose, Later};
 ghost use Rattle.node_journal.specs.Journal.{told_length, body_of, is_whole, records, size_of, Ends, IsBadAt};
 ghost use Rattle.node_journal.specs.Opening.{Entry, LooksTo, Next, IsTornOff, Read, Shuts, WasThere, opened_bytes};
-ghost use Rattle.node_journal.specs.Append.{LeavesOnly, HasList};
+ghost use Rattle.node_journal.specs.Append.{LeavesOnly, HasList, IsFaultless};
 
 use crate::journal::Journal;
 use aeg_base::limits::RECORD_BYTES;
@@ -191,6 +191,8 @@ pub fn open_on<D: Disk>(alloc: Global, disk: &mut D) -> Result<(Journal, Vec<Byt
     ensures any_moment { (D.state disk.old).tells ≡ true → LeavesOnly (D.state disk.old) (D.state disk.new) (WasThere (D.state disk.old)) }
 
     ensures cause { result ≡ Err OpenErr.Disk → ((D.state disk.new).stopped ≡ true) ⊎ Rose (D.state disk.old).faults (D.state disk.new).faults }
+    // And what the disk failed is answered as that.
+    ensures told { (result ≡ Err OpenErr.Disk) ⊎ IsFaultless (D.state disk.old) (D.state disk.new) }
     ensures later { Later (D.state disk.old) (D.state disk.new) }
 {
     disk.sync()?;
