@@ -8,8 +8,6 @@ mod locks;
 mod memory;
 mod names;
 mod seq;
-#[cfg(test)]
-mod tests;
 mod value;
 
 pub use bytes::Bytes;

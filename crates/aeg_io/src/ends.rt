@@ -1,7 +1,7 @@
 // The two ends of a program: where bytes come from, and where they go.
-ghost use Rattle.std.specs.Prelude.{◌≡◌, ◌<◌, ◌≤◌, List, ℕ, length, IfOk, Option, Ok};
+ghost use Rattle.std.specs.Prelude.{◌≡◌, ◌<◌, ◌≤◌, List, ℕ, length, IfOk, OnOk, Option, None, Ok};
 ghost use Rattle.std.specs.Io.{ReadsAtMost};
-ghost use Rattle.std.specs.Io.KnownBytes.{ReadConsumes};
+ghost use Rattle.std.specs.Io.KnownBytes.{ReadConsumes, WriteAppends};
 ghost use Rattle.aeg_io.specs.Causes.{Rose, HasCause};
 ghost use Rattle.aeg_io.specs.Bytes.{WriteGains};
 
@@ -22,13 +22,17 @@ pub trait Source {
         requires { 0 < length into.old }
         ensures bound { ReadsAtMost result into.new }
         ensures bytes { ReadConsumes (left self.old) (left self.new) result into.new }
-        ensures cause { HasCause (faults self.old) (faults self.new) result };
+        ensures cause { HasCause (faults self.old) (faults self.new) result }
+        ensures same { OnOk result (faults self.new ≡ faults self.old) };
 }
 
 /// Where bytes go.
 pub trait Sink {
     /// The bytes that it took, where the sink tells them.
     ghost taken: { Self → Option (List ℕ) };
+
+    /// The bytes that stand behind it, where they are known. They may come to be known later on.
+    ghost holds: { Self → Option (List ℕ) } = { λ _. None };
 
     /// How often it has failed.
     ghost faults: { Self → ℕ };
@@ -38,6 +42,8 @@ pub trait Sink {
         requires { 0 < length piece.now }
         ensures bound { IfOk result (λ n. n ≤ length piece.now) }
         ensures bytes { WriteGains (taken self.old) (taken self.new) result piece.now }
+        ensures held { WriteAppends (holds self.old) (holds self.new) result piece.now }
         ensures cause { HasCause (faults self.old) (faults self.new) result }
+        ensures same { IfOk result (λ n. 0 < n → faults self.new ≡ faults self.old) }
         ensures none { result ≡ Ok 0 → Rose (faults self.old) (faults self.new) };
 }

@@ -5,8 +5,6 @@ mod ends;
 mod mem;
 mod real;
 mod sure;
-#[cfg(test)]
-mod tests;
 mod whole;
 
 pub use ends::{Failed, Sink, Source};

@@ -5,6 +5,9 @@ use crate::{Failed, Sink, Source};
 use std::io::{Read, Write};
 
 /// A source over any reader. It tells what the reader tells, which for the standard input is nothing.
+///
+/// A trusted edge: no contract can say what a stream gives, so a read that always failed, and counted that, would be
+/// proved. Hence a read is one call of the reader and the count of its failures, and tests show each of its answers.
 #[derive(Drop)]
 pub struct StdSource<R: Read> {
     reader: R,
@@ -17,6 +20,13 @@ impl<R: Read> StdSource<R> {
         ensures faults { ⟦<StdSource<R> as Source>⟧.faults result ≡ 0 }
     {
         StdSource { reader, faults: 0 }
+    }
+
+    /// How often it has failed.
+    pub fn faults(&self) -> u64
+        ensures { result ≡ ⟦<StdSource<R> as Source>⟧.faults self.now }
+    {
+        self.faults
     }
 }
 
@@ -36,7 +46,10 @@ impl<R: Read> Source for StdSource<R> {
     }
 }
 
-/// A sink over any writer, which tells nothing.
+/// A sink over any writer, which tells nothing of what it took. It holds what the writer holds.
+///
+/// A trusted edge: no contract can say what a stream takes, so a write that always failed, and counted that, would be
+/// proved. Hence a write is one call of the writer and the count of its failures, and tests show each of its answers.
 #[derive(Drop)]
 pub struct StdSink<W: Write> {
     writer: W,
@@ -45,14 +58,24 @@ pub struct StdSink<W: Write> {
 
 impl<W: Write> StdSink<W> {
     pub fn new(writer: W) -> Self
-        ensures { ⟦<StdSink<W> as Sink>⟧.faults result ≡ 0 }
+        ensures holds { ⟦<StdSink<W> as Sink>⟧.holds result ≡ W.contents writer }
+        ensures faults { ⟦<StdSink<W> as Sink>⟧.faults result ≡ 0 }
     {
         StdSink { writer, faults: 0 }
+    }
+
+    /// How often it has failed.
+    pub fn faults(&self) -> u64
+        ensures { result ≡ ⟦<StdSink<W> as Sink>⟧.faults self.now }
+    {
+        self.faults
     }
 }
 
 impl<W: Write> Sink for StdSink<W> {
     ghost taken = { λ _. None };
+
+    ghost holds = { λ s. W.contents s.writer };
 
     ghost faults = { λ s. s.faults };
 

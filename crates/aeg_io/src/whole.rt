@@ -1,6 +1,6 @@
 // All that a source has, and all of a piece.
-ghost use Rattle.std.specs.Prelude.{◌≡◌, ◌<◌, ◌≤◌, List, ℕ, length, IfOk, IfSome, OnOk, OnErr, IsErrOf, Option};
-ghost use Rattle.std.specs.Io.KnownBytes.{Consumes, IsAtEnd};
+ghost use Rattle.std.specs.Prelude.{◌≡◌, ◌<◌, ◌≤◌, List, ℕ, length, IfOk, IfSome, OnOk, OnErr, IsErrOf, Option, ◌⊎◌};
+ghost use Rattle.std.specs.Io.KnownBytes.{Appends, Consumes, IsAtEnd};
 ghost use Rattle.aeg_io.specs.Causes.{Rose};
 ghost use Rattle.aeg_io.specs.Bytes.{Gains, GainsFront};
 
@@ -48,6 +48,8 @@ pub fn read_all<S: Source>(alloc: Global, src: &mut S, max: usize) -> Result<Byt
     ensures within { IfOk result (λ bytes. length bytes ≤ max) }
     ensures too_long { IsErrOf result ReadErr.TooLong → (came : List ℕ) × Consumes (S.left src.old) (S.left src.new) came × (max < length came) }
     ensures fault { IsErrOf result ReadErr.Fault → Rose (S.faults src.old) (S.faults src.new) }
+    // A fault of the source is answered as one.
+    ensures told { IsErrOf result ReadErr.Fault ⊎ (S.faults src.new ≡ S.faults src.old) }
     ensures later { S.faults src.old ≤ S.faults src.new }
 {
     let mut items = Vec::new(alloc);
@@ -65,8 +67,10 @@ pub fn read_all<S: Source>(alloc: Global, src: &mut S, max: usize) -> Result<Byt
 /// Writes the whole piece. What went out after a failure is a prefix of it.
 pub fn put_all<K: Sink>(out: &mut K, piece: &[u8]) -> Result<(), Failed>
     ensures ok { OnOk result (Gains (K.taken out.old) (K.taken out.new) piece.now) }
+    ensures held { OnOk result (Appends (K.holds out.old) (K.holds out.new) piece.now) }
     ensures prefix { OnErr result (GainsFront (K.taken out.old) (K.taken out.new) piece.now) }
     ensures failed { OnErr result (Rose (K.faults out.old) (K.faults out.new)) }
+    ensures faultless { OnOk result (K.faults out.new ≡ K.faults out.old) }
     ensures later { K.faults out.old ≤ K.faults out.new }
 {
     let mut sent = 0;

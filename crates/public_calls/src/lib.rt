@@ -15,6 +15,8 @@ mod frame_bytes;
 #[cfg(test)]
 mod in_turn;
 #[cfg(test)]
+mod journal_records;
+#[cfg(test)]
 mod journals_of_facts;
 #[cfg(test)]
 mod lines_and_words;
@@ -27,13 +29,21 @@ mod log_value_fields;
 #[cfg(test)]
 mod marks;
 #[cfg(test)]
+mod memory_disks;
+#[cfg(test)]
 mod message_copies;
+#[cfg(test)]
+mod names_and_lists;
 #[cfg(test)]
 mod one_log;
 #[cfg(test)]
 mod one_server_steps;
 #[cfg(test)]
 mod played_scripts;
+#[cfg(test)]
+mod real_streams;
+#[cfg(test)]
+mod refusal_rows;
 #[cfg(test)]
 mod runs_by_schedule;
 #[cfg(test)]
@@ -47,4 +57,8 @@ mod speculative_runs;
 #[cfg(test)]
 mod store_puts;
 #[cfg(test)]
+mod streams;
+#[cfg(test)]
 mod threaded_jobs;
+#[cfg(test)]
+mod wire_fields;

@@ -1,9 +1,6 @@
 // Reading and writing in pieces, with calls that fail.
-use crate::{
-    Failed, MemSink, MemSource, ReadErr, StdSink, StdSource, SureSink, SureSource, put_all,
-    read_all,
-};
 use aeg_base::Bytes;
+use aeg_io::{Failed, MemSink, MemSource, ReadErr, SureSink, SureSource, put_all, read_all};
 use std::alloc::{AllocError, Global};
 use std::test::Fail;
 
@@ -35,9 +32,6 @@ fn sources_give_all_or_say_why(rt: HostRuntime) -> Result<(), Fail> {
     let mut sure = SureSource::new(Vec::from_slice(alloc, TEXT)?);
     let all = Bytes::of(Vec::from_slice(alloc, TEXT)?);
     assert_eq!(rt; read_all(alloc, &mut sure, 10), Ok(all));
-    let mut real = StdSource::new(TEXT);
-    let all = Bytes::of(Vec::from_slice(alloc, TEXT)?);
-    assert_eq!(rt; read_all(alloc, &mut real, 10), Ok(all));
     Ok(())
 }
 
@@ -53,7 +47,5 @@ fn sinks_take_all_or_a_front(rt: HostRuntime) -> Result<(), Fail> {
     let mut sure = SureSink::new(alloc);
     assert_eq!(rt; put_all(&mut sure, TEXT), Ok(()));
     assert_eq!(rt; sure.taken(), Some(TEXT));
-    let mut real = StdSink::new(Vec::new(alloc));
-    assert_eq!(rt; put_all(&mut real, TEXT), Ok(()));
     Ok(())
 }

@@ -1,20 +1,20 @@
 // What no clause says: which calls of a disk fail, and that the calls go well.
-use crate::{Device, Disk, DiskErr, FuseDisk, MemDisk, SureDisk};
 use aeg_base::Bytes;
+use aeg_disk::{Device, Disk, DiskErr, FuseDisk, MemDisk, SureDisk};
 use std::alloc::Global;
 use std::test::Fail;
 
 // Whether a write, a sync, a look at the length and a read of it fail.
 fn failures<D: Disk>(disk: &mut D) -> [bool; 4] {
-    let write = disk.write_at(0, &[7]).is_err();
-    let sync = disk.sync().is_err();
-    let len = disk.len().is_err();
-    let read = disk.read(0, &mut []).is_err();
+    let write = disk.write_at(0, &[7]) == Err(DiskErr::Failed);
+    let sync = disk.sync() == Err(DiskErr::Failed);
+    let len = disk.len() == Err(DiskErr::Failed);
+    let read = disk.read(0, &mut []) == Err(DiskErr::Failed);
     [write, sync, len, read]
 }
 
-// All bytes of a disk.
-fn contents<D: Disk>(alloc: Global, disk: &mut D) -> Result<Bytes, DiskErr> {
+/// All bytes of a disk.
+pub(crate) fn contents<D: Disk>(alloc: Global, disk: &mut D) -> Result<Bytes, DiskErr> {
     let len = disk.len()?;
     let mut bytes = Vec::new(alloc);
     if bytes.resize(len as usize, 0).is_err() {
@@ -92,6 +92,8 @@ fn a_stop_keeps_all_or_drops_what_no_sync_kept(rt: HostRuntime) -> Result<(), Fa
         assert_eq!(rt; bytes.items(), left, "left at {nth}");
         disk.erase();
         assert_eq!(rt; disk.len()?, 0);
+        sure.erase();
+        assert_eq!(rt; sure.len()?, 0);
     }
     Ok(())
 }

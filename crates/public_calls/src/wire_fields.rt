@@ -1,5 +1,9 @@
-use super::*;
+// Fields that are written and read.
 use aeg_base::Bytes;
+use aeg_wire::{
+    Cursor, no_field_begins_another, put_bytes, put_text, put_u8, put_u16, put_u32, put_u64,
+    read_again,
+};
 use std::test::*;
 
 const BYTES: [u8; 18] = [7, 1, 2, 0, 0, 1, 0, 0, 0, 0, 0, 0, 0, 0, 9, 2, 104, 105];
@@ -30,4 +34,10 @@ fn fields_are_read_and_written(rt: HostRuntime) -> Result<(), Fail> {
     put_bytes(&mut out, &[1, 2])?;
     assert_eq!(rt; out.items().len(), 20);
     Ok(())
+}
+
+#[test]
+fn fields_have_their_laws() {
+    read_again();
+    no_field_begins_another();
 }

@@ -1,6 +1,35 @@
-// Locks, the order of ballots, and lists that grow at their end.
-use super::*;
+// Limits, locks, the order of ballots, and lists that grow at their end.
+use aeg_base::{Ballot, Bytes, Key, LockSet, Seq, Tier, limits, lock_of};
 use std::test::*;
+
+#[test]
+fn limits_have_their_numbers(rt: HostRuntime) {
+    let table = [
+        (u64::from(limits::MAX_FAULTS), 2),
+        (u64::from(limits::MAX_DEPTH), 4),
+        (u64::from(limits::CLIENTS), 16),
+        (u64::from(limits::LAST_SEQ), 65_536),
+        (limits::TEXT_BYTES as u64, 48),
+        (u64::from(limits::BODY_BYTES), 8_192),
+        (limits::BATCH_ENTRIES as u64, 8),
+        (limits::JOB_SEGMENTS as u64, 32),
+        (limits::SEGMENT_ACTIONS as u64, 32),
+        (limits::SEGMENT_PUTS as u64, 8),
+        (u64::from(limits::POSITIONS), 4_096),
+        (u64::from(limits::ROUNDS), 2_048),
+        (u64::from(limits::PACKETS), 65_536),
+        (u64::from(limits::PACKETS_BEFORE), 65_024),
+        (limits::JOURNAL_BYTES, 67_108_864),
+        (u64::from(limits::RECORD_BYTES), 16_384),
+        (limits::INPUT_BYTES as u64, 8_388_608),
+        (limits::INPUT_LINES as u64, 200_000),
+        (u64::from(limits::KEY_CLASSES), 8),
+        (u64::from(limits::LOCKS), 256),
+    ];
+    for (limit, number) in table {
+        assert_eq!(rt; limit, number);
+    }
+}
 
 /// Classes and ids of keys, with their locks: a class has 32 of them, which its ids take in turn.
 const LOCKS_OF_KEYS: [(u8, u32, u16); 8] = [
@@ -122,5 +151,14 @@ fn values_are_added_at_the_end(rt: HostRuntime) -> Result<(), Fail> {
         seq.into_vec().as_slice(),
         [Tier::Mid, Tier::Inv].as_slice()
     );
+    Ok(())
+}
+
+#[test]
+fn a_list_tells_the_heap_that_it_is_on(rt: HostRuntime) -> Result<(), Fail> {
+    let text = Bytes::of(Vec::from_slice(rt.alloc(), b"open")?);
+    let mut other = Bytes::new(text.allocator());
+    other.extend(text.items())?;
+    assert!(rt; other == text);
     Ok(())
 }

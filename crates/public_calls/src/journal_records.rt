@@ -2,10 +2,11 @@
 ghost use Rattle.std.specs.Prelude.{◌≡◌, ◌<◌, ◌≤◌, true, length, IfOk, OnOk};
 ghost use Rattle.node_journal.specs.Append.{IsReady};
 
-use crate::{AppendErr, Journal, OpenErr, open_on};
+use crate::memory_disks::contents;
 use aeg_base::limits::RECORD_BYTES;
 use aeg_base::{Bytes, Memory};
-use aeg_disk::{Device, Disk, DiskErr, FuseDisk, MemDisk, SureDisk};
+use aeg_disk::{Device, Disk, FuseDisk, MemDisk, SureDisk};
+use node_journal::{AppendErr, Journal, OpenErr, open_on};
 use std::alloc::Global;
 use std::test::Fail;
 
@@ -54,17 +55,6 @@ fn stopped<D: Device>(
         return Err(OpenErr::Disk);
     }
     Ok((was, count_records(alloc, disk)?))
-}
-
-// All bytes of a disk.
-fn contents<D: Disk>(alloc: Global, disk: &mut D) -> Result<Bytes, DiskErr> {
-    let len = disk.len()?;
-    let mut bytes = Vec::new(alloc);
-    if bytes.resize(len as usize, 0).is_err() {
-        return Err(DiskErr::Memory);
-    }
-    disk.read(0, &mut bytes)?;
-    Ok(Bytes::of(bytes))
 }
 
 // Adds a record so many times.
@@ -134,7 +124,8 @@ fn a_journal_with_one_promise(rt: HostRuntime) -> Result<(), Fail> {
         bytes.items(),
         [1, 0, 0, 0, 6, 1, 0, 0, 0, 1, 0, 0].as_slice()
     );
-    let (_journal, records) = open_on(alloc, &mut disk)?;
+    let (journal, records) = open_on(alloc, &mut disk)?;
+    assert_eq!(rt; journal.place(), 11);
     assert_eq!(rt; records.len(), 1);
     assert!(rt; records[0] == promised(alloc)?);
     Ok(())

@@ -1,5 +1,5 @@
 // The macro and the table together, as a caller writes them.
-use crate::{RuleTable, rules};
+use rule_table::{RuleTable, rules};
 use std::test::Fail;
 
 fn refusal(cap: u64, link: u32, trip: u32) -> Option<u8> {
