@@ -22,7 +22,8 @@ pub trait Source {
         requires { 0 < length into.old }
         ensures bound { ReadsAtMost result into.new }
         ensures bytes { ReadConsumes (left self.old) (left self.new) result into.new }
-        ensures cause { HasCause (faults self.old) (faults self.new) result };
+        ensures cause { HasCause (faults self.old) (faults self.new) result }
+        ensures kept { IfOk result (λ _. faults self.new ≡ faults self.old) };
 }
 
 /// Where bytes go.
@@ -39,5 +40,6 @@ pub trait Sink {
         ensures bound { IfOk result (λ n. n ≤ length piece.now) }
         ensures bytes { WriteGains (taken self.old) (taken self.new) result piece.now }
         ensures cause { HasCause (faults self.old) (faults self.new) result }
-        ensures none { result ≡ Ok 0 → Rose (faults self.old) (faults self.new) };
+        ensures none { result ≡ Ok 0 → Rose (faults self.old) (faults self.new) }
+        ensures kept { IfOk result (λ n. 0 < n → faults self.new ≡ faults self.old) };
 }

@@ -49,6 +49,8 @@ pub fn read_all<S: Source>(alloc: Global, src: &mut S, max: usize) -> Result<Byt
     ensures too_long { IsErrOf result ReadErr.TooLong → (came : List ℕ) × Consumes (S.left src.old) (S.left src.new) came × (max < length came) }
     ensures fault { IsErrOf result ReadErr.Fault → Rose (S.faults src.old) (S.faults src.new) }
     ensures later { S.faults src.old ≤ S.faults src.new }
+    // Unless it answers that the source failed, no failure was counted.
+    ensures kept { ¬ IsErrOf result ReadErr.Fault → S.faults src.new ≡ S.faults src.old }
 {
     let mut items = Vec::new(alloc);
     let mut piece = [0u8; PIECE_BYTES];
@@ -68,6 +70,7 @@ pub fn put_all<K: Sink>(out: &mut K, piece: &[u8]) -> Result<(), Failed>
     ensures prefix { OnErr result (GainsFront (K.taken out.old) (K.taken out.new) piece.now) }
     ensures failed { OnErr result (Rose (K.faults out.old) (K.faults out.new)) }
     ensures later { K.faults out.old ≤ K.faults out.new }
+    ensures kept { OnOk result (K.faults out.new ≡ K.faults out.old) }
 {
     let mut sent = 0;
     while sent < piece.len() {
