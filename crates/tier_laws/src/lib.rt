@@ -5,4 +5,4 @@ mod booking_laws;
 mod laws;
 
 pub use booking_laws::{booking_agreement, booking_headline, booking_meets, programs_meet};
-pub use laws::{agreement, applied, causes, durability, headline, holders, real_order};
+pub use laws::{agreement, applied, causes, durability, growth, headline, holders, real_order};
