@@ -4,4 +4,5 @@ pub mod PlayLaws
 pub mod ReadingLaws
 pub mod ReplayLaws
 pub mod RunLaws
+pub mod StatusLaws
 pub mod TopLaws

@@ -1,14 +1,17 @@
 // The command `replay`.
 ghost use Rattle.std.specs.Prelude.{◌≡◌, ℕ, ◌≤◌, List, length, map, IfSome};
 ghost use Rattle.aeg_base.specs.declared.limits.TheConstants.{INPUT_BYTES, MAX_FAULTS};
+ghost use Rattle.aeg_disk.specs.Disk.{DiskState};
 ghost use Rattle.aeg_io.specs.Causes.{Rose};
 ghost use Rattle.run_model.specs.declared.trace.TraceEvent.{TraceEvent};
 ghost use Rattle.world.specs.Disks.{AreBlank};
+ghost use Rattle.aegean_main.specs.DiskFaults.{NoneRose};
 ghost use Rattle.aegean_main.specs.Headline.{Keeps};
-ghost use Rattle.aegean_main.specs.Replay.{ReadsAs, Answers, PlaysOut};
+ghost use Rattle.aegean_main.specs.Replay.{ReadsAs, Comes, Answers, PlaysOut};
 ghost use Rattle.aegean_main.specs.Report.{Tells};
 ghost use Rattle.aegean_main.specs.Status.{line_for};
 ghost use Rattle.aegean_main.specs.Top.{LeavesAlone};
+ghost use Rattle.aegean_main.specs.declared.status.Status.{Status};
 
 use crate::lines::has_lines_within;
 use crate::playing::{Halt, play_script};
@@ -22,7 +25,7 @@ use std::alloc::Global;
 use tier_laws::{booking_agreement, booking_headline};
 
 /// Every run of the booking service keeps what the laws of the tiers say, whatever its events are.
-fn every_run_keeps()
+pub fn every_run_keeps()
     ensures { (u depth : ℕ) (es : List TraceEvent) → u ≤ MAX_FAULTS → Keeps u depth es }
 {
     booking_agreement();
@@ -37,6 +40,12 @@ fn its_runs_keep(script: &Script)
     prove!(few);
     every_run_keeps();
 }
+
+/// An input has one status and one text: on disks that counted no fault two ways in which it ends are one.
+pub fn input_has_one_status()
+    ensures status { (input : List ℕ) (before after later : List DiskState) (s t : Status) (a b : List ℕ) → NoneRose before after → NoneRose before later → Comes input before after s a → Comes input before later t b → s ≡ t }
+    ensures text { (input : List ℕ) (before after later : List DiskState) (s t : Status) (a b : List ℕ) → NoneRose before after → NoneRose before later → Comes input before after s a → Comes input before later t b → a ≡ b }
+{}
 
 /// Plays a script and tells how its run ended.
 fn play<D: Device, K: Sink>(alloc: Global, script: &Script, disks: &mut [D], out: &mut K) -> Status
