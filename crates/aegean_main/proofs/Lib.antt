@@ -1,5 +1,6 @@
 pub mod AnswerLaws
 pub mod DiskLaws
+pub mod FaultLaws
 pub mod PlayLaws
 pub mod ReadingLaws
 pub mod ReplayLaws

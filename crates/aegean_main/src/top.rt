@@ -5,6 +5,7 @@ ghost use Rattle.aeg_io.specs.Causes.{Rose};
 ghost use Rattle.run_model.specs.declared.trace.TraceEvent.{TraceEvent};
 ghost use Rattle.world.specs.Disks.{AreBlank};
 ghost use Rattle.aegean_main.specs.Answer.{answer_of};
+ghost use Rattle.aegean_main.specs.Faults.{IsCounted};
 ghost use Rattle.aegean_main.specs.Headline.{Keeps};
 ghost use Rattle.aegean_main.specs.Report.{Tells};
 ghost use Rattle.aegean_main.specs.Running.{told_with};
@@ -27,7 +28,7 @@ use std::alloc::Global;
 fn send<K: Sink>(out: &mut K, telling: &Telling) -> Status
     ensures follows { Follows (told_with telling.now.text.items telling.now.refused) (K.taken out.old) (K.taken out.new) result }
     ensures nothing { LeavesAlone result (K.taken out.old) (K.taken out.new) }
-    ensures write { result ≡ Status.WriteFault → Rose (K.faults out.old) (K.faults out.new) }
+    ensures write { IsCounted (result ≡ Status.WriteFault) (K.faults out.old) (K.faults out.new) }
     ensures read { ¬ (result ≡ Status.ReadFault) }
     ensures command { ¬ (result ≡ Status.Usage) }
     ensures packets { ¬ (result ≡ Status.Limit LimitKind.Packets) }
@@ -46,7 +47,7 @@ fn answer<K: Sink>(alloc: Global, input: &[u8], out: &mut K) -> Status
     requires { length input.now ≤ INPUT_BYTES }
     ensures follows { Follows (answer_of input.now) (K.taken out.old) (K.taken out.new) result }
     ensures nothing { LeavesAlone result (K.taken out.old) (K.taken out.new) }
-    ensures write { result ≡ Status.WriteFault → Rose (K.faults out.old) (K.faults out.new) }
+    ensures write { IsCounted (result ≡ Status.WriteFault) (K.faults out.old) (K.faults out.new) }
     ensures read { ¬ (result ≡ Status.ReadFault) }
     ensures command { ¬ (result ≡ Status.Usage) }
     ensures packets { ¬ (result ≡ Status.Limit LimitKind.Packets) }
@@ -65,8 +66,8 @@ fn answer<K: Sink>(alloc: Global, input: &[u8], out: &mut K) -> Status
 fn single_status<S: Source, K: Sink>(alloc: Global, source: &mut S, out: &mut K) -> Status
     ensures follows { IfSome (S.left source.old) (λ input. Follows (answer_of input) (K.taken out.old) (K.taken out.new) result) }
     ensures nothing { LeavesAlone result (K.taken out.old) (K.taken out.new) }
-    ensures read { result ≡ Status.ReadFault → Rose (S.faults source.old) (S.faults source.new) }
-    ensures write { result ≡ Status.WriteFault → Rose (K.faults out.old) (K.faults out.new) }
+    ensures read { IsCounted (result ≡ Status.ReadFault) (S.faults source.old) (S.faults source.new) }
+    ensures write { IsCounted (result ≡ Status.WriteFault) (K.faults out.old) (K.faults out.new) }
     ensures command { ¬ (result ≡ Status.Usage) }
     ensures packets { ¬ (result ≡ Status.Limit LimitKind.Packets) }
 {
@@ -87,8 +88,8 @@ pub fn single_call<S: Source, K: Sink, E: Sink>(
 ) -> Status
     ensures follows { IfSome (S.left source.old) (λ input. Follows (answer_of input) (K.taken out.old) (K.taken out.new) result) }
     ensures nothing { LeavesAlone result (K.taken out.old) (K.taken out.new) }
-    ensures read { result ≡ Status.ReadFault → Rose (S.faults source.old) (S.faults source.new) }
-    ensures write { result ≡ Status.WriteFault → Rose (K.faults out.old) (K.faults out.new) }
+    ensures read { IsCounted (result ≡ Status.ReadFault) (S.faults source.old) (S.faults source.new) }
+    ensures write { IsCounted (result ≡ Status.WriteFault) (K.faults out.old) (K.faults out.new) }
     ensures command { ¬ (result ≡ Status.Usage) }
     ensures packets { ¬ (result ≡ Status.Limit LimitKind.Packets) }
     ensures tells { Tells (line_for result) (E.taken err.old) (E.taken err.new) (E.faults err.old) (E.faults err.new) }
@@ -121,8 +122,8 @@ pub fn aegean<S: Source, K: Sink, E: Sink, D: Device>(
     ensures usage { (result ≡ Status.Usage) ↔ ¬ IsCommand (map string_bytes words.now) }
     ensures nothing { LeavesAlone result (K.taken out.old) (K.taken out.new) }
     ensures disks { LeavesAlone result disks.old disks.new }
-    ensures read { result ≡ Status.ReadFault → Rose (S.faults source.old) (S.faults source.new) }
-    ensures write { result ≡ Status.WriteFault → Rose (K.faults out.old) (K.faults out.new) }
+    ensures read { IsCounted (result ≡ Status.ReadFault) (S.faults source.old) (S.faults source.new) }
+    ensures write { IsCounted (result ≡ Status.WriteFault) (K.faults out.old) (K.faults out.new) }
     ensures tells { Tells (line_for result) (E.taken err.old) (E.taken err.new) (E.faults err.old) (E.faults err.new) }
     ensures packets { IsSingle (map string_bytes words.now) → ¬ (result ≡ Status.Limit LimitKind.Packets) }
     ensures single { IsSingle (map string_bytes words.now) → IfSome (S.left source.old) (λ input. Follows (answer_of input) (K.taken out.old) (K.taken out.new) result) }
