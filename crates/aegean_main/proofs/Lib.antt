@@ -1,7 +1,9 @@
 pub mod AnswerLaws
 pub mod DiskLaws
+pub mod FaultLaws
 pub mod PlayLaws
 pub mod ReadingLaws
 pub mod ReplayLaws
 pub mod RunLaws
+pub mod StatusLaws
 pub mod TopLaws

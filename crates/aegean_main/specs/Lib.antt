@@ -1,6 +1,7 @@
 pub mod Answer
 pub mod Counting
 pub mod DiskFaults
+pub mod Faults
 pub mod Headline
 pub mod Playing
 pub mod Reading

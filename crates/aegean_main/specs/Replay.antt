@@ -162,3 +162,7 @@ PlaysOut input before after old new = (bytes : List ℕ) × Plays input bytes be
 -- the input's own status, or want of memory
 abbrev pub IsItsOwn : List ℕ → List DiskState → List DiskState → Status → Type 0
 IsItsOwn input before after status = ((bytes : List ℕ) × Comes input before after status bytes) ⊎ (status ≡ statuses.Memory)
+
+-- where no disk counted a fault, the status is the one that the input has on all such disks, or want of memory
+abbrev pub IsTheStatus : List ℕ → List DiskState → List DiskState → Status → Type 0
+IsTheStatus input before after status = NoneRose before after → (other : Status) (bytes : List ℕ) (later : List DiskState) → NoneRose before later → Comes input before later other bytes → (status ≡ other) ⊎ (status ≡ statuses.Memory)

@@ -2,6 +2,11 @@
 //! script in the three tiers and writes what its events print. The nodes' disks are in memory.
 #![tactic(auto)]
 
+ghost use Rattle.std.specs.Prelude.{◌≡◌};
+ghost use Rattle.std.specs.Process.{exit_status};
+ghost use Rattle.aegean_main.specs.Report.{Tells};
+ghost use Rattle.aegean_main.specs.Status.{code_of, line_for};
+
 mod count;
 mod lines;
 mod playing;
@@ -15,8 +20,9 @@ mod tests;
 mod told;
 mod top;
 
-use aeg_io::{StdSink, StdSource};
+use aeg_io::{Sink, StdSink, StdSource};
 pub use replay::replay_call;
+use report::report;
 pub use status::{LimitKind, Status};
 use std::process::ExitCode;
 use std::{env, io};
@@ -32,18 +38,25 @@ fn words_of(rt: &(impl std::rt::Env + AllocGlobal)) -> io::Result<Vec<String>> {
     Ok(words)
 }
 
+/// Tells that there is no memory for the words of the command line or for the disks.
+fn out_of_memory<E: Sink>(err: &mut E) -> ExitCode
+    ensures code { exit_status result ≡ code_of Status.Memory }
+    ensures tells { Tells (line_for Status.Memory) (E.taken err.old) (E.taken err.new) (E.faults err.old) (E.faults err.new) }
+{
+    report(err, Status::Memory);
+    Status::Memory.exit_code()
+}
+
 fn main(rt: HostRuntime) -> ExitCode {
-    let mut err = StdSink::new(rt.stderr());
-    let Ok(words) = words_of(&rt) else {
-        report::report(&mut err, Status::Memory);
-        return ExitCode::from(Status::Memory.code());
-    };
-    let Ok(mut disks) = memory_disks(rt.alloc(), Vec::new(rt.alloc())) else {
-        report::report(&mut err, Status::Memory);
-        return ExitCode::from(Status::Memory.code());
-    };
     let mut source = StdSource::new(rt.reader());
     let mut out = StdSink::new(io::writer(&rt));
+    let mut err = StdSink::new(rt.stderr());
+    let Ok(words) = words_of(&rt) else {
+        return out_of_memory(&mut err);
+    };
+    let Ok(mut disks) = memory_disks(rt.alloc(), Vec::new(rt.alloc())) else {
+        return out_of_memory(&mut err);
+    };
     let status = aegean(
         rt.alloc(),
         &words,
@@ -52,5 +65,5 @@ fn main(rt: HostRuntime) -> ExitCode {
         &mut err,
         &mut disks,
     );
-    ExitCode::from(status.code())
+    status.exit_code()
 }

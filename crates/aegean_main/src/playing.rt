@@ -1,10 +1,10 @@
 // A script's run: each line is played in the world, and what its events print is written before the next one begins.
 ghost use Rattle.std.specs.Prelude.{◌≡◌, ◌≤◌, [], map, IsErrOf, OnOk};
-ghost use Rattle.aeg_io.specs.Causes.{Rose};
 ghost use Rattle.net_script.specs.Events.{IsProper};
 ghost use Rattle.aeg_base.specs.declared.limits.TheConstants.{MAX_FAULTS};
 ghost use Rattle.world.specs.Disks.{AreBlank, AreDisks};
 ghost use Rattle.world.specs.Run.{new_run, world_of, ComesFurther};
+ghost use Rattle.aegean_main.specs.Faults.{IsCounted};
 ghost use Rattle.aegean_main.specs.Playing.{PlaysNext, PlaysLine, StandsOr, EndsOr, Closes};
 
 use aeg_base::{Bytes, Memory};
@@ -35,8 +35,7 @@ fn play<D: Device, K: Sink>(
     requires disks { AreDisks (world_of world.old) (map D.state disks.old) }
     ensures plays { PlaysNext world.old world.new line.now (map D.state disks.old) (map D.state disks.new) (K.taken out.old) (K.taken out.new) result }
     ensures further { ComesFurther world.old world.new result }
-    ensures write { IsErrOf result Halt.Write → Rose (K.faults out.old) (K.faults out.new) }
-    ensures later { K.faults out.old ≤ K.faults out.new }
+    ensures write { IsCounted (IsErrOf result Halt.Write) (K.faults out.old) (K.faults out.new) }
 {
     room.clear();
     let empty = Vec::new(*room.allocator());
@@ -64,8 +63,7 @@ fn play_line<D: Device, K: Sink>(
     requires proper { IsProper world.old.u line.now }
     requires disks { AreDisks (world_of world.old) (map D.state disks.old) }
     ensures plays { PlaysLine world.old world.new line.now (map D.state disks.old) (map D.state disks.new) (K.taken out.old) (K.taken out.new) result }
-    ensures write { IsErrOf result Halt.Write → Rose (K.faults out.old) (K.faults out.new) }
-    ensures later { K.faults out.old ≤ K.faults out.new }
+    ensures write { IsCounted (IsErrOf result Halt.Write) (K.faults out.old) (K.faults out.new) }
 {
     'calls: loop {
         match play(world, line, disks, room, out) {
@@ -88,8 +86,7 @@ fn start<D: Device, K: Sink>(
     requires new { world.old ≡ new_run script.now.u script.now.depth }
     requires blank { AreBlank (map D.state disks.old) }
     ensures stands { StandsOr script.now world.new script.now.events (map D.state disks.old) (map D.state disks.new) (K.taken out.old) (K.taken out.new) result }
-    ensures write { IsErrOf result Halt.Write → Rose (K.faults out.old) (K.faults out.new) }
-    ensures later { K.faults out.old ≤ K.faults out.new }
+    ensures write { IsCounted (IsErrOf result Halt.Write) (K.faults out.old) (K.faults out.new) }
 {
     let mut lines = Bytes::new(alloc);
     if let Err(Memory) = world.start(disks, &mut lines) {
@@ -113,8 +110,7 @@ fn play_lines<D: Device, K: Sink>(
     requires new { world.old ≡ new_run script.now.u script.now.depth }
     requires blank { AreBlank (map D.state disks.old) }
     ensures plays { StandsOr script.now world.new [] (map D.state disks.old) (map D.state disks.new) (K.taken out.old) (K.taken out.new) result }
-    ensures write { IsErrOf result Halt.Write → Rose (K.faults out.old) (K.faults out.new) }
-    ensures later { K.faults out.old ≤ K.faults out.new }
+    ensures write { IsCounted (IsErrOf result Halt.Write) (K.faults out.old) (K.faults out.new) }
 {
     if let Err(halt) = start(world, *room.allocator(), script, disks, out) {
         return Err(halt);
@@ -132,8 +128,7 @@ fn play_lines<D: Device, K: Sink>(
 /// Writes the closing lines.
 fn close<K: Sink>(world: &World, room: Vec<u8>, out: &mut K) -> Result<(), Halt>
     ensures closes { Closes world.now (K.taken out.old) (K.taken out.new) result }
-    ensures write { IsErrOf result Halt.Write → Rose (K.faults out.old) (K.faults out.new) }
-    ensures later { K.faults out.old ≤ K.faults out.new }
+    ensures write { IsCounted (IsErrOf result Halt.Write) (K.faults out.old) (K.faults out.new) }
 {
     let mut room = room;
     room.clear();
@@ -159,7 +154,7 @@ fn play_in<D: Device, K: Sink>(
     requires new { world.old ≡ new_run script.now.u script.now.depth }
     requires blank { AreBlank (map D.state disks.old) }
     ensures plays { EndsOr script.now (map D.state disks.old) (map D.state disks.new) (K.taken out.old) (K.taken out.new) result }
-    ensures write { IsErrOf result Halt.Write → Rose (K.faults out.old) (K.faults out.new) }
+    ensures write { IsCounted (IsErrOf result Halt.Write) (K.faults out.old) (K.faults out.new) }
 {
     let mut room = Vec::new(alloc);
     if let Err(halt) = play_lines(world, script, disks, &mut room, out) {
@@ -177,7 +172,7 @@ pub fn play_script<D: Device, K: Sink>(
 ) -> Result<(), Halt>
     requires blank { AreBlank (map D.state disks.old) }
     ensures plays { EndsOr script.now (map D.state disks.old) (map D.state disks.new) (K.taken out.old) (K.taken out.new) result }
-    ensures write { IsErrOf result Halt.Write → Rose (K.faults out.old) (K.faults out.new) }
+    ensures write { IsCounted (IsErrOf result Halt.Write) (K.faults out.old) (K.faults out.new) }
 {
     let Ok(mut world) = World::new(alloc, script.u(), script.depth()) else {
         return Err(Halt::Memory);

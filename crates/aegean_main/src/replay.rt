@@ -1,14 +1,17 @@
 // The command `replay`.
 ghost use Rattle.std.specs.Prelude.{◌≡◌, ℕ, ◌≤◌, List, length, map, IfSome};
 ghost use Rattle.aeg_base.specs.declared.limits.TheConstants.{INPUT_BYTES, MAX_FAULTS};
-ghost use Rattle.aeg_io.specs.Causes.{Rose};
+ghost use Rattle.aeg_disk.specs.Disk.{DiskState};
 ghost use Rattle.run_model.specs.declared.trace.TraceEvent.{TraceEvent};
 ghost use Rattle.world.specs.Disks.{AreBlank};
+ghost use Rattle.aegean_main.specs.DiskFaults.{NoneRose};
+ghost use Rattle.aegean_main.specs.Faults.{IsCounted};
 ghost use Rattle.aegean_main.specs.Headline.{Keeps};
-ghost use Rattle.aegean_main.specs.Replay.{ReadsAs, Answers, PlaysOut};
+ghost use Rattle.aegean_main.specs.Replay.{ReadsAs, Comes, Answers, PlaysOut};
 ghost use Rattle.aegean_main.specs.Report.{Tells};
 ghost use Rattle.aegean_main.specs.Status.{line_for};
 ghost use Rattle.aegean_main.specs.Top.{LeavesAlone};
+ghost use Rattle.aegean_main.specs.declared.status.Status.{Status};
 
 use crate::lines::has_lines_within;
 use crate::playing::{Halt, play_script};
@@ -22,7 +25,7 @@ use std::alloc::Global;
 use tier_laws::{booking_agreement, booking_headline};
 
 /// Every run of the booking service keeps what the laws of the tiers say, whatever its events are.
-fn every_run_keeps()
+pub fn every_run_keeps()
     ensures { (u depth : ℕ) (es : List TraceEvent) → u ≤ MAX_FAULTS → Keeps u depth es }
 {
     booking_agreement();
@@ -38,13 +41,19 @@ fn its_runs_keep(script: &Script)
     every_run_keeps();
 }
 
+/// An input has one status and one text: on disks that counted no fault two ways in which it ends are one.
+pub fn input_has_one_status()
+    ensures status { (input : List ℕ) (before after later : List DiskState) (s t : Status) (a b : List ℕ) → NoneRose before after → NoneRose before later → Comes input before after s a → Comes input before later t b → s ≡ t }
+    ensures text { (input : List ℕ) (before after later : List DiskState) (s t : Status) (a b : List ℕ) → NoneRose before after → NoneRose before later → Comes input before after s a → Comes input before later t b → a ≡ b }
+{}
+
 /// Plays a script and tells how its run ended.
 fn play<D: Device, K: Sink>(alloc: Global, script: &Script, disks: &mut [D], out: &mut K) -> Status
     requires blank { AreBlank (map D.state disks.old) }
     ensures follows { (input : List ℕ) → ReadsAs input script.now → Answers input (map D.state disks.old) (map D.state disks.new) (K.taken out.old) (K.taken out.new) result }
     ensures nothing { LeavesAlone result (K.taken out.old) (K.taken out.new) }
     ensures disks { LeavesAlone result disks.old disks.new }
-    ensures write { result ≡ Status.WriteFault → Rose (K.faults out.old) (K.faults out.new) }
+    ensures write { IsCounted (result ≡ Status.WriteFault) (K.faults out.old) (K.faults out.new) }
     ensures read { ¬ (result ≡ Status.ReadFault) }
     ensures command { ¬ (result ≡ Status.Usage) }
 {
@@ -64,7 +73,7 @@ fn answer<D: Device, K: Sink>(alloc: Global, input: &[u8], disks: &mut [D], out:
     ensures follows { Answers input.now (map D.state disks.old) (map D.state disks.new) (K.taken out.old) (K.taken out.new) result }
     ensures nothing { LeavesAlone result (K.taken out.old) (K.taken out.new) }
     ensures disks { LeavesAlone result disks.old disks.new }
-    ensures write { result ≡ Status.WriteFault → Rose (K.faults out.old) (K.faults out.new) }
+    ensures write { IsCounted (result ≡ Status.WriteFault) (K.faults out.old) (K.faults out.new) }
     ensures read { ¬ (result ≡ Status.ReadFault) }
     ensures command { ¬ (result ≡ Status.Usage) }
 {
@@ -89,8 +98,8 @@ fn replay_status<S: Source, K: Sink, D: Device>(
     ensures follows { IfSome (S.left source.old) (λ input. Answers input (map D.state disks.old) (map D.state disks.new) (K.taken out.old) (K.taken out.new) result) }
     ensures nothing { LeavesAlone result (K.taken out.old) (K.taken out.new) }
     ensures disks { LeavesAlone result disks.old disks.new }
-    ensures read { result ≡ Status.ReadFault → Rose (S.faults source.old) (S.faults source.new) }
-    ensures write { result ≡ Status.WriteFault → Rose (K.faults out.old) (K.faults out.new) }
+    ensures read { IsCounted (result ≡ Status.ReadFault) (S.faults source.old) (S.faults source.new) }
+    ensures write { IsCounted (result ≡ Status.WriteFault) (K.faults out.old) (K.faults out.new) }
     ensures command { ¬ (result ≡ Status.Usage) }
 {
     match read_all(alloc, source, INPUT_BYTES) {
@@ -118,8 +127,8 @@ pub fn replay_call<S: Source, K: Sink, E: Sink, D: Device>(
     ensures every { (u depth : ℕ) (es : List TraceEvent) → u ≤ MAX_FAULTS → Keeps u depth es }
     ensures nothing { LeavesAlone result (K.taken out.old) (K.taken out.new) }
     ensures disks { LeavesAlone result disks.old disks.new }
-    ensures read { result ≡ Status.ReadFault → Rose (S.faults source.old) (S.faults source.new) }
-    ensures write { result ≡ Status.WriteFault → Rose (K.faults out.old) (K.faults out.new) }
+    ensures read { IsCounted (result ≡ Status.ReadFault) (S.faults source.old) (S.faults source.new) }
+    ensures write { IsCounted (result ≡ Status.WriteFault) (K.faults out.old) (K.faults out.new) }
     ensures command { ¬ (result ≡ Status.Usage) }
     ensures tells { Tells (line_for result) (E.taken err.old) (E.taken err.new) (E.faults err.old) (E.faults err.new) }
 {

@@ -1,6 +1,9 @@
 // How a call ends.
 ghost use Rattle.std.specs.Prelude.{◌≡◌};
+ghost use Rattle.std.specs.Process.{exit_status};
 ghost use Rattle.aegean_main.specs.Status.{code_of};
+
+use std::process::ExitCode;
 
 /// The limits that an input or a run can pass.
 #[derive(Clone, Copy, Debug, PartialEq, Eq)]
@@ -26,9 +29,7 @@ pub enum Status {
 }
 
 impl Status {
-    ghost use Rattle.aegean_main.specs.Status.{code_of};
-
-    /// The exit status.
+    /// The number that the process ends with.
     pub fn code(&self) -> u8
         ensures { result ≡ code_of self.now }
     {
@@ -42,5 +43,12 @@ impl Status {
             Status::Illegal { .. } => 6,
             Status::Memory => 7,
         }
+    }
+
+    /// What `main` returns, so that the process ends with this number.
+    pub fn exit_code(&self) -> ExitCode
+        ensures { exit_status result ≡ code_of self.now }
+    {
+        ExitCode::from(self.code())
     }
 }

@@ -1,18 +1,21 @@
 // The top call.
-ghost use Rattle.std.specs.Prelude.{◌≡◌, ◌≤◌, ◌↔◌, ◌⊎◌, ◌∷◌, [], map, string_bytes, length, IfSome, IsTrue};
-ghost use Rattle.aeg_base.specs.declared.limits.TheConstants.{INPUT_BYTES};
+ghost use Rattle.std.specs.Prelude.{◌≡◌, ℕ, List, ◌≤◌, ◌↔◌, ◌⊎◌, ◌∷◌, [], map, string_bytes, length, IfSome, IsTrue};
+ghost use Rattle.aeg_base.specs.declared.limits.TheConstants.{INPUT_BYTES, MAX_FAULTS};
 ghost use Rattle.aeg_io.specs.Causes.{Rose};
+ghost use Rattle.run_model.specs.declared.trace.TraceEvent.{TraceEvent};
 ghost use Rattle.world.specs.Disks.{AreBlank};
 ghost use Rattle.aegean_main.specs.Answer.{answer_of};
+ghost use Rattle.aegean_main.specs.Faults.{IsCounted};
+ghost use Rattle.aegean_main.specs.Headline.{Keeps};
 ghost use Rattle.aegean_main.specs.Report.{Tells};
 ghost use Rattle.aegean_main.specs.Running.{told_with};
 ghost use Rattle.aegean_main.specs.Status.{line_for};
-ghost use Rattle.aegean_main.specs.Replay.{Answers, PlaysOut, IsItsOwn};
+ghost use Rattle.aegean_main.specs.Replay.{Answers, PlaysOut, IsItsOwn, IsTheStatus};
 ghost use Rattle.aegean_main.specs.Top.{IsSingle, IsReplay, IsCommand, Follows, LeavesAlone, TellsHistory};
 
 use crate::count::BadLine;
 use crate::lines::has_lines_within;
-use crate::replay::replay_call;
+use crate::replay::{every_run_keeps, replay_call};
 use crate::report::report;
 use crate::run::{RunErr, Telling, run_lines};
 use crate::status::{LimitKind, Status};
@@ -25,7 +28,7 @@ use std::alloc::Global;
 fn send<K: Sink>(out: &mut K, telling: &Telling) -> Status
     ensures follows { Follows (told_with telling.now.text.items telling.now.refused) (K.taken out.old) (K.taken out.new) result }
     ensures nothing { LeavesAlone result (K.taken out.old) (K.taken out.new) }
-    ensures write { result ≡ Status.WriteFault → Rose (K.faults out.old) (K.faults out.new) }
+    ensures write { IsCounted (result ≡ Status.WriteFault) (K.faults out.old) (K.faults out.new) }
     ensures read { ¬ (result ≡ Status.ReadFault) }
     ensures command { ¬ (result ≡ Status.Usage) }
     ensures packets { ¬ (result ≡ Status.Limit LimitKind.Packets) }
@@ -44,7 +47,7 @@ fn answer<K: Sink>(alloc: Global, input: &[u8], out: &mut K) -> Status
     requires { length input.now ≤ INPUT_BYTES }
     ensures follows { Follows (answer_of input.now) (K.taken out.old) (K.taken out.new) result }
     ensures nothing { LeavesAlone result (K.taken out.old) (K.taken out.new) }
-    ensures write { result ≡ Status.WriteFault → Rose (K.faults out.old) (K.faults out.new) }
+    ensures write { IsCounted (result ≡ Status.WriteFault) (K.faults out.old) (K.faults out.new) }
     ensures read { ¬ (result ≡ Status.ReadFault) }
     ensures command { ¬ (result ≡ Status.Usage) }
     ensures packets { ¬ (result ≡ Status.Limit LimitKind.Packets) }
@@ -63,8 +66,8 @@ fn answer<K: Sink>(alloc: Global, input: &[u8], out: &mut K) -> Status
 fn single_status<S: Source, K: Sink>(alloc: Global, source: &mut S, out: &mut K) -> Status
     ensures follows { IfSome (S.left source.old) (λ input. Follows (answer_of input) (K.taken out.old) (K.taken out.new) result) }
     ensures nothing { LeavesAlone result (K.taken out.old) (K.taken out.new) }
-    ensures read { result ≡ Status.ReadFault → Rose (S.faults source.old) (S.faults source.new) }
-    ensures write { result ≡ Status.WriteFault → Rose (K.faults out.old) (K.faults out.new) }
+    ensures read { IsCounted (result ≡ Status.ReadFault) (S.faults source.old) (S.faults source.new) }
+    ensures write { IsCounted (result ≡ Status.WriteFault) (K.faults out.old) (K.faults out.new) }
     ensures command { ¬ (result ≡ Status.Usage) }
     ensures packets { ¬ (result ≡ Status.Limit LimitKind.Packets) }
 {
@@ -85,8 +88,8 @@ pub fn single_call<S: Source, K: Sink, E: Sink>(
 ) -> Status
     ensures follows { IfSome (S.left source.old) (λ input. Follows (answer_of input) (K.taken out.old) (K.taken out.new) result) }
     ensures nothing { LeavesAlone result (K.taken out.old) (K.taken out.new) }
-    ensures read { result ≡ Status.ReadFault → Rose (S.faults source.old) (S.faults source.new) }
-    ensures write { result ≡ Status.WriteFault → Rose (K.faults out.old) (K.faults out.new) }
+    ensures read { IsCounted (result ≡ Status.ReadFault) (S.faults source.old) (S.faults source.new) }
+    ensures write { IsCounted (result ≡ Status.WriteFault) (K.faults out.old) (K.faults out.new) }
     ensures command { ¬ (result ≡ Status.Usage) }
     ensures packets { ¬ (result ≡ Status.Limit LimitKind.Packets) }
     ensures tells { Tells (line_for result) (E.taken err.old) (E.taken err.new) (E.faults err.old) (E.faults err.new) }
@@ -119,8 +122,8 @@ pub fn aegean<S: Source, K: Sink, E: Sink, D: Device>(
     ensures usage { (result ≡ Status.Usage) ↔ ¬ IsCommand (map string_bytes words.now) }
     ensures nothing { LeavesAlone result (K.taken out.old) (K.taken out.new) }
     ensures disks { LeavesAlone result disks.old disks.new }
-    ensures read { result ≡ Status.ReadFault → Rose (S.faults source.old) (S.faults source.new) }
-    ensures write { result ≡ Status.WriteFault → Rose (K.faults out.old) (K.faults out.new) }
+    ensures read { IsCounted (result ≡ Status.ReadFault) (S.faults source.old) (S.faults source.new) }
+    ensures write { IsCounted (result ≡ Status.WriteFault) (K.faults out.old) (K.faults out.new) }
     ensures tells { Tells (line_for result) (E.taken err.old) (E.taken err.new) (E.faults err.old) (E.faults err.new) }
     ensures packets { IsSingle (map string_bytes words.now) → ¬ (result ≡ Status.Limit LimitKind.Packets) }
     ensures single { IsSingle (map string_bytes words.now) → IfSome (S.left source.old) (λ input. Follows (answer_of input) (K.taken out.old) (K.taken out.new) result) }
@@ -135,7 +138,13 @@ pub fn aegean<S: Source, K: Sink, E: Sink, D: Device>(
     ensures replay_headline { IsReplay (map string_bytes words.now) → result ≡ Status.Done → IfSome (S.left source.old) (λ input. PlaysOut input (map D.state disks.old) (map D.state disks.new) (K.taken out.old) (K.taken out.new)) }
     ensures replay_complete { IsReplay (map string_bytes words.now) → ¬ Rose (S.faults source.old) (S.faults source.new) → ¬ Rose (K.faults out.old) (K.faults out.new)
         → IfSome (S.left source.old) (λ input. IsItsOwn input (map D.state disks.old) (map D.state disks.new) result) }
+    // And where no disk counted a fault either, it has no other.
+    ensures replay_only { IsReplay (map string_bytes words.now) → ¬ Rose (S.faults source.old) (S.faults source.new) → ¬ Rose (K.faults out.old) (K.faults out.new)
+        → IfSome (S.left source.old) (λ input. IsTheStatus input (map D.state disks.old) (map D.state disks.new) result) }
+    // Every run of the booking service keeps what the laws of the tiers say.
+    ensures every { (u depth : ℕ) (es : List TraceEvent) → u ≤ MAX_FAULTS → Keeps u depth es }
 {
+    every_run_keeps();
     if is_word(words, "single") {
         return single_call(alloc, source, out, err);
     }

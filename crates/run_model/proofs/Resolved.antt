@@ -1,5 +1,5 @@
 -- Where no disk met a fault a script comes to one run.
-use Rattle.std.proofs.Common.{◌≡◌, zero, suc, true, List, [], ◌∷◌, ◌++◌, refl, sym, ap, ◌∙◌, subst, Option, Some, None, append_assoc, append-nil}
+use Rattle.std.proofs.Common.{◌≡◌, zero, suc, true, List, [], ◌∷◌, ◌++◌, refl, sym, ap, ◌∙◌, ◌⊎◌, inl, inr, subst, Option, Some, None, append_assoc, append-nil}
 use Rattle.run_model.specs.declared.trace.Fared.{Fared}
 use Rattle.run_model.specs.declared.trace.Fared.TheVariants.{Fine, Cut, Fault}
 use Rattle.run_model.specs.declared.trace.Found.TheVariants.{Reads, Fault as Fails}
@@ -73,6 +73,46 @@ goes_on {B} c s t end (e ∷ es) (f ∷ fs) g a h b n =
     let at : stands_after c s.world h.0 f ≡ stands_after c s.world g.0 e = ap (λ (z : Due). stands_after c s.world z f) (sym one) ∙ ap (λ (z : TraceEvent). stands_after c s.world g.0 z) (sym same) in
     let on = goes_on c (stands_after c s.world g.0 e) t end es fs g.4 a.1 (subst (λ (z : Standing B). Goes c z fs end) at h.4) b.1 n in
     record { rest = on.rest; whole = ap (λ z. z ∷ fs) (sym same) ∙ ap (λ z. e ∷ z) on.whole; goes = on.goes }
+
+-- of two runs from one standing one goes on as the other
+abbrev pub OneGoesOn : {B : Type 0} → Config B → Standing B → List TraceEvent → Standing B → List TraceEvent → Type 0
+OneGoesOn c t es end fs = GoesOn c t es fs end ⊎ GoesOn c end fs es t
+
+one_goes_on : {B : Type 0} (c : Config B) (s t end : Standing B) (es fs : List TraceEvent) → Goes c s es t → AllSure es → Goes c s fs end → AllSure fs → OneGoesOn c t es end fs
+one_goes_on {B} c s t end [] fs g a h b = inl (record { rest = fs; whole = refl; goes = subst (λ (z : Standing B). Goes c z fs end) g h })
+one_goes_on {B} c s t end (e ∷ es) [] g a h b = inr (record { rest = e ∷ es; whole = refl; goes = subst (λ (z : Standing B). Goes c z (e ∷ es) t) h g })
+one_goes_on {B} c s t end (e ∷ es) (f ∷ fs) g a h b =
+    let one : g.0 ≡ h.0 = same_due (next c s) g.0 h.0 g.1 h.1 in
+    let same : e ≡ f = sym (sure_is_due g.0.event e g.2 a.0) ∙ ap (λ (z : Due). z.event) one ∙ sure_is_due h.0.event f h.2 b.0 in
+    let at : stands_after c s.world h.0 f ≡ stands_after c s.world g.0 e = ap (λ (z : Due). stands_after c s.world z f) (sym one) ∙ ap (λ (z : TraceEvent). stands_after c s.world g.0 z) (sym same) in
+    with_one e f es fs same (one_goes_on c (stands_after c s.world g.0 e) t end es fs g.4 a.1 (subst (λ (z : Standing B). Goes c z fs end) at h.4) b.1)
+  where
+    with_one : (e f : TraceEvent) (es fs : List TraceEvent) → e ≡ f → OneGoesOn c t es end fs → OneGoesOn c t (e ∷ es) end (f ∷ fs)
+    with_one e f es fs same (inl on) = inl (record { rest = on.rest; whole = ap (λ z. z ∷ fs) (sym same) ∙ ap (λ z. e ∷ z) on.whole; goes = on.goes })
+    with_one e f es fs same (inr on) = inr (record { rest = on.rest; whole = ap (λ z. z ∷ es) same ∙ ap (λ z. f ∷ z) on.whole; goes = on.goes })
+
+-- of two runs of a script without a fault one begins with the other
+pub one_begins : {B : Type 0} (c : Config B) (script : Script) (es fs : List TraceEvent) (t end : Standing B) → Reaches c script es t → AllSure es → Reaches c script fs end → AllSure fs → OneGoesOn c t es end fs
+one_begins {B} c script es fs t end g a r b = go (one_goes_on c (first_standing (world c g.0) script) t end g.1 r.1 g.5 (sure_rest g.0 g.1 a_all) from (sure_rest r.0 r.1 b_all))
+  where
+    a_all : AllSure (g.0 ++ g.1)
+    a_all = subst AllSure g.2 a
+
+    b_all : AllSure (r.0 ++ r.1)
+    b_all = subst AllSure r.2 b
+
+    first : r.0 ≡ g.0
+    first = sym (all_due (starts c.u) r.0 r.3 (sure_front r.0 r.1 b_all)) ∙ all_due (starts c.u) g.0 g.3 (sure_front g.0 g.1 a_all)
+
+    from : Goes c (first_standing (world c g.0) script) r.1 end
+    from = subst (λ (z : List TraceEvent). Goes c (first_standing (world c z) script) r.1 end) first r.5
+
+    whole_by : (all one front more next rest : List TraceEvent) → all ≡ next ++ rest → next ≡ front → rest ≡ more ++ one → all ≡ (front ++ more) ++ one
+    whole_by all one front more next rest e f h = e ∙ ap (λ (z : List TraceEvent). z ++ rest) f ∙ ap (λ (z : List TraceEvent). front ++ z) h ∙ sym (append_assoc front more one)
+
+    go : OneGoesOn c t g.1 end r.1 → OneGoesOn c t es end fs
+    go (inl on) = inl (record { rest = on.rest; whole = whole_by fs on.rest g.0 g.1 r.0 r.1 r.2 first on.whole ∙ ap (λ (z : List TraceEvent). z ++ on.rest) (sym g.2); goes = on.goes })
+    go (inr on) = inr (record { rest = on.rest; whole = whole_by es on.rest r.0 r.1 g.0 g.1 g.2 (sym first) on.whole ∙ ap (λ (z : List TraceEvent). z ++ on.rest) (sym r.2); goes = on.goes })
 
 -- a run of a script without a fault is how each such run of it begins
 pub run_begins : {B : Type 0} (c : Config B) (script : Script) (es fs : List TraceEvent) (t : Standing B) → Reaches c script es t → AllSure es → (r : Resolves c script fs) → AllSure fs → GoesOn c t es fs r.0

@@ -1,7 +1,8 @@
--- The history grows at its end, so what is submitted later starts later.
-use Rattle.std.proofs.Common.{◌≡◌, ℕ, ◌+◌, ◌*◌, ◌<◌, ◌≤◌, List, [], ◌∷◌, ◌++◌, length, refl, sym, ap, ◌∙◌, subst, inl, inr, Option, Some, None, suc}
+-- Chosen logs and the history grow at their ends, so what is submitted later starts later.
+use Rattle.std.proofs.Common.{◌≡◌, ℕ, ◌+◌, ◌*◌, ◌<◌, ◌≤◌, List, [], ◌∷◌, ◌++◌, length, refl, sym, ap, ◌∙◌, subst, inl, inr, Option, Some, None, suc, append_assoc}
 use Rattle.std.specs.Prelude.{slice_get, ◌⊎◌, ◌==◌, ◌&&◌, not, nat_lt, nat_le}
 use Rattle.std.proofs.lemmas.Bool.{cond_both, cases_lt}
+use Rattle.std.proofs.lemmas.List.{append-nil}
 use Rattle.aeg_base.specs.declared.names.ReqId.{ReqId}
 use Rattle.aeg_base.specs.declared.names.Tier.{Tier}
 use Rattle.aeg_base.specs.declared.names.Tier.TheVariants.{Mid as MidTier, Inv, Pay}
@@ -28,27 +29,26 @@ use Rattle.run_model.specs.declared.trace.Found.{Found}
 use Rattle.run_model.specs.declared.trace.TraceEvent.{TraceEvent}
 use Rattle.run_model.specs.declared.trace.TraceEvent.TheVariants.{Submit, Deliver, Short, Lead, Offer, Work, Retry, Crash, Restart, Wipe}
 use Rattle.run_model.specs.World.{Config, World, start, fate, unwritten, no_run, crashed, restarted, at_mid, mid_up, at_back, back_up, mid_node, back_node, with_mid, with_back, opens, is_client_number, submits, reopens, takes_reply, client_gets, node_gets, arrives, delivered, shortened, leads, offers, works, node_retries, retries, crashes, restarts, wipes, can_fare, if_can, happens}
-use Rattle.run_model.specs.Runs.{back_chosen, back_grows, grows, mid_chosen, mid_grows, run, world}
-use Rattle.run_model.specs.Histories.{HistoryStep}
+use Rattle.run_model.specs.Runs.{back_chosen, back_grows, grows, mid_chosen, mid_grows, run, served_of, world}
+use Rattle.run_model.specs.Histories.{back_steps, value_steps}
 use Rattle.run_model.proofs.Appending.{run-append}
-use Rattle.tier_laws.specs.Said.{Laws}
+use Rattle.tier_laws.specs.Said.{Laws, IsFront, WasSubmitted, chosen_log}
 use Rattle.tier_laws.proofs.Events.{world_ok}
-use Rattle.tier_laws.proofs.Past.{more-refl}
 use Rattle.tier_laws.proofs.Soups.{mid_soup, back_soup}
-use Rattle.tier_laws.proofs.Stable.{MoreLog}
-use Rattle.tier_laws.proofs.Lists.{get_left, get_within}
+use Rattle.tier_laws.proofs.Lists.{by_tier, get_left, get_within}
 
 -- AN EVENT LEAVES WHAT WAS CHOSEN
 
 pub record Keeps {B : Type 0} (w z : World B) : Type 0 where
   pub hist : z.hist ≡ w.hist
   pub log : z.log ≡ w.log
+  pub logs : z.logs ≡ w.logs
 
 keeps_refl : {B : Type 0} (w : World B) → Keeps w w
-keeps_refl w = record { hist = refl; log = refl }
+keeps_refl w = record { hist = refl; log = refl; logs = refl }
 
 mid_up_keeps : {B : Type 0} (w : World B) (x : ℕ) (d : List (List Fact) → List Fact → Device) (move : Mid → Move Mid) (r : Mid → Option Running) (m : Mode Mid) → Keeps w (mid_up w x d move r m)
-mid_up_keeps w x d move r (Up σ) = record { hist = refl; log = refl }
+mid_up_keeps w x d move r (Up σ) = record { hist = refl; log = refl; logs = refl }
 mid_up_keeps w x d move r Down = keeps_refl w
 mid_up_keeps w x d move r Gone = keeps_refl w
 
@@ -56,7 +56,7 @@ at_mid_keeps : {B : Type 0} (c : Config B) (w : World B) (x : ℕ) (d : List (Li
 at_mid_keeps c w x d move r = cond_both (nat_lt x (2 * c.u + 1)) (mid_up w x d move r (w.mids x).mode) w (Keeps w) (λ e. mid_up_keeps w x d move r (w.mids x).mode) (λ e. keeps_refl w)
 
 back_up_keeps : {B : Type 0} (w : World B) (t : Tier) (x : ℕ) (d : List (List Fact) → List Fact → Device) (move : Back B → Move (Back B)) (m : Mode (Back B)) → Keeps w (back_up w t x d move m)
-back_up_keeps w t x d move (Up σ) = record { hist = refl; log = refl }
+back_up_keeps w t x d move (Up σ) = record { hist = refl; log = refl; logs = refl }
 back_up_keeps w t x d move Down = keeps_refl w
 back_up_keeps w t x d move Gone = keeps_refl w
 
@@ -64,20 +64,20 @@ at_back_keeps : {B : Type 0} (c : Config B) (w : World B) (t : Tier) (x : ℕ) (
 at_back_keeps c w t x d move = cond_both (nat_lt x (2 * c.u + 1)) (back_up w t x d move (w.backs t x).mode) w (Keeps w) (λ e. back_up_keeps w t x d move (w.backs t x).mode) (λ e. keeps_refl w)
 
 mid_node_keeps : {B : Type 0} (c : Config B) (w : World B) (x : ℕ) (node : Node Mid Fact) → Keeps w (mid_node c w x node)
-mid_node_keeps c w x node = cond_both (nat_lt x (2 * c.u + 1)) (with_mid w x node [] []) w (Keeps w) (λ e. record { hist = refl; log = refl }) (λ e. keeps_refl w)
+mid_node_keeps c w x node = cond_both (nat_lt x (2 * c.u + 1)) (with_mid w x node [] []) w (Keeps w) (λ e. record { hist = refl; log = refl; logs = refl }) (λ e. keeps_refl w)
 
 back_node_keeps : {B : Type 0} (c : Config B) (w : World B) (t : Tier) (x : ℕ) (node : Node (Back B) Fact) → Keeps w (back_node c w t x node)
-back_node_keeps c w t x node = cond_both (nat_lt x (2 * c.u + 1)) (with_back w t x node []) w (Keeps w) (λ e. record { hist = refl; log = refl }) (λ e. keeps_refl w)
+back_node_keeps c w t x node = cond_both (nat_lt x (2 * c.u + 1)) (with_back w t x node []) w (Keeps w) (λ e. record { hist = refl; log = refl; logs = refl }) (λ e. keeps_refl w)
 
 takes_keeps : {B : Type 0} (w : World B) (y s : ℕ) (text : List ℕ) → Keeps w (takes_reply w y s text)
-takes_keeps w y s text = cond_both (is_some (w.clients y).opened && (s == (w.clients y).last)) _ w (Keeps w) (λ e. record { hist = refl; log = refl }) (λ e. keeps_refl w)
+takes_keeps w y s text = cond_both (is_some (w.clients y).opened && (s == (w.clients y).last)) _ w (Keeps w) (λ e. record { hist = refl; log = refl; logs = refl }) (λ e. keeps_refl w)
 
 submits_keeps : {B : Type 0} (c : Config B) (w : World B) (y : ℕ) (text : List ℕ) → Keeps w (submits c w y text)
-submits_keeps c w y text = cond_both (is_client_number y && (is_request c.service (record { client = y; seq = suc (w.clients y).last }) text && (not (is_some (w.clients y).opened) && nat_lt (w.clients y).last 65536))) (opens c.u w y text) w (Keeps w) (λ e. record { hist = refl; log = refl }) (λ e. keeps_refl w)
+submits_keeps c w y text = cond_both (is_client_number y && (is_request c.service (record { client = y; seq = suc (w.clients y).last }) text && (not (is_some (w.clients y).opened) && nat_lt (w.clients y).last 65536))) (opens c.u w y text) w (Keeps w) (λ e. record { hist = refl; log = refl; logs = refl }) (λ e. keeps_refl w)
 
 reopens_keeps : {B : Type 0} (c : Config B) (w : World B) (y : ℕ) (o : Option (List ℕ)) → Keeps w (reopens c w y o)
 reopens_keeps c w y None = keeps_refl w
-reopens_keeps c w y (Some text) = record { hist = refl; log = refl }
+reopens_keeps c w y (Some text) = record { hist = refl; log = refl; logs = refl }
 
 client_keeps : {B : Type 0} (w : World B) (y : ℕ) (message : Msg) → Keeps w (client_gets w y message)
 client_keeps w y (msgs.Reply who text) = takes_keeps w y who.seq text
@@ -162,42 +162,81 @@ happens_keeps c w (Wipe n) = wipe_keeps c w n.tier n.index
 
 -- A RUN GOES ON
 
-mid_longer : {B : Type 0} (c : Config B) (w : World B) (o : Option AnyValue) → MoreLog w.hist (mid_chosen c w o).hist
-mid_longer c w None = more-refl w.hist
-mid_longer c w (Some v) = record { at = λ i k e. get_left w.hist _ i k e }
+front_refl : {A : Type 0} (xs : List A) → IsFront xs xs
+front_refl xs = ([], sym (append-nil xs))
 
-back_longer : {B : Type 0} (w : World B) (t : Tier) (o : Option AnyValue) → MoreLog w.hist (back_chosen w t o).hist
-back_longer w t None = more-refl w.hist
-back_longer w t (Some v) = record { at = λ i k e. get_left w.hist _ i k e }
+front_then : {A : Type 0} (xs ys zs : List A) → IsFront xs ys → IsFront ys zs → IsFront xs zs
+front_then xs ys zs f g = (f.0 ++ g.0, g.1 ∙ ap (λ z. z ++ g.0) f.1 ∙ append_assoc xs f.0 g.0)
 
--- a run goes on from its history
-pub run_longer : {B : Type 0} (c : Config B) (es : List TraceEvent) (w : World B) → MoreLog w.hist (run c es w).hist
-run_longer c [] w = more-refl w.hist
-run_longer {B} c (e ∷ es) w = record { at = λ i k f. (run_longer c es (grows c (happens c w e))).at i k ((three i k) (two i k (one i k (subst (λ h. slice_get h i ≡ Some k) (sym (happens_keeps c w e).hist) f)))) }
+pub front_at : {A : Type 0} (xs ys : List A) → IsFront xs ys → (i : ℕ) (a : A) → slice_get xs i ≡ Some a → slice_get ys i ≡ Some a
+front_at xs ys f i a e = ap (λ z. slice_get z i) f.1 ∙ get_left xs f.0 i a e
+
+-- what was chosen in w begins what was chosen in z
+pub record Longer {B : Type 0} (w z : World B) : Type 0 where
+  pub hist : IsFront w.hist z.hist
+  pub log : IsFront w.log z.log
+  pub logs : (t : Tier) → IsFront (w.logs t) (z.logs t)
+
+longer_refl : {B : Type 0} (w : World B) → Longer w w
+longer_refl w = record { hist = front_refl w.hist; log = front_refl w.log; logs = λ t. front_refl (w.logs t) }
+
+longer_then : {B : Type 0} (w y z : World B) → Longer w y → Longer y z → Longer w z
+longer_then w y z a b = record { hist = front_then w.hist y.hist z.hist a.hist b.hist; log = front_then w.log y.log z.log a.log b.log; logs = λ t. front_then (w.logs t) (y.logs t) (z.logs t) (a.logs t) (b.logs t) }
+
+keeps_longer : {B : Type 0} (w z : World B) → Keeps w z → Longer w z
+keeps_longer w z k = record {
+  hist = subst (IsFront w.hist) (sym k.hist) (front_refl w.hist);
+  log = subst (IsFront w.log) (sym k.log) (front_refl w.log);
+  logs = λ t. subst (λ K. IsFront (w.logs t) (K t)) (sym k.logs) (front_refl (w.logs t));
+}
+
+mid_longer : {B : Type 0} (c : Config B) (w : World B) (o : Option AnyValue) → Longer w (mid_chosen c w o)
+mid_longer c w None = longer_refl w
+mid_longer c w (Some v) = record { hist = (value_steps c.service c.depth w.log (served_of c w) v, refl); log = (v ∷ [], refl); logs = λ t. front_refl (w.logs t) }
+
+back_longer : {B : Type 0} (w : World B) (t : Tier) (o : Option AnyValue) → Longer w (back_chosen w t o)
+back_longer w t None = longer_refl w
+back_longer w t (Some v) = record {
+  hist = (back_steps t (w.logs t) v, refl);
+  log = front_refl w.log;
+  logs = by_tier (λ y K. IsFront (w.logs y) K) w.logs t (w.logs t ++ v ∷ []) (v ∷ [], refl) (λ y f. front_refl (w.logs y));
+}
+
+grows_longer : {B : Type 0} (c : Config B) (w : World B) → Longer w (grows c w)
+grows_longer {B} c w = longer_then w one (grows c w) (mid_longer c w (chosen_among c.u (mid_soup w.soup) (length w.log) (mid_soup w.soup)))
+    (longer_then one two (grows c w) (back_longer one Inv (chosen_among c.u (back_soup Inv one.soup) (length (one.logs Inv)) (back_soup Inv one.soup)))
+    (back_longer two Pay (chosen_among c.u (back_soup Pay two.soup) (length (two.logs Pay)) (back_soup Pay two.soup))))
   where
-    one : (i : ℕ) (k : HistoryStep) → slice_get (happens c w e).hist i ≡ Some k → slice_get (mid_grows c (happens c w e)).hist i ≡ Some k
-    one i k f = (mid_longer c (happens c w e) (chosen_among c.u (mid_soup (happens c w e).soup) (length (happens c w e).log) (mid_soup (happens c w e).soup))).at i k f
+    one : World B
+    one = mid_grows c w
 
-    two : (i : ℕ) (k : HistoryStep) → slice_get (mid_grows c (happens c w e)).hist i ≡ Some k → slice_get (back_grows c Inv (mid_grows c (happens c w e))).hist i ≡ Some k
-    two i k f = (back_longer (mid_grows c (happens c w e)) Inv (chosen_among c.u (back_soup Inv (mid_grows c (happens c w e)).soup) (length ((mid_grows c (happens c w e)).logs Inv)) (back_soup Inv (mid_grows c (happens c w e)).soup))).at i k f
+    two : World B
+    two = back_grows c Inv one
 
-    three : (i : ℕ) (k : HistoryStep) → slice_get (back_grows c Inv (mid_grows c (happens c w e))).hist i ≡ Some k → slice_get (grows c (happens c w e)).hist i ≡ Some k
-    three i k f = (back_longer (back_grows c Inv (mid_grows c (happens c w e))) Pay (chosen_among c.u (back_soup Pay (back_grows c Inv (mid_grows c (happens c w e))).soup) (length ((back_grows c Inv (mid_grows c (happens c w e))).logs Pay)) (back_soup Pay (back_grows c Inv (mid_grows c (happens c w e))).soup))).at i k f
+run_longer : {B : Type 0} (c : Config B) (es : List TraceEvent) (w : World B) → Longer w (run c es w)
+run_longer c [] w = longer_refl w
+run_longer c (e ∷ es) w =
+    longer_then w (happens c w e) (run c (e ∷ es) w) (keeps_longer w (happens c w e) (happens_keeps c w e))
+    (longer_then (happens c w e) (grows c (happens c w e)) (run c (e ∷ es) w) (grows_longer c (happens c w e)) (run_longer c es (grows c (happens c w e))))
 
-pub hist_later : {B : Type 0} (c : Config B) (es fs : List TraceEvent) (i : ℕ) (k : HistoryStep) → slice_get (world c es).hist i ≡ Some k → slice_get (world c (es ++ fs)).hist i ≡ Some k
-hist_later {B} c es fs i k e = ap (λ (z : World B). slice_get z.hist i) (run-append c es fs start) ∙ (run_longer c fs (world c es)).at i k e
+pub goes_on : {B : Type 0} (c : Config B) (es fs : List TraceEvent) → Longer (world c es) (world c (es ++ fs))
+goes_on c es fs = subst (Longer (world c es)) (sym (run-append c es fs start)) (run_longer c fs (world c es))
+
+pub log_goes_on : {B : Type 0} (c : Config B) (es fs : List TraceEvent) (t : Tier) → IsFront (chosen_log (world c es) t) (chosen_log (world c (es ++ fs)) t)
+log_goes_on c es fs MidTier = (goes_on c es fs).log
+log_goes_on c es fs Inv = (goes_on c es fs).logs Inv
+log_goes_on c es fs Pay = (goes_on c es fs).logs Pay
 
 -- a start that was not submitted after es stands past the history of es
 pub starts_later : {B : Type 0} (c : Config B) (es fs : List TraceEvent) (i n : ℕ) (who : ReqId) (body : List ℕ) → c.u < 128 → Laws c.service → slice_get (world c (es ++ fs)).hist i ≡ Some (Start who n, body)
-    → ((j : ℕ) (text : List ℕ) → slice_get (world c es).submitted j ≡ Some (record { client = who.client; seq = who.seq; body = text }) → ⊥) → length (world c es).hist ≤ i
+    → ((text : List ℕ) → WasSubmitted (world c es) who text → ⊥) → length (world c es).hist ≤ i
 starts_later {B} c es fs i n who body few laws e new = go (cases_lt i (length (world c es).hist))
   where
     go : (i < length (world c es).hist) ⊎ (length (world c es).hist ≤ i) → length (world c es).hist ≤ i
     go (inr l) = l
     go (inl l) =
         let k = get_within (world c es).hist i l in
-        let f : slice_get (world c (es ++ fs)).hist i ≡ Some k.0 = ap (λ (z : World B). slice_get z.hist i) (run-append c es fs start) ∙ (run_longer c fs (world c es)).at i k.0 k.1 in
+        let f : slice_get (world c (es ++ fs)).hist i ≡ Some k.0 = front_at (world c es).hist (world c (es ++ fs)).hist (goes_on c es fs).hist i k.0 k.1 in
         let same : k.0 ≡ (Start who n, body) = cc in
         let g : slice_get (world c es).hist i ≡ Some (Start who n, body) = k.1 ∙ ap Some same in
-        let r = (world_ok c es few laws).core.starts i n who body g in
-        absurd (new r.0 body r.1)
+        absurd (new body ((world_ok c es few laws).core.starts i n who body g))

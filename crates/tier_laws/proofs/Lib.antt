@@ -31,6 +31,7 @@ pub mod Grow
 pub mod Events
 pub mod Told
 pub mod Later
+pub mod Replied
 pub mod Before
 pub mod Prefixes
 pub mod Few

@@ -65,7 +65,7 @@ pub is_round-more : {B : Type 0} (c : Config B) (P Q : Past B) (r : ℕ) (R : Ro
 is_round-more c P Q r R g e = round-more c.service c.depth P.log Q.log P.server.served Q.server.served r R g.log (answers-kept P.server Q.server g.kept) e
 
 pub run_ok-more : {B : Type 0} (c : Config B) (P Q : Past B) (v : Vote) → Grows P Q → RunOk c P v → RunOk c Q v
-run_ok-more c P Q v g k = record { made = k.made; is_round = is_round-more c P Q v.round k.made g k.is_round; held = job_held-more c P Q k.made.wants g k.held; is_ordered = k.is_ordered; is_token = k.is_token }
+run_ok-more c P Q v g k = record { inside = k.inside; made = k.made; is_round = is_round-more c P Q v.round k.made g k.is_round; held = job_held-more c P Q k.made.wants g k.held; is_ordered = k.is_ordered; is_token = k.is_token }
 
 verdict_by-more : {B : Type 0} (c : Config B) (P Q : Past B) (r : ℕ) (R : Round) (v : Verdict) → Grows P Q → VerdictBy c P r R v → VerdictBy c Q r R v
 verdict_by-more c P Q r R (Commit o order) g k =

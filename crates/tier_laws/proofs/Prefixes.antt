@@ -27,10 +27,8 @@ use Rattle.tier_laws.proofs.Core.{Inv as WorldOk, Mid_event, past}
 use Rattle.tier_laws.proofs.Events.{happens_ok, start_ok, start_codes}
 use Rattle.tier_laws.proofs.Grow.{grows_ok, grows_codes, served_same}
 use Rattle.run_model.proofs.Appending.{run-append}
-use Rattle.tier_laws.proofs.Logs.{meets_good}
-use Rattle.tier_laws.proofs.Past.{BackOk, FloorOk, ManyHold, VerdictOk}
-use Rattle.tier_laws.proofs.Soups.{back_soup}
-use Rattle.tier_laws.proofs.Told.{held_for, sent}
+use Rattle.tier_laws.proofs.Past.{ManyHold, VerdictOk}
+use Rattle.tier_laws.proofs.Told.{held_for, sent, settled_floor}
 use Rattle.tier_laws.proofs.Lists.{some_of}
 
 -- the nodes' codes are held, by prefixes of the events
@@ -137,7 +135,4 @@ floor_holders c es place g n p few laws e f a b =
 pub settled_holders : {B : Type 0} (c : Config B) (es : List TraceEvent) (t : Tier) (p g n : ℕ) → c.u < 128 → Laws c.service → slice_get ((world c es).logs t) p ≡ Some (OfBack (Settle g)) → 0 < n → n < g → ManyHolders c es t n
 settled_holders {B} c es t p g n few laws e a b =
     let k = held_now c es few laws in
-    let w : World B = world c es in
-    let part = k.inv.core.back_log t in
-    let o : FloorOk c (past c w k.inv.codes) t g = meets_good c.u (k.inv.k t) (back_soup t w.soup) (w.logs t) (BackOk c (past c w k.inv.codes) t) p (OfBack (Settle g)) part (part.sound p (OfBack (Settle g)) e) in
-    many_holders c es k t n (o.many n a b)
+    many_holders c es k t n ((settled_floor c (world c es) t p g k.inv e).many n a b)

@@ -152,7 +152,7 @@ acted-calls P w k (Call v stage x) s t n text e = go (number_cases P.calls v k (
     go (inl f) = inr (sym f.0, sym f.1)
     go (inr f) = inl (sym f ∙ e)
 
-put2_cases : {A : Type 0} (f : ℕ → ℕ → A) (c s : ℕ) (a : A) (d r : ℕ) → ((d ≡ c) × (r ≡ s)) ⊎ (put f c (put (f c) s a) d r ≡ f d r)
+pub put2_cases : {A : Type 0} (f : ℕ → ℕ → A) (c s : ℕ) (a : A) (d r : ℕ) → ((d ≡ c) × (r ≡ s)) ⊎ (put f c (put (f c) s a) d r ≡ f d r)
 put2_cases {A} f c s a d r = go (cases_eq d c) (cases_eq r s)
   where
     go : (d ≡ c) ⊎ (d ≡ c → ⊥) → (r ≡ s) ⊎ (r ≡ s → ⊥) → ((d ≡ c) × (r ≡ s)) ⊎ (put f c (put (f c) s a) d r ≡ f d r)

@@ -160,7 +160,7 @@ ready_state {B} c P h soup x σ (Some R) k f = plain c P h soup x σ [] (applies
 
 run_or_not_ok : {B : Type 0} (c : Config B) (P : Past B) (h : ℕ → List (LogFact AnyValue)) (soup : List Packet) (x : ℕ) (σ : Mid) (schedule : List ℕ) (o : Option Running) → Here c P h soup x σ → to_run c.u c.service x σ schedule ≡ o → MoveOk c P h soup x (the_run o) (runs_or_not c.u c.service x σ o)
 run_or_not_ok c P h soup x σ schedule None k e = stays_ok c P h soup x σ k
-run_or_not_ok c P h soup x σ schedule (Some r) k e = runs_ok c P h soup x σ r k (ran_from c.u c.service x σ schedule r e) (run_right c P x σ schedule r k.laws k.known k.other (prefix c P h soup x σ k) e)
+run_or_not_ok c P h soup x σ schedule (Some r) k e = runs_ok c P h soup x σ r k (ran_from c.u c.service x σ schedule r e) (run_right c P x σ schedule r k.inside k.laws k.known k.other (prefix c P h soup x σ k) e)
 
 pub work_ok : {B : Type 0} (c : Config B) (P : Past B) (h : ℕ → List (LogFact AnyValue)) (soup : List Packet) (x : ℕ) (σ : Mid) (schedule : List ℕ) → Here c P h soup x σ → MoveOk c P h soup x (the_run (work_run c.u c.service x σ schedule)) (work c.u c.service x σ schedule)
 work_ok {B} c P h soup x σ schedule k = go (is_some (verdict_at σ.log.learned σ.applied))

@@ -327,7 +327,7 @@ step_shows {B} m O P s k again sh f = go k.0 k.1 f
 
 -- HISTORIES
 
-done_of : {A : Type 0} (r : Result A) → IsDone r → (a : A) × (r ≡ Done a)
+pub done_of : {A : Type 0} (r : Result A) → IsDone r → (a : A) × (r ≡ Done a)
 done_of (Refused row) d = absurd d
 done_of (Done a) d = (a, refl)
 

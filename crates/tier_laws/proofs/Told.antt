@@ -1,6 +1,7 @@
 -- What the laws say, from the invariant.
-use Rattle.std.proofs.Common.{◌≡◌, ℕ, ◌+◌, ◌*◌, ◌<◌, true, false, List, refl, sym, ap, ◌∙◌, subst, Some, arith}
-use Rattle.std.specs.Prelude.{slice_get}
+use Rattle.std.proofs.Common.{◌≡◌, ℕ, ◌+◌, ◌*◌, ◌<◌, Bool, true, false, List, refl, sym, ap, ◌∙◌, subst, inl, inr, Some, arith}
+use Rattle.std.specs.Prelude.{slice_get, ◌⊎◌, ◌==◌, ◌||◌}
+use Rattle.std.proofs.lemmas.Bool.{or_left, or_right, or_cases, eq-eqb, eqb-true}
 use Rattle.std.proofs.lemmas.Slice.Eq.{bytes_eq-Decides}
 use Rattle.aeg_base.specs.declared.names.ReqId.{ReqId}
 use Rattle.aeg_base.specs.declared.names.Tier.{Tier}
@@ -8,7 +9,7 @@ use Rattle.aeg_base.specs.declared.names.Tier.TheVariants.{Mid as MidTier, Inv, 
 use Rattle.aeg_base.specs.declared.names.End.{End}
 use Rattle.aeg_base.specs.declared.names.End.TheVariants.{Client}
 use Rattle.server_model.specs.History as history
-use Rattle.log_model.proofs.Basics.{every-get}
+use Rattle.log_model.proofs.Basics.{count-more, every-get}
 use Rattle.log_model.proofs.Invariant.{PacketOk}
 use Rattle.log_model.specs.declared.message.PaxMsg.TheVariants.{Learn}
 use Rattle.log_model.specs.Chosen.{Meets}
@@ -17,7 +18,8 @@ use Rattle.log_model.specs.World.{Packet as LogPacket, Mode}
 use Rattle.log_model.specs.World.Mode.{Down, Gone, Up}
 use Rattle.log_values.specs.declared.fact.Fact.{Fact}
 use Rattle.log_values.specs.declared.any_value.AnyValue.{AnyValue}
-use Rattle.log_values.specs.declared.any_value.AnyValue.TheVariants.{Mid as OfMid}
+use Rattle.log_values.specs.declared.any_value.AnyValue.TheVariants.{Back as OfBack, Mid as OfMid}
+use Rattle.log_values.specs.declared.back_value.BackValue.TheVariants.{Settle}
 use Rattle.log_values.specs.declared.mid_value.MidValue.TheVariants.{Verdict as Decided}
 use Rattle.log_values.specs.declared.mid_value.Verdict.{Verdict}
 use Rattle.log_values.specs.declared.mid_value.Verdict.TheVariants.{Commit, Serial}
@@ -26,25 +28,26 @@ use Rattle.frames.specs.declared.message.Msg.TheVariants as msgs
 use Rattle.round_model.specs.After.{Round, round, after}
 use Rattle.round_model.specs.Answers.{Code, code_of}
 use Rattle.round_model.specs.Tables.{Number, Want}
+use Rattle.round_model.specs.Verdicts.{Vote}
 use Rattle.run_model.specs.World.{Config, World}
 use Rattle.run_model.specs.Runs.{is_in, log_soup, served_of}
 use Rattle.tier_model.specs.Back.{Back}
 use Rattle.tier_model.specs.Mid.{Mid}
 use Rattle.tier_model.specs.Moves.{tier_of, Packet, log_facts, held_in}
 use Rattle.frames.specs.Headers.{end_index}
-use Rattle.tier_laws.specs.Said.{HasReply, HasCall, HasAnswer, chosen_log, MidLearned, BackLearned, HasLearned, StandsFor, DiskStandsFor, learned_from, MidApplied, BackServes, Caused, is_gone, FewGone, Durable}
+use Rattle.tier_laws.specs.Said.{HasReply, HasCall, HasAnswer, chosen_log, MidLearned, BackLearned, HasLearned, StandsFor, DiskStandsFor, learned_from, MidApplied, BackServes, DidRun, IsRun, RanTo, Caused, is_gone, FewGone, Durable}
 use Rattle.tier_laws.proofs.Apply.{half-odd}
 use Rattle.tier_laws.proofs.Core.{BackMode, Inv as WorldOk, MidMode, past}
 use Rattle.tier_laws.proofs.Events.{log_place, back_place}
 use Rattle.tier_laws.proofs.Grow.{served_same}
 use Rattle.tier_laws.proofs.MidSteps.{values}
-use Rattle.tier_laws.proofs.Past.{ManyHold, MidOk, SentBy, SentOk, Past, VerdictBy, VerdictOk, holds}
+use Rattle.tier_laws.proofs.Past.{BackOk, FloorOk, ManyHold, MidOk, RunOk, SentBy, SentOk, Past, VerdictBy, VerdictOk, holds}
 use Rattle.tier_laws.proofs.Shows.{Shown, shown}
 use Rattle.tier_laws.proofs.Soups.{mid_soup, back_soup}
 use Rattle.tier_laws.proofs.Verdicts.{count-gap}
 use Rattle.tier_laws.proofs.Maps.{server, empty_server}
 use Rattle.tier_laws.proofs.NodeSteps.{disk_of}
-use Rattle.tier_laws.proofs.Logs.{learned_more, turn_more}
+use Rattle.tier_laws.proofs.Logs.{learned_more, meets_good, turn_more}
 use Rattle.tier_laws.proofs.Lists.{some_of}
 use Rattle.tier_laws.proofs.Stable.{MoreLog}
 use Rattle.tier_laws.proofs.Codes.{code_of-left, code_at}
@@ -80,6 +83,11 @@ pub chosen_here : {B : Type 0} (c : Config B) (w : World B) (t : Tier) (p : ℕ)
 chosen_here c w MidTier p v i m = i.done.mid.at p v m
 chosen_here c w Inv p v i m = (i.done.back Inv).at p v m
 chosen_here c w Pay p v i m = (i.done.back Pay).at p v m
+
+pub sound_here : {B : Type 0} (c : Config B) (w : World B) (t : Tier) (p : ℕ) (v : AnyValue) → WorldOk c w → slice_get (chosen_log w t) p ≡ Some v → Meets c.u (log_soup t w.soup) p v
+sound_here c w MidTier p v i e = i.core.mid_log.sound p v e
+sound_here c w Inv p v i e = (i.core.back_log Inv).sound p v e
+sound_here c w Pay p v i e = (i.core.back_log Pay).sound p v e
 
 mid_learned : {B : Type 0} (c : Config B) (w : World B) (i : WorldOk c w) (x p : ℕ) (v : AnyValue) (m : Mode Mid) → x < 2 * c.u + 1 → MidMode c (past c w i.codes) i.h (mid_soup w.soup) x (w.mids x) m → MidLearned m p v → slice_get w.log p ≡ Some v
 mid_learned c w i x p v (Up σ) l k e = i.done.mid.at p v (i.core.mid_log.history.learned x l p v (rw (← k.log.learned) e))
@@ -165,10 +173,26 @@ served_state c w t x i l = back_applied c w i t x (w.backs t x).mode (i.core.bac
 
 -- VERDICTS HAVE CAUSES
 
-by_caused : {B : Type 0} (c : Config B) (w : World B) (codes : ℕ → List Code) (r : ℕ) (R : Round) (v : Verdict) → VerdictBy c (past c w codes) r R v → Caused c w r v
-by_caused c w codes r R (Commit token order) k = ((k.2.2.0, omega (arith, k.2.1, k.2.2.1), λ y e. let q = k.2.2.2 y e in (q.0, q.1, q.2, q.3, (bytes_eq-Decides q.0.token token).0 q.4)), k.3)
-by_caused c w codes r R Serial k =
-    (k.0, k.1, k.2, k.3, k.4, k.5, (λ e. let f = (bytes_eq-Decides k.0.token k.1.token).1 e in let g = k.6 in cc), k.7 ((bytes_eq-Decides k.1.token k.1.token).1 refl))
+-- the nodes that are counted, and the one whose order is taken
+by_caused : {B : Type 0} (c : Config B) (w : World B) (codes : ℕ → List Code) (r : ℕ) (R : Round) (v : Verdict) → ((a : Vote) → DidRun w a → a.from < 2 * c.u + 1) → VerdictBy c (past c w codes) r R v → Caused c w r v
+by_caused {B} c w codes r R (Commit token order) inside k = (
+  ys,
+  omega (arith, k.2.1, k.2.2.1, count-more (2 * c.u + 1) k.2.2.0 ys (λ y e. or_left (k.2.2.0 y) (y == k.3.0.from) e)),
+  (λ y e. by y (or_cases (k.2.2.0 y) (y == k.3.0.from) e)),
+  (k.3.0, k.3.1, k.3.2, or_right (k.2.2.0 k.3.0.from) (k.3.0.from == k.3.0.from) (eq-eqb k.3.0.from k.3.0.from refl), k.3.3, k.3.4),
+)
+  where
+    ys : ℕ → Bool
+    ys = λ y. k.2.2.0 y || (y == k.3.0.from)
+
+    ran_inside : (y : ℕ) → RanTo w r token y → (y < 2 * c.u + 1) × RanTo w r token y
+    ran_inside y q = (subst (λ z. z < 2 * c.u + 1) q.3 (inside q.0 q.1), q)
+
+    by : (y : ℕ) → (k.2.2.0 y ≡ true) ⊎ ((y == k.3.0.from) ≡ true) → (y < 2 * c.u + 1) × RanTo w r token y
+    by y (inl f) = let q = k.2.2.2 y f in ran_inside y (q.0, q.1, q.2, q.3, (bytes_eq-Decides q.0.token token).0 q.4)
+    by y (inr f) = ran_inside y (k.3.0, k.3.1, k.3.2, sym (eqb-true y k.3.0.from f), k.3.3)
+by_caused c w codes r R Serial inside k =
+    (k.0, k.1, k.2, k.3, k.4, k.5, inside k.0 k.2, inside k.1 k.3, (λ e. let f = (bytes_eq-Decides k.0.token k.1.token).1 e in let g = k.6 in cc), k.7 ((bytes_eq-Decides k.1.token k.1.token).1 refl))
 
 pub at_round : {B : Type 0} (c : Config B) (P : Past B) (r : ℕ) (v : Verdict) → MidOk c P (2 * r + 1) (OfMid (Decided v)) → VerdictOk c P r v
 at_round c P r v k = subst (λ z. VerdictOk c P z v) (half-odd r) k.1
@@ -176,7 +200,12 @@ at_round c P r v k = subst (λ z. VerdictOk c P z v) (half-odd r) k.1
 pub caused : {B : Type 0} (c : Config B) (w : World B) (r : ℕ) (v : Verdict) → WorldOk c w → slice_get w.log (2 * r + 1) ≡ Some (OfMid (Decided v)) → Caused c w r v
 caused c w r v i e =
     let k : VerdictOk c (past c w i.codes) r v = at_round c (past c w i.codes) r v (values c w i.codes i.h i.k i.core (2 * r + 1) (OfMid (Decided v)) e) in
-    by_caused c w i.codes r k.made v k.by
+    by_caused c w i.codes r k.made v (λ a d. (i.core.runs d.0 a d.1).inside) k.by
+
+pub is_run : {B : Type 0} (c : Config B) (w : World B) (v : Vote) → WorldOk c w → DidRun w v → IsRun c w v
+is_run {B} c w v i d =
+    let k : RunOk c (past c w i.codes) v = i.core.runs d.0 v d.1 in
+    record { inside = k.inside; made = k.made; is_round = subst (λ A. round c.service c.depth w.log A v.round ≡ Some k.made) (sym (served_now c w i)) k.is_round; is_ordered = k.is_ordered; is_token = k.is_token }
 
 -- DURABILITY
 
@@ -207,6 +236,16 @@ durable {B} c w t n i many few =
 -- each call below a floor that was sent is durable
 pub floor_durable : {B : Type 0} (c : Config B) (w : World B) (place : ℕ) (k : Packet) (g n : ℕ) → WorldOk c w → slice_get w.soup place ≡ Some k → k.message ≡ msgs.Settle g → 0 < n → n < g → FewGone c w → Durable c w (tier_of k.to) n
 floor_durable c w place k g n i e f a b few = durable c w (tier_of k.to) n i ((sent c w place k (msgs.Settle g) i e f).many n a b) few
+
+-- a floor that a backend's chosen log settles
+pub settled_floor : {B : Type 0} (c : Config B) (w : World B) (t : Tier) (p g : ℕ) (i : WorldOk c w) → slice_get (w.logs t) p ≡ Some (OfBack (Settle g)) → FloorOk c (past c w i.codes) t g
+settled_floor {B} c w t p g i e =
+    let part = i.core.back_log t in
+    meets_good c.u (i.k t) (back_soup t w.soup) (w.logs t) (BackOk c (past c w i.codes) t) p (OfBack (Settle g)) part (part.sound p (OfBack (Settle g)) e)
+
+-- each call below such a floor is durable
+pub settled_durable : {B : Type 0} (c : Config B) (w : World B) (t : Tier) (p g n : ℕ) → WorldOk c w → slice_get (w.logs t) p ≡ Some (OfBack (Settle g)) → 0 < n → n < g → FewGone c w → Durable c w t n
+settled_durable c w t p g n i e a b few = durable c w t n i ((settled_floor c w t p g i e).many n a b) few
 
 -- each call whose answer a decided round used is durable
 pub used_durable : {B : Type 0} (c : Config B) (w : World B) (r : ℕ) (v : Verdict) (R : Round) (j : ℕ) (q : Want) (k : Number) → WorldOk c w → slice_get w.log (2 * r + 1) ≡ Some (OfMid (Decided v)) → round c.service c.depth w.log (served_of c w) r ≡ Some R

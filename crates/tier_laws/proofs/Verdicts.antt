@@ -202,8 +202,8 @@ job_answers A (v ∷ ws) J i w k e f g = go i f (λ i f. job_answers A ws q.0 i 
     go zero f r = let s : v ≡ w = cc in answered_some A v v.call p.0 k p.1 (ap (λ (z : Want). z.call) s ∙ g)
     go (suc i) f r = r i f
 
-pub run_right : {B : Type 0} (c : Config B) (P : Past B) (x : ℕ) (σ : Mid) (schedule : List ℕ) (v : Running) → Laws c.service → Known c P → MidOther c P x σ → MoreLog σ.log.learned P.log → to_run c.u c.service x σ schedule ≡ Some v → RunOk c P v.vote
-run_right {B} c P x σ schedule v laws k o pre e = go (is_some σ.spec) e
+pub run_right : {B : Type 0} (c : Config B) (P : Past B) (x : ℕ) (σ : Mid) (schedule : List ℕ) (v : Running) → x < 2 * c.u + 1 → Laws c.service → Known c P → MidOther c P x σ → MoreLog σ.log.learned P.log → to_run c.u c.service x σ schedule ≡ Some v → RunOk c P v.vote
+run_right {B} c P x σ schedule v inside laws k o pre e = go (is_some σ.spec) e
   where
     made : and_then (batch_at σ.log.learned σ.applied) (λ es. and_then (job_of (usable_here c.u x σ) (wants c.service σ.tables es)) (λ J. Some (running c.service x σ (run_job c.service.begins J σ.tables.store schedule)))) ≡ Some v → RunOk c P v.vote
     made f =
@@ -212,6 +212,7 @@ run_right {B} c P x σ schedule v laws k o pre e = go (is_some σ.spec) e
         let is : running c.service x σ (run_job c.service.begins q.0 σ.tables.store schedule) ≡ v = let h = q.2 in cc in
         let more : MoreAnswers (usable_here c.u x σ) P.server.served = record { at = λ t n code u. (usable_ok c P x σ t n code k o u).0 } in
         subst (λ (z : Running). RunOk c P z.vote) is (record {
+          inside = inside;
           made = record { tables = σ.tables; wants = wants c.service σ.tables p.0; job = q.0 };
           is_round = then_some (after c.service c.depth P.log P.server.served σ.applied) (round_at c.service P.log P.server.served σ.applied) σ.tables _ o.is_after
               (round_made c.service P.log P.server.served σ.applied σ.tables p.0 q.0 (batch-more σ.log.learned P.log σ.applied p.0 pre p.1) (job-more (usable_here c.u x σ) P.server.served (wants c.service σ.tables p.0) q.0 more q.1));

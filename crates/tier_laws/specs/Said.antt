@@ -1,5 +1,5 @@
 -- The words of the laws.
-use Rattle.std.specs.Prelude.{◌≡◌, ◌⊎◌, ◌<◌, ◌≤◌, ◌^◌, ◌+◌, ◌*◌, ℕ, Bool, true, false, List, ◌++◌, length, Some, slice_get}
+use Rattle.std.specs.Prelude.{◌≡◌, ◌⊎◌, ◌<◌, ◌≤◌, ◌^◌, ◌+◌, ◌*◌, ℕ, Bool, true, false, List, [], ◌∷◌, ◌++◌, length, take, Some, slice_get}
 use Rattle.aeg_base.specs.Store.{Store, value_at}
 use Rattle.aeg_base.specs.declared.names.Key.{Key}
 use Rattle.svc_api.specs.Plan.{IsKey}
@@ -12,7 +12,11 @@ use Rattle.exec_model.specs.Outcomes as changes
 use Rattle.aeg_base.specs.declared.names.Tier.{Tier}
 use Rattle.aeg_base.specs.declared.names.Tier.TheVariants.{Mid as InMid, Inv, Pay}
 use Rattle.server_model.specs.Server.{found_in}
-use Rattle.server_model.specs.History.{replies, calls, served}
+use Rattle.server_model.specs.History.{replies, calls, served, server_after, told_by}
+use Rattle.server_model.specs.Server.{step as step_at}
+use Rattle.server_model.specs.declared.history.Hist.{Hist}
+use Rattle.server_model.specs.declared.history.Hist.TheVariants.{Start, Serve, Resume}
+use Rattle.server_model.specs.declared.history.Told.TheVariants.{Replied}
 use Rattle.log_model.specs.Log.{count_below}
 use Rattle.log_model.specs.Recover.{newest, recover}
 use Rattle.log_model.specs.World.{Mode, Node}
@@ -31,7 +35,7 @@ use Rattle.tier_model.specs.Moves.{log_facts, held_in}
 use Rattle.tier_model.specs.Mid.{Mid}
 use Rattle.tier_model.specs.Back.{Back}
 use Rattle.run_model.specs.World.{Config, World}
-use Rattle.run_model.specs.Histories.{back_run, floor_of}
+use Rattle.run_model.specs.Histories.{HistoryStep, back_run, floor_of}
 use Rattle.run_model.specs.Runs.{served_of, world}
 use Rattle.run_model.specs.declared.trace.TraceEvent.{TraceEvent}
 
@@ -75,6 +79,22 @@ HasAnswer c w t n code = found_in (served c.service.meaning w.hist) t n ≡ Some
 -- the request was submitted with this text
 abbrev pub WasSubmitted : {B : Type 0} → World B → ReqId → List ℕ → Type 0
 WasSubmitted w who body = (j : ℕ) × (slice_get w.submitted j ≡ Some (record { client = who.client; seq = who.seq; body = body }))
+
+-- the step at this place of the history replies to the request with this text
+pub record RepliesAt {B : Type 0} (c : Config B) (w : World B) (place : ℕ) (who : ReqId) (text : List ℕ) : Type 0 where
+  pub step : HistoryStep
+  pub is_step : slice_get w.hist place ≡ Some step
+  pub tells : told_by (step_at c.service.meaning (server_after c.service.meaning (take place w.hist)) step.0 step.1) ≡ Replied who text ∷ []
+
+-- the step is one of the request
+abbrev pub IsOf : ReqId → Hist → Type 0
+IsOf who (Start asked n) = asked ≡ who
+IsOf who (Resume asked n) = asked ≡ who
+IsOf who (Serve t n) = ⊥
+
+-- the second list begins with the first
+abbrev pub IsFront : {A : Type 0} → List A → List A → Type 0
+IsFront {A} xs ys = (rest : List A) × (ys ≡ xs ++ rest)
 
 -- LOGS
 
@@ -143,16 +163,24 @@ BackServes c t Gone = Unit {0}
 abbrev pub DidRun : {B : Type 0} → World B → Vote → Type 0
 DidRun w v = (i : ℕ) × (slice_get w.runs i ≡ Some v)
 
+-- A run is by a node of the tier. Its order is one of its round's job, and its token is what the job comes to in that order.
+pub record IsRun {B : Type 0} (c : Config B) (w : World B) (v : Vote) : Type 0 where
+  pub inside : v.from < 2 * c.u + 1
+  pub made : Round
+  pub is_round : round c.service c.depth w.log (served_of c w) v.round ≡ Some made
+  pub is_ordered : is_order (length made.job) v.order ≡ true
+  pub is_token : v.token ≡ token_of c.service made.tables.store (finish c.service made.job v.order made.tables.store)
+
 -- The node y ran the round to this token.
 abbrev pub RanTo : {B : Type 0} → World B → ℕ → List ℕ → ℕ → Type 0
 RanTo w r token y = (v : Vote) × DidRun w v × (v.round ≡ r) × (v.from ≡ y) × (v.token ≡ token)
 
--- More than u nodes ran the round to the token of a Commit, and one run to it had its order. Two nodes ran the round of a
--- Serial to different tokens.
+-- More than u nodes of the tier ran the round to the token of a Commit, and one of these had its order. Two nodes of the tier
+-- ran the round of a Serial to different tokens.
 abbrev pub Caused : {B : Type 0} → Config B → World B → ℕ → Verdict → Type 0
-Caused c w r (Commit token order) = ((ys : ℕ → Bool) × (c.u < count_below (2 * c.u + 1) ys) × ((y : ℕ) → ys y ≡ true → RanTo w r token y))
-    × ((v : Vote) × DidRun w v × (v.round ≡ r) × (v.token ≡ token) × (v.order ≡ order))
-Caused c w r Serial = (v : Vote) × (u : Vote) × DidRun w v × DidRun w u × (v.round ≡ r) × (u.round ≡ r) × (v.token ≡ u.token → ⊥) × (v.from ≡ u.from → ⊥)
+Caused c w r (Commit token order) = ((ys : ℕ → Bool) × (c.u < count_below (2 * c.u + 1) ys) × ((y : ℕ) → ys y ≡ true → (y < 2 * c.u + 1) × RanTo w r token y)
+    × ((v : Vote) × DidRun w v × (v.round ≡ r) × (ys v.from ≡ true) × (v.token ≡ token) × (v.order ≡ order)))
+Caused c w r Serial = (v : Vote) × (u : Vote) × DidRun w v × DidRun w u × (v.round ≡ r) × (u.round ≡ r) × (v.from < 2 * c.u + 1) × (u.from < 2 * c.u + 1) × (v.token ≡ u.token → ⊥) × (v.from ≡ u.from → ⊥)
 
 abbrev pub is_gone : {S : Type 0} → Mode S → Bool
 is_gone (Up s) = false

@@ -18,12 +18,13 @@ ghost use Rattle.log_values.specs.declared.fact.Fact.{Fact};
 ghost use Rattle.frames.specs.declared.message.Msg.TheVariants as messages;
 ghost use Rattle.round_model.specs.Tables.{Number, Want, who_of};
 ghost use Rattle.round_model.specs.After.{Round, round};
+ghost use Rattle.round_model.specs.Verdicts.{Vote};
 ghost use Rattle.tier_model.specs.Moves.{Packet, tier_of};
 ghost use Rattle.run_model.specs.declared.trace.TraceEvent.{TraceEvent};
 ghost use Rattle.run_model.specs.World.{Config};
 ghost use Rattle.run_model.specs.Histories.{HistoryStep};
 ghost use Rattle.run_model.specs.Runs.{world, is_in, log_soup, served_of};
-ghost use Rattle.tier_laws.specs.Said.{Laws, HasReply, HasCall, HasAnswer, WasSubmitted, chosen_log, HasLearned, DiskStandsFor, learned_from, MidApplied, BackServes, Caused, FewGone, Durable, UsedBefore, HeldBefore, ManyHolders};
+ghost use Rattle.tier_laws.specs.Said.{Laws, HasReply, HasCall, HasAnswer, WasSubmitted, RepliesAt, IsOf, IsFront, chosen_log, HasLearned, DiskStandsFor, learned_from, MidApplied, BackServes, DidRun, IsRun, Caused, FewGone, Durable, UsedBefore, HeldBefore, ManyHolders};
 
 /// The history is legal on one server. Each reply, call and answer that was sent is one of this history, a reply goes to
 /// its own client, and so is each reply that a client took. What starts in it was submitted with that text.
@@ -39,12 +40,19 @@ pub fn headline<B>()
 
 /// No two values at one position of a tier: what meets the condition of being chosen stands in the tier's chosen log, and
 /// so does what a node has learned, what a message tells as learned, and what a disk has learned, whichever list it
-/// stands for.
+/// stands for. What stands there meets the condition.
 pub fn agreement<B>()
     ensures chosen { (c : Config B) (es : List TraceEvent) (t : Tier) (p : ℕ) (v : AnyValue) → c.u ≤ 2 → Laws c.service → Meets c.u (log_soup t (world c es).soup) p v → slice_get (chosen_log (world c es) t) p ≡ Some v }
     ensures learned { (c : Config B) (es : List TraceEvent) (t : Tier) (x p : ℕ) (v : AnyValue) → c.u ≤ 2 → Laws c.service → x < 2 * c.u + 1 → HasLearned (world c es) t x p v → slice_get (chosen_log (world c es) t) p ≡ Some v }
     ensures told { (c : Config B) (es : List TraceEvent) (t : Tier) (i p : ℕ) (k : Packet) (v : AnyValue) → c.u ≤ 2 → Laws c.service → is_in t k.from ≡ true → slice_get (world c es).soup i ≡ Some k → k.message ≡ messages.Log (Learn p v) → slice_get (chosen_log (world c es) t) p ≡ Some v }
     ensures on_disk { (c : Config B) (es : List TraceEvent) (t : Tier) (x p : ℕ) (v : AnyValue) (records : List (List Fact)) → c.u ≤ 2 → Laws c.service → x < 2 * c.u + 1 → DiskStandsFor (world c es) t x records → slice_get (learned_from c.u records) p ≡ Some v → slice_get (chosen_log (world c es) t) p ≡ Some v }
+    ensures sound { (c : Config B) (es : List TraceEvent) (t : Tier) (p : ℕ) (v : AnyValue) → c.u ≤ 2 → Laws c.service → slice_get (chosen_log (world c es) t) p ≡ Some v → Meets c.u (log_soup t (world c es).soup) p v }
+{}
+
+/// Chosen logs and the history only grow, at their ends.
+pub fn growth<B>()
+    ensures logs { (c : Config B) (es more : List TraceEvent) (t : Tier) → IsFront (chosen_log (world c es) t) (chosen_log (world c (es ++ more)) t) }
+    ensures history { (c : Config B) (es more : List TraceEvent) → IsFront (world c es).hist (world c (es ++ more)).hist }
 {}
 
 /// A middle node that is up has the store and tables that the chosen log and the served answers come to at its number of
@@ -54,27 +62,35 @@ pub fn applied<B>()
     ensures backend { (c : Config B) (es : List TraceEvent) (t : Tier) (x : ℕ) → c.u ≤ 2 → Laws c.service → x < 2 * c.u + 1 → BackServes c t ((world c es).backs t x).mode }
 {}
 
-/// What is submitted later starts later, past all that the history had before; and the history only grows at its end.
+/// What is submitted later starts later, past all that the history had before. So where a client took a reply before a
+/// request was submitted, the history has that reply before the request's start, and all steps of the request that it
+/// replies to.
 pub fn real_order<B>()
-    ensures starts { (c : Config B) (es fs : List TraceEvent) (i n : ℕ) (who : ReqId) (body : List ℕ) → c.u ≤ 2 → Laws c.service → slice_get (world c (es ++ fs)).hist i ≡ Some (Start who n, body)
+    ensures starts { (c : Config B) (es more : List TraceEvent) (i n : ℕ) (who : ReqId) (body : List ℕ) → c.u ≤ 2 → Laws c.service → slice_get (world c (es ++ more)).hist i ≡ Some (Start who n, body)
         → ((text : List ℕ) → WasSubmitted (world c es) who text → ⊥) → length (world c es).hist ≤ i }
-    ensures grows { (c : Config B) (es fs : List TraceEvent) (i : ℕ) (k : HistoryStep) → slice_get (world c es).hist i ≡ Some k → slice_get (world c (es ++ fs)).hist i ≡ Some k }
+    ensures replied { (c : Config B) (es more : List TraceEvent) (k i n : ℕ) (reply : Entry) (who : ReqId) (body : List ℕ) → c.u ≤ 2 → Laws c.service → slice_get (world c es).told k ≡ Some reply → ((text : List ℕ) → WasSubmitted (world c es) who text → ⊥)
+        → slice_get (world c (es ++ more)).hist i ≡ Some (Start who n, body) → (j : ℕ) × RepliesAt c (world c (es ++ more)) j (who_of reply) reply.body × (j < i) }
+    ensures finished { (c : Config B) (es more : List TraceEvent) (k i j n : ℕ) (reply : Entry) (who : ReqId) (body : List ℕ) (step : HistoryStep) → c.u ≤ 2 → Laws c.service → slice_get (world c es).told k ≡ Some reply → ((text : List ℕ) → WasSubmitted (world c es) who text → ⊥)
+        → slice_get (world c (es ++ more)).hist i ≡ Some (Start who n, body) → slice_get (world c (es ++ more)).hist j ≡ Some step → IsOf (who_of reply) step.0 → j < i }
 {}
 
-/// A chosen Commit has more than u nodes that ran its round to its token, one of them with its order. A chosen Serial has
-/// two nodes that ran it to different tokens.
+/// A chosen Commit has more than u nodes of the tier that ran its round to its token, one of them with its order. A chosen
+/// Serial has two nodes of the tier that ran it to different tokens. Each run is by a node of the tier, and its token is
+/// what the round's job comes to in the run's own order.
 pub fn causes<B>()
     ensures causes { (c : Config B) (es : List TraceEvent) (r : ℕ) (v : Verdict) → c.u ≤ 2 → Laws c.service → slice_get (world c es).log (2 * r + 1) ≡ Some (Mid (values.Verdict v)) → Caused c (world c es) r v }
+    ensures runs { (c : Config B) (es : List TraceEvent) (v : Vote) → c.u ≤ 2 → Laws c.service → DidRun (world c es) v → IsRun c (world c es) v }
 {}
 
-/// Where at most u middle nodes are gone, each call whose answer a decided round used, and each call below a floor that
-/// was sent, is held by a node that isn't gone, in each list that its disk stands for. For a round's calls this holds
-/// before the event that chooses its verdict.
+/// Where at most u middle nodes are gone, each call whose answer a decided round used, each call below a floor that was
+/// sent, and each call below a floor that a backend's chosen log settles, is held by a node that isn't gone, in each list
+/// that its disk stands for. For a round's calls this holds before the event that chooses its verdict.
 pub fn durability<B>()
     ensures used { (c : Config B) (es : List TraceEvent) (r j : ℕ) (v : Verdict) (made : Round) (q : Want) (k : Number) → c.u ≤ 2 → Laws c.service → slice_get (world c es).log (2 * r + 1) ≡ Some (Mid (values.Verdict v))
         → round c.service c.depth (world c es).log (served_of c (world c es)) r ≡ Some made → slice_get made.wants j ≡ Some q → q.call ≡ Some k → FewGone c (world c es) → Durable c (world c es) k.tier k.num }
     ensures before { (c : Config B) (es : List TraceEvent) (e : TraceEvent) (r : ℕ) (v : Verdict) → c.u ≤ 2 → Laws c.service → length (world c es).log ≤ 2 * r + 1 → slice_get (world c (es ++ e ∷ [])).log (2 * r + 1) ≡ Some (Mid (values.Verdict v)) → FewGone c (world c es) → UsedBefore c (world c es) r }
     ensures floors { (c : Config B) (es : List TraceEvent) (i g n : ℕ) (k : Packet) → c.u ≤ 2 → Laws c.service → slice_get (world c es).soup i ≡ Some k → k.message ≡ messages.Settle g → 0 < n → n < g → FewGone c (world c es) → Durable c (world c es) (tier_of k.to) n }
+    ensures settled { (c : Config B) (es : List TraceEvent) (t : Tier) (p g n : ℕ) → c.u ≤ 2 → Laws c.service → slice_get ((world c es).logs t) p ≡ Some (Back (Settle g)) → 0 < n → n < g → FewGone c (world c es) → Durable c (world c es) t n }
 {}
 
 /// More than u middle nodes held each call whose answer a round uses, before the event that chooses the round's verdict,

@@ -1,4 +1,4 @@
--- A run came to its job's outcome in its order, and a verdict has the runs that it stands on.
+-- A run is by a node of the tier and came to its job's outcome in its order, and a verdict has the runs that it stands on.
 use Rattle.std.proofs.Common.{◌≡◌, ℕ, ◌+◌, ◌*◌, ◌<◌, Bool, true, false, List, [], ◌∷◌, length, Some}
 use Rattle.std.specs.Prelude.{slice_get, ◌==◌, ◌&&◌, ◌||◌}
 use Rattle.log_model.specs.Log.{count_below}
@@ -15,6 +15,7 @@ abbrev pub DidRun : {B : Type 0} → Past B → Vote → Type 0
 DidRun P v = (i : ℕ) × (slice_get P.runs i ≡ Some v)
 
 pub record RunOk {B : Type 0} (c : Config B) (P : Past B) (v : Vote) : Type 0 where
+  pub inside : v.from < 2 * c.u + 1
   pub made : Round
   pub is_round : round c.service c.depth P.log P.server.served v.round ≡ Some made
   pub held : JobHeld c P made.wants

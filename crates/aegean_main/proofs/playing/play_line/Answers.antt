@@ -1,4 +1,5 @@
-use Rattle.std.proofs.Common.{◌∷◌, ◌∙◌, ap, cond, map, Bool, arith}
+use Rattle.std.proofs.Common.{◌∷◌, ◌∙◌, ap, cond, map, Bool}
+use Rattle.aegean_main.proofs.FaultLaws.{after, carried, other}
 use Rattle.aegean_main.proofs.PlayLaws.{stands_on, stands_at, halts_next, plays_on}
 use Rattle.aegean_main.proofs.playing.play_line.Goals as goal
 
@@ -22,5 +23,11 @@ calls-preserved g c =
           stands_at script c.play.new.world (cond c.in-Ok-true.field-0 ((number, c.args.line.now) ∷ rest) rest) ((number, c.args.line.now) ∷ rest) first (map g.D.Disk.state c.play.new.disks) start (g.K.Sink.taken c.play.new.out)
           (ap (λ (b : Bool). cond b ((number, c.args.line.now) ∷ rest) rest) c.in-Ok-true.field-0-test)
           (stands_on script number c.args.line.now rest first (map g.D.Disk.state c.calls.disks) (map g.D.Disk.state c.play.new.disks) start (g.K.Sink.taken c.calls.out) (g.K.Sink.taken c.play.new.out) c.calls.world c.play.new.world c.in-Ok-true.field-0 c.in-Ok-true.ensures.plays (c.calls.invariant.2 script number rest first start s)),
-      omega (arith, c.calls.invariant.3, c.play.ensures.later),
+      c.in-Ok-true.ensures.write.kept (λ e. cc) ∙ c.calls.invariant.3,
     )
+
+pub returns-in-Ok-false-clause-write : goal.returns-in-Ok-false-clause-write
+returns-in-Ok-false-clause-write g c = other _ _ _ (λ e. cc) (c.in-Ok-false.ensures.write.kept (λ e. cc) ∙ c.calls.invariant.3)
+
+pub returns-in-Err-clause-write : goal.returns-in-Err-clause-write
+returns-in-Err-clause-write g c = after _ _ _ _ c.calls.invariant.3 (carried Bool (Unit {0}) c.in-Err.halt _ _ c.in-Err.ensures.write)

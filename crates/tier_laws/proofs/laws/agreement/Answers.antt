@@ -1,6 +1,6 @@
 use Rattle.run_model.specs.Runs.{world}
 use Rattle.tier_laws.proofs.Few.{inv}
-use Rattle.tier_laws.proofs.Told.{chosen_here, learned, learn_told, disk_learned}
+use Rattle.tier_laws.proofs.Told.{chosen_here, sound_here, learned, learn_told, disk_learned}
 use Rattle.tier_laws.proofs.laws.agreement.Goals as goal
 
 pub returns-clause-chosen : goal.returns-clause-chosen
@@ -14,3 +14,6 @@ returns-clause-told g z c es t i p k v l laws b e f = learn_told c (world c es) 
 
 pub returns-clause-on_disk : goal.returns-clause-on_disk
 returns-clause-on_disk g z c es t x p v records l laws n s e = disk_learned c (world c es) t x p v records (inv c es l laws) n s e
+
+pub returns-clause-sound : goal.returns-clause-sound
+returns-clause-sound g z c es t p v l laws e = sound_here c (world c es) t p v (inv c es l laws) e

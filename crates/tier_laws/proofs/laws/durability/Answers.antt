@@ -1,6 +1,6 @@
 use Rattle.run_model.specs.Runs.{world}
 use Rattle.tier_laws.proofs.Few.{few, inv}
-use Rattle.tier_laws.proofs.Told.{used_durable, floor_durable}
+use Rattle.tier_laws.proofs.Told.{used_durable, floor_durable, settled_durable}
 use Rattle.tier_laws.proofs.Before.{used_before}
 use Rattle.tier_laws.proofs.laws.durability.Goals as goal
 
@@ -12,3 +12,6 @@ returns-clause-before g x c es e r v l laws n f gone = used_before c es e r v (f
 
 pub returns-clause-floors : goal.returns-clause-floors
 returns-clause-floors g z c es i f n k l laws e h a b gone = floor_durable c (world c es) i k f n (inv c es l laws) e h a b gone
+
+pub returns-clause-settled : goal.returns-clause-settled
+returns-clause-settled g z c es t p f n l laws e a b gone = settled_durable c (world c es) t p f n (inv c es l laws) e a b gone

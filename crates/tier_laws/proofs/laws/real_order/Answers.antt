@@ -1,9 +1,13 @@
 use Rattle.tier_laws.proofs.Few.{few}
-use Rattle.tier_laws.proofs.Later.{starts_later, hist_later}
+use Rattle.tier_laws.proofs.Later.{starts_later}
+use Rattle.tier_laws.proofs.Replied.{replied_before, finished_before}
 use Rattle.tier_laws.proofs.laws.real_order.Goals as goal
 
 pub returns-clause-starts : goal.returns-clause-starts
-returns-clause-starts g x c es fs i n who body l laws e new = starts_later c es fs i n who body (few c.u l) laws e (λ j text f. new text (j, f))
+returns-clause-starts g x c es fs i n who body l laws e new = starts_later c es fs i n who body (few c.u l) laws e new
 
-pub returns-clause-grows : goal.returns-clause-grows
-returns-clause-grows g x c es fs i k e = hist_later c es fs i k e
+pub returns-clause-replied : goal.returns-clause-replied
+returns-clause-replied g x c es fs k i n e who body l laws told new at = replied_before c es fs k i n e who body (few c.u l) laws told new at
+
+pub returns-clause-finished : goal.returns-clause-finished
+returns-clause-finished g x c es fs k i j n e who body step l laws told new at is own = finished_before c es fs k i j n e who body step (few c.u l) laws told new at is own
