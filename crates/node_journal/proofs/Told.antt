@@ -3,7 +3,7 @@ use Rattle.std.proofs.Common.{◌≡◌, ◌⊎◌, inl, inr, ℕ, List, [], ◌
 use Rattle.std.specs.Result.{IsErrAnd}
 use Rattle.aeg_disk.specs.declared.disk.DiskErr.{DiskErr}
 use Rattle.aeg_disk.specs.declared.disk.DiskErr.TheVariants as DiskErrs
-use Rattle.aeg_disk.specs.Disk.{DiskState, Done, Writes, Syncs, Looks}
+use Rattle.aeg_disk.specs.Disk.{DiskState, Writes, Syncs, Looks}
 use Rattle.node_journal.specs.declared.opening.OpenErr.{OpenErr}
 use Rattle.node_journal.specs.declared.opening.OpenErr.TheVariants.{Disk, BadRecord, Memory}
 use Rattle.node_journal.specs.Append.{Ran, IsFaultless}
@@ -23,9 +23,6 @@ error_is (Err o) e h = ap Err h
 
 pub none_failed : (a b : DiskState) → b ≡ a → IsFaultless a b
 none_failed a b same = record { faults = ap (λ (s : DiskState). s.faults) same; stopped = ap (λ (s : DiskState). s.stopped) same }
-
-pub done_well : (a b : DiskState) (n : ℕ) (holds : Type 0) → Done a b n holds → IsFaultless a b
-done_well a b n holds d = record { faults = d.faults; stopped = d.passed.runs ∙ sym d.passed.ran }
 
 pub then_well : (a b c : DiskState) → IsFaultless a b → IsFaultless b c → IsFaultless a c
 then_well a b c f s = record { faults = s.faults ∙ f.faults; stopped = s.stopped ∙ f.stopped }

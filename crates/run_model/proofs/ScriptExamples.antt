@@ -44,6 +44,21 @@ node_outside_the_tiers = refl
 request_is_missing : script_of (codes "tiers 1 depth 1\nsubmit 1\n") ≡ Fails 2 3
 request_is_missing = refl
 
+request_that_is_none : script_of (codes "tiers 1 depth 1\nsubmit 1 open 1\n") ≡ Fails 2 5
+request_that_is_none = refl
+
+cut_at_a_fifth_call : script_of (codes "tiers 1 depth 1\ncut 5 keep lead m0\n") ≡ Fails 2 3
+cut_at_a_fifth_call = refl
+
+cut_of_a_line_that_cannot_be_cut : script_of (codes "tiers 1 depth 1\ncut 1 keep flow\n") ≡ Fails 2 3
+cut_of_a_line_that_cannot_be_cut = refl
+
+node_of_no_tier_is_wiped : script_of (codes "tiers 0 depth 1\nwipe m1\n") ≡ Fails 2 4
+node_of_no_tier_is_wiped = refl
+
+command_that_comes_later : script_of (codes "tiers 1 depth 1\ncalm\n") ≡ Fails 2 9
+command_that_comes_later = refl
+
 -- the last line feed may be missing
 some_events :
     script_of (codes "# a\ntiers 1 depth 2\nlead m0\n\nsubmit 1 look 5\ndeliver 3\nshort 4 10\nretry c1\nlose\nflow") ≡ Reads (record {
