@@ -203,6 +203,7 @@ fn own_settled<S: Service>(
 ) -> Result<Outcome, Fail>
     requires left { IsLeftBy (ran_of spec) store.old }
     requires reads { Reads (token_of spec) 2 }
+    requires begins { All (BeginsWell (S.beginning svc.now)) (its_job spec).segs }
     requires two { length (its_job spec).segs ≡ 2 }
 {
     let verdict = committed(alloc, spec.token().copy()?)?;
