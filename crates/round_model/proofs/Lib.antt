@@ -1,1 +1,4 @@
 pub mod Examples
+pub mod NumberedLaws
+pub mod HeldLaws
+pub mod ShimLaws

@@ -2,7 +2,9 @@ pub mod Lists
 pub mod Service
 pub mod Tables
 pub mod After
+pub mod Settling
 pub mod Verdicts
-pub mod Answers
-pub mod Copies
 pub mod Spelled
+pub mod Numbered
+pub mod Held
+pub mod Shims

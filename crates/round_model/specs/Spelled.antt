@@ -7,4 +7,7 @@ use Rattle.round_model.specs.Service.{Service}
 
 -- a token is read where all of its bytes are an outcome
 abbrev pub spelled : {B : Type 0} → Meaning B → Beginnings → Service B
-spelled meaning begins = record { meaning = meaning; begins = begins; spell = outcome; read = λ bytes. whole (outcome_at bytes) }
+spelled meaning begins = record {
+  programs = record { table = meaning.table; begins = begins; spell = outcome; read = λ bytes. whole (outcome_at bytes) };
+  backend = λ t. record { opening = meaning.opening t; serve = meaning.serve t };
+}

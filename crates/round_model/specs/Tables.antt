@@ -10,7 +10,7 @@ use Rattle.exec_model.specs.declared.job.Seg.{Seg}
 use Rattle.log_values.specs.declared.entry.Entry.{Entry}
 use Rattle.round_model.specs.Lists.{is_some, and_then, at, put_at, concat, head_of, tail_of, OfTiers, of_tier, with_tier}
 use Rattle.svc_api.specs.Orders.{mem}
-use Rattle.round_model.specs.Service.{Service, is_request, Finish}
+use Rattle.round_model.specs.Service.{Programs, is_request, Finish}
 
 -- a request that waits for the answer of its call, and the stage at which it goes on
 pub record Parked : Type 0 where
@@ -58,34 +58,34 @@ abbrev pub in_range : Entry → Bool
 in_range e = (nat_le 1 e.client && nat_le e.client 16) && nat_le e.seq 65536
 
 -- it is a request, the client's next, and the client has none in progress
-abbrev pub is_fresh : {B : Type 0} → Service B → Tables → Entry → Bool
+abbrev pub is_fresh : Programs → Tables → Entry → Bool
 is_fresh m T e = in_range e && (is_request m (who_of e) e.body && ((e.seq == suc (last_of T.last e.client)) && not (is_busy T e.client)))
 
 -- of a batch; only the first entry of each client is looked at
-abbrev pub fresh_of : {B : Type 0} → Service B → Tables → List ℕ → List Entry → List Entry
+abbrev pub fresh_of : Programs → Tables → List ℕ → List Entry → List Entry
 fresh_of m T seen [] = []
 fresh_of m T seen (e ∷ es) =
     if mem e.client seen then fresh_of m T seen es
     else if is_fresh m T e then e ∷ fresh_of m T (e.client ∷ seen) es
     else fresh_of m T (e.client ∷ seen) es
 
-abbrev pub fresh_entries : {B : Type 0} → Service B → Tables → List Entry → List Entry
+abbrev pub fresh_entries : Programs → Tables → List Entry → List Entry
 fresh_entries m T batch = fresh_of m T [] batch
 
 abbrev pub pending_of : List (Option Entry) → ℕ → Option Entry
 pending_of pending client = at None pending client
 
-abbrev pub if_fresh : {B : Type 0} → Service B → Tables → Option Entry → List Entry
+abbrev pub if_fresh : Programs → Tables → Option Entry → List Entry
 if_fresh m T None = []
 if_fresh m T (Some e) = if is_fresh m T e then e ∷ [] else []
 
 -- the fresh ones among the pending entries of the clients up to this one
-abbrev pub fresh_pending : {B : Type 0} → Service B → Tables → List (Option Entry) → ℕ → List Entry
+abbrev pub fresh_pending : Programs → Tables → List (Option Entry) → ℕ → List Entry
 fresh_pending m T pending zero = []
 fresh_pending m T pending (suc c) = fresh_pending m T pending c ++ if_fresh m T (pending_of pending (suc c))
 
 -- those of the lowest eight clients that have one
-abbrev pub batch_of : {B : Type 0} → Service B → Tables → List (Option Entry) → List Entry
+abbrev pub batch_of : Programs → Tables → List (Option Entry) → List Entry
 batch_of m T pending = take 8 (fresh_pending m T pending 16)
 
 -- what is left of a pending entry, once the client's last number is this one
@@ -121,7 +121,7 @@ abbrev pub started : Entry → Want
 started e = record { client = e.client; seq = e.seq; body = e.body; stage = 0; call = None }
 
 -- the requests that were parked so many rounds ago, then the fresh entries
-abbrev pub wants : {B : Type 0} → Service B → Tables → List Entry → List Want
+abbrev pub wants : Programs → Tables → List Entry → List Want
 wants m T batch = map resumed (head_of T.queue) ++ map started (fresh_entries m T batch)
 
 -- the code of each call, where there is one

@@ -1,2 +1,6 @@
 //! Rounds as definitions: batches, jobs, verdicts, answers and copies, and what a log and answers come to.
 #![tactic(auto)]
+
+mod answer;
+
+pub use answer::Answer;

@@ -38,24 +38,6 @@ with_log σ log = record σ { log = log }
 
 -- APPLYING A ROUND
 
--- a call among the ends has a stage at which its request goes on
-abbrev pub fit : {B : Type 0} → Service B → Want → Ending → Bool
-fit m w (Reply text) = true
-fit m w (Call t stage text) = has_stage m (record { client = w.client; seq = w.seq }) w.body stage
-
--- there is one end for each segment, and each call fits
-abbrev pub fits : {B : Type 0} → Service B → List Want → List Ending → Bool
-fits m [] [] = true
-fits m [] (e ∷ es) = false
-fits m (w ∷ ws) [] = false
-fits m (w ∷ ws) (e ∷ es) = fit m w e && fits m ws es
-
--- A Commit is applied by writing its token's pairs to the store, where it fits. A Serial is applied by running the job in
--- its order, where each answer is held.
-abbrev pub finish_of : {B : Type 0} → Service B → Codes → List Want → Tables → Verdict → Option Finish
-finish_of m held ws T (Commit token order) = and_then (m.read token) (λ o. if fits m ws o.ends then Some (finish_by T.store o) else None)
-finish_of m held ws T Serial = and_then (job_of held ws) (λ J. Some (finish m J (below (length J)) T.store))
-
 -- what the segments of the next round want, and what its verdict makes of them
 pub record Ready : Type 0 where
   pub wants : List Want
