@@ -27,7 +27,7 @@ use Rattle.frames.specs.declared.message.Msg.TheVariants as msgs
 use Rattle.frames.specs.declared.turn.Turn.TheVariants.{Ran, Idle as Idles, Dropped}
 use Rattle.frames.specs.declared.turn.Idle.TheVariants as why
 use Rattle.frames.specs.declared.header.Refused.TheVariants.{Row}
-use Rattle.round_model.specs.Service.{Service}
+use Rattle.round_model.specs.Service.{Programs, Service}
 use Rattle.round_model.specs.Spelled.{spelled}
 use Rattle.tier_model.specs.Moves.{node, Packet, Move}
 use Rattle.tier_model.specs.Mid.{Mid}
@@ -40,6 +40,9 @@ calls_inventory who body stage = Some (record { plan = λ answer. Ends (Call Inv
 
 abbrev service : Service Amounts
 service = spelled booking_meaning calls_inventory
+
+abbrev m : Programs
+m = service.programs
 
 -- NODES
 
@@ -55,10 +58,10 @@ abbrev three_rounds : List Fact
 three_rounds = Learned 4 (OfMid (Batch [])) ∷ Learned 3 (OfMid (Decided Serial)) ∷ two_rounds
 
 abbrev at_node : List Fact → Mid
-at_node facts = recovered 1 service 1 facts
+at_node facts = recovered 1 m 1 0 facts
 
 abbrev gets : Mid → ℕ → Msg → Move Mid
-gets σ from message = on_frame 1 service 0 σ (node InMid from) message
+gets σ from message = on_frame 1 m 0 σ (node InMid from) message
 
 -- the node 0 sends to a node of its own tier
 abbrev tells : ℕ → Msg → Packet
@@ -70,7 +73,7 @@ to_client message = record { from = node InMid 0; to = Client 1; message = messa
 -- REQUESTS
 
 abbrev asks : Mid → ℕ → List ℕ → Move Mid
-asks σ seq body = on_frame 1 service 0 σ (Client 1) (msgs.Request seq body)
+asks σ seq body = on_frame 1 m 0 σ (Client 1) (msgs.Request seq body)
 
 -- the last request has its reply told again
 told_again : (asks (at_node two_rounds) 1 (codes "open 1 5 10 0")).sends ≡ to_client (msgs.Reply (record { client = 1; seq = 1 }) (codes "opened 1")) ∷ []
@@ -85,7 +88,7 @@ abbrev asked : Mid
 asked = (asks (at_node []) 1 (codes "look 5")).state
 
 -- it is offered once, though it comes twice
-waits_for_its_round : own_value 1 service asked ≡ Some (OfMid (Batch (entry 1 (codes "look 5") ∷ [])))
+waits_for_its_round : own_value 1 m asked ≡ Some (OfMid (Batch (entry 1 (codes "look 5") ∷ [])))
 unfolding digits checked number_at with_number
 waits_for_its_round = refl
 
@@ -101,7 +104,7 @@ not_from_a_node = refl
 -- TOKENS AND ROUNDS
 
 abbrev runs : Move Mid
-runs = work 1 service 0 (at_node two_rounds) []
+runs = work 1 m 0 (at_node two_rounds) []
 
 abbrev token : List ℕ
 token = outcome (record { pairs = []; ends = Call Inv 1 (codes "reserve 1 2") ∷ [] })
@@ -115,7 +118,7 @@ what_ran : runs.answer ≡ Ran (record { round = 1; steps = 0 ∷ []; order = 0 
 unfolding digits checked number_at with_number run_job no_locks
 what_ran = refl
 
-runs_once : (work 1 service 0 runs.state []).answer ≡ Idles why.Nothing
+runs_once : (work 1 m 0 runs.state []).answer ≡ Idles why.Nothing
 unfolding digits checked number_at with_number run_job no_locks
 runs_once = refl
 
@@ -123,11 +126,11 @@ abbrev votes : Mid → ℕ → Move Mid
 votes σ from = gets σ from (msgs.Token 1 token (0 ∷ []))
 
 -- one more token equal to its own, and it has a verdict to offer
-two_tokens_commit : own_value 1 service (votes runs.state 1).state ≡ Some (OfMid (Decided (Commit token (0 ∷ []))))
+two_tokens_commit : own_value 1 m (votes runs.state 1).state ≡ Some (OfMid (Decided (Commit token (0 ∷ []))))
 unfolding digits checked number_at with_number run_job no_locks
 two_tokens_commit = refl
 
-own_token_alone : own_value 1 service runs.state ≡ None
+own_token_alone : own_value 1 m runs.state ≡ None
 unfolding digits checked number_at with_number run_job no_locks
 own_token_alone = refl
 
@@ -160,12 +163,12 @@ the_fact = refl
 abbrev waits : Mid
 waits = at_node three_rounds
 
-no_answer_yet : (work 1 service 0 waits []).answer ≡ Idles (why.NoAnswer Inv 1)
+no_answer_yet : (work 1 m 0 waits []).answer ≡ Idles (why.NoAnswer Inv 1)
 unfolding digits checked number_at with_number run_job no_locks
 no_answer_yet = refl
 
 abbrev is_answered : Move Mid
-is_answered = on_frame 1 service 0 waits (node Inv 2) (msgs.Answer 1 0)
+is_answered = on_frame 1 m 0 waits (node Inv 2) (msgs.Answer 1 0)
 
 written_down_first : is_answered.facts ≡ Held Inv 1 0 ∷ []
 unfolding digits checked number_at with_number
@@ -176,15 +179,15 @@ unfolding digits checked number_at with_number
 the_others_are_told = refl
 
 -- it isn't used before another node is known to hold it
-held_alone : (work 1 service 0 is_answered.state []).answer ≡ Idles (why.NoAnswer Inv 1)
+held_alone : (work 1 m 0 is_answered.state []).answer ≡ Idles (why.NoAnswer Inv 1)
 unfolding digits checked number_at with_number run_job no_locks
 held_alone = refl
 
-held_by_two : (work 1 service 0 (gets is_answered.state 1 (msgs.Have Inv 1 0)).state []).answer ≡ Ran (record { round = 2; steps = 0 ∷ []; order = 0 ∷ []; redo = 0 })
+held_by_two : (work 1 m 0 (gets is_answered.state 1 (msgs.Have Inv 1 0)).state []).answer ≡ Ran (record { round = 2; steps = 0 ∷ []; order = 0 ∷ []; redo = 0 })
 unfolding digits checked number_at with_number run_job no_locks
 held_by_two = refl
 
-answered_twice : (on_frame 1 service 0 is_answered.state (node Inv 1) (msgs.Answer 1 0)).answer ≡ Idles why.Nothing
+answered_twice : (on_frame 1 m 0 is_answered.state (node Inv 1) (msgs.Answer 1 0)).answer ≡ Idles why.Nothing
 unfolding digits checked number_at with_number
 answered_twice = refl
 
@@ -194,7 +197,7 @@ unfolding digits checked number_at with_number
 told_by_another = refl
 
 -- no batch is offered while a round before it isn't applied
-not_before_the_round : own_value 1 service (at_node (Learned 5 (OfMid (Decided Serial)) ∷ three_rounds)) ≡ None
+not_before_the_round : own_value 1 m (at_node (Learned 5 (OfMid (Decided Serial)) ∷ three_rounds)) ≡ None
 unfolding digits checked number_at with_number run_job no_locks
 not_before_the_round = refl
 

@@ -16,21 +16,21 @@ use Rattle.frames.specs.declared.message.Msg.{Msg}
 use Rattle.frames.specs.declared.message.Msg.TheVariants as msgs
 use Rattle.frames.specs.declared.turn.Idle.TheVariants as why
 use Rattle.round_model.specs.Lists.{is_some, put_at, each}
-use Rattle.round_model.specs.Service.{Service}
-use Rattle.round_model.specs.Answers.{Code, code_of, highest}
-use Rattle.round_model.specs.Copies.{Copy, copy_of, ready_copy, floor_at, due}
+use Rattle.round_model.specs.Numbered.{find}
+use Rattle.round_model.specs.Service.{Backend}
+use Rattle.round_model.specs.Shims.{new_shim, copies_at, copy_of, notes, ready, rises_to, told_floor, due_floor, highest}
 use Rattle.tier_model.specs.Moves.{is_node_of, Packet, Move, idles, drops, says, becomes, log_packets, asks, log_facts}
 use Rattle.frames.specs.Headers.{end_index}
 use Rattle.tier_model.specs.Back.{Back, answer_to, after_value, in_log}
 
 -- CALLS AND FLOORS
 
-abbrev pub copied : {B : Type 0} → Back B → Copy → Back B
-copied σ copy = record σ { copies = σ.copies ++ copy ∷ [] }
+abbrev pub copied : {B : Type 0} → Back B → ℕ → ℕ → List ℕ → Back B
+copied σ s n text = record σ { shim = notes σ.shim s n text }
 
 -- a copy of a call that has no code yet: each sender's first one counts
 abbrev pub notes_copy : {B : Type 0} → Back B → ℕ → ℕ → List ℕ → Move (Back B)
-notes_copy σ s n text = if is_some (copy_of σ.copies n s) then idles σ why.Nothing else becomes (copied σ (record { from = s; num = n; text = text }))
+notes_copy σ s n text = if is_some (copy_of (copies_at σ.shim n) s) then idles σ why.Nothing else becomes (copied σ s n text)
 
 abbrev pub call_as : {B : Type 0} → Tier → ℕ → Back B → ℕ → ℕ → List ℕ → Option ℕ → Move (Back B)
 call_as t x σ s n text None = notes_copy σ s n text
@@ -38,72 +38,70 @@ call_as t x σ s n text (Some code) = says σ (answer_to t x n code s ∷ [])
 
 -- a call below the floor is passed over, and one whose code is kept is answered
 abbrev pub on_call : {B : Type 0} → Tier → ℕ → Back B → ℕ → ℕ → List ℕ → Move (Back B)
-on_call t x σ s n text = if nat_lt n σ.floor then idles σ why.Nothing else call_as t x σ s n text (code_of σ.kept t n)
-
-abbrev pub told_floor : {B : Type 0} → Back B → ℕ → ℕ → Back B
-told_floor σ s g = record σ { floors = put_at 1 σ.floors s g }
+on_call t x σ s n text = if nat_lt n σ.shim.floor then idles σ why.Nothing else call_as t x σ s n text (find σ.shim.kept n)
 
 -- a sender's floor only rises
 abbrev pub on_settle : {B : Type 0} → Back B → ℕ → ℕ → Move (Back B)
-on_settle σ s g = if nat_le g (floor_at σ.floors s) then idles σ why.Nothing else becomes (told_floor σ s g)
+on_settle σ s g = if rises_to σ.shim s g then becomes (record σ { shim = told_floor σ.shim s g }) else idles σ why.Nothing
 
 -- FRAMES
 
 -- a kind that it doesn't take, or not from there, is refused by rule 7
-abbrev pub on_frame : {B : Type 0} → ℕ → Service B → Tier → ℕ → Back B → End → Msg → Move (Back B)
-on_frame u m t x σ from (msgs.Log p) = if is_node_of u t from then in_log u m t x σ (on_msg u σ.log (end_index from) p) else drops σ 7
-on_frame u m t x σ from (msgs.Call n text) = if is_node_of u tiers.Mid from then on_call t x σ (end_index from) n text else drops σ 7
-on_frame u m t x σ from (msgs.Settle g) = if is_node_of u tiers.Mid from then on_settle σ (end_index from) g else drops σ 7
-on_frame u m t x σ from (msgs.Request seq body) = drops σ 7
-on_frame u m t x σ from (msgs.Reply who body) = drops σ 7
-on_frame u m t x σ from (msgs.Token r token order) = drops σ 7
-on_frame u m t x σ from (msgs.Answer n code) = drops σ 7
-on_frame u m t x σ from (msgs.Have v n code) = drops σ 7
+abbrev pub on_frame : {B : Type 0} → ℕ → Backend B → Tier → ℕ → Back B → End → Msg → Move (Back B)
+on_frame u b t x σ from (msgs.Log p) = if is_node_of u t from then in_log u b t x σ (on_msg u σ.log (end_index from) p) else drops σ 7
+on_frame u b t x σ from (msgs.Call n text) = if is_node_of u tiers.Mid from then on_call t x σ (end_index from) n text else drops σ 7
+on_frame u b t x σ from (msgs.Settle g) = if is_node_of u tiers.Mid from then on_settle σ (end_index from) g else drops σ 7
+on_frame u b t x σ from (msgs.Request seq body) = drops σ 7
+on_frame u b t x σ from (msgs.Reply who body) = drops σ 7
+on_frame u b t x σ from (msgs.Token r token order) = drops σ 7
+on_frame u b t x σ from (msgs.Answer n code) = drops σ 7
+on_frame u b t x σ from (msgs.Have v n code) = drops σ 7
 
 -- LEADING AND OFFERING
 
-abbrev pub leads : {B : Type 0} → ℕ → Service B → Tier → ℕ → Back B → Move (Back B)
-leads u m t x σ = in_log u m t x σ (lead u x σ.log)
+abbrev pub leads : {B : Type 0} → ℕ → Backend B → Tier → ℕ → Back B → Move (Back B)
+leads u b t x σ = in_log u b t x σ (lead u x σ.log)
 
-abbrev pub settle_value : ℕ → ℕ → Option AnyValue
-settle_value floor g = if nat_lt floor g then Some (InBack (Settle g)) else None
+abbrev pub settle_value : Option ℕ → Option AnyValue
+settle_value None = None
+settle_value (Some g) = Some (InBack (Settle g))
 
-abbrev pub own_by : {B : Type 0} → ℕ → Back B → Option Copy → Option AnyValue
-own_by u σ None = settle_value σ.floor (due u σ.floors)
-own_by u σ (Some copy) = Some (InBack (Call copy.num copy.text))
+abbrev pub own_by : Option (ℕ × List ℕ) → Option ℕ → Option AnyValue
+own_by None floor = settle_value floor
+own_by (Some call) floor = Some (InBack (Call call.0 call.1))
 
 -- a call of which u+1 equal copies came, the least such number first; or else the (u+1)-th largest floor, where it is higher
-abbrev pub own_value : {B : Type 0} → ℕ → Back B → Option AnyValue
-own_value u σ = own_by u σ (ready_copy u σ.copies)
+abbrev pub own_value : {B : Type 0} → Back B → Option AnyValue
+own_value σ = own_by (ready σ.shim) (due_floor σ.shim)
 
-abbrev pub offers_as : {B : Type 0} → ℕ → Service B → Tier → ℕ → Back B → Offering → Move (Back B)
-offers_as u m t x σ NotLeader = idles σ why.NotLeader
-offers_as u m t x σ (NoPromises have) = idles σ (why.NoPromises have)
-offers_as u m t x σ (InFlight p) = idles σ (why.InFlight p)
-offers_as u m t x σ LogFull = idles σ why.LogFull
-offers_as u m t x σ Taken = in_log u m t x σ (offer u x σ.log (own_value u σ))
-offers_as u m t x σ (Free p) = if is_some (own_value u σ) then in_log u m t x σ (offer u x σ.log (own_value u σ)) else idles σ why.Nothing
+abbrev pub offers_as : {B : Type 0} → ℕ → Backend B → Tier → ℕ → Back B → Offering → Move (Back B)
+offers_as u b t x σ NotLeader = idles σ why.NotLeader
+offers_as u b t x σ (NoPromises have) = idles σ (why.NoPromises have)
+offers_as u b t x σ (InFlight p) = idles σ (why.InFlight p)
+offers_as u b t x σ LogFull = idles σ why.LogFull
+offers_as u b t x σ Taken = in_log u b t x σ (offer u x σ.log (own_value σ))
+offers_as u b t x σ (Free p) = if is_some (own_value σ) then in_log u b t x σ (offer u x σ.log (own_value σ)) else idles σ why.Nothing
 
-abbrev pub offers : {B : Type 0} → ℕ → Service B → Tier → ℕ → Back B → Move (Back B)
-offers u m t x σ = offers_as u m t x σ (wants u σ.log)
+abbrev pub offers : {B : Type 0} → ℕ → Backend B → Tier → ℕ → Back B → Move (Back B)
+offers u b t x σ = offers_as u b t x σ (wants u σ.log)
 
 -- RETRY AND RESTART
 
-abbrev pub answers_again : ℕ → Tier → ℕ → List Code → List Packet
+abbrev pub answers_again : ℕ → Tier → ℕ → List (ℕ × ℕ) → List Packet
 answers_again u t x [] = []
-answers_again u t x (c ∷ cs) = each (2 * u + 1) nobody (answer_to t x c.num c.code) ++ answers_again u t x cs
+answers_again u t x (e ∷ es) = each (2 * u + 1) nobody (answer_to t x e.0 e.1) ++ answers_again u t x es
 
 abbrev pub retry : {B : Type 0} → ℕ → Tier → ℕ → Back B → Move (Back B)
-retry u t x σ = says σ (log_packets t x (asks u x (open_at σ.log)) ++ answers_again u t x (highest t σ.kept))
+retry u t x σ = says σ (log_packets t x (asks u x (open_at σ.log)) ++ answers_again u t x (highest σ.shim))
 
-abbrev pub after_values : {B : Type 0} → Service B → Tier → Back B → List AnyValue → Back B
-after_values m t σ [] = σ
-after_values m t σ (v ∷ vs) = after_values m t (after_value m t σ v) vs
+abbrev pub after_values : {B : Type 0} → Backend B → Back B → List AnyValue → Back B
+after_values b σ [] = σ
+after_values b σ (v ∷ vs) = after_values b (after_value b σ v) vs
 
 -- the log that the facts leave, before its values are taken
-abbrev pub bare : {B : Type 0} → ℕ → Service B → Tier → List Fact → Back B
-bare u m t facts = record { log = recover u (log_facts facts); state = m.meaning.opening t; kept = []; floor = 1; copies = []; floors = replicate (2 * u + 1) 1 }
+abbrev pub bare : {B : Type 0} → ℕ → Backend B → List Fact → Back B
+bare u b facts = record { log = recover u (log_facts facts); state = b.opening; shim = new_shim u }
 
 -- the learned values are taken by a fresh backend
-abbrev pub recovered : {B : Type 0} → ℕ → Service B → Tier → List Fact → Back B
-recovered u m t facts = after_values m t (bare u m t facts) (recover u (log_facts facts)).learned
+abbrev pub recovered : {B : Type 0} → ℕ → Backend B → List Fact → Back B
+recovered u b facts = after_values b (bare u b facts) (recover u (log_facts facts)).learned

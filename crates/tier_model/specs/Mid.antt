@@ -14,24 +14,25 @@ use Rattle.frames.specs.declared.message.Msg.TheVariants as msgs
 use Rattle.frames.specs.declared.turn.Idle.{Idle}
 use Rattle.frames.specs.declared.turn.Idle.TheVariants.{Nothing, NoAnswer}
 use Rattle.round_model.specs.Lists.{and_then, below, each, OfTiers, of_tier}
-use Rattle.round_model.specs.Service.{Service, has_stage, Finish, finish, finish_by}
+use Rattle.round_model.specs.Service.{Programs, Finish}
 use Rattle.round_model.specs.Tables.{Tables, Number, Want, wants, Codes, job_of, first_missing, bump, settled, drop_done}
 use Rattle.round_model.specs.After.{batch_at, verdict_at}
-use Rattle.round_model.specs.Verdicts.{Vote, without_round}
-use Rattle.round_model.specs.Answers.{Code, code_of, Noted}
+use Rattle.round_model.specs.Settling.{finish_of}
+use Rattle.round_model.specs.Numbered.{without}
+use Rattle.round_model.specs.Verdicts.{Claims, Vote}
+use Rattle.round_model.specs.Held.{HeldState, held_code}
 use Rattle.tier_model.specs.Moves.{node, Packet, Move, idles, says, log_packets, as_fact, log_answer}
 
--- The log; how many rounds are applied, and the tables that they came to; the pending entry of each client; the tokens of
--- the rounds to come; the run of the next round, where it ran; the answers that are held, and who else holds some.
+-- The log; how many rounds are applied, and the tables that they came to; the pending entry of each client; the claims
+-- of the rounds to come, by round; the run of the next round, where it ran; the answers that are held.
 pub record Mid : Type 0 where
   pub log : LogState AnyValue
   pub applied : ℕ
   pub tables : Tables
   pub pending : List (Option Entry)
-  pub tally : List Vote
+  pub tally : List (ℕ × Claims)
   pub spec : Option Vote
-  pub held : List Code
-  pub noted : List Noted
+  pub held : HeldState
 
 abbrev pub with_log : Mid → LogState AnyValue → Mid
 with_log σ log = record σ { log = log }
@@ -44,9 +45,9 @@ pub record Ready : Type 0 where
   pub finish : Finish
 
 -- the next round, where it can be applied
-abbrev pub ready : {B : Type 0} → Service B → Mid → Option Ready
+abbrev pub ready : Programs → Mid → Option Ready
 ready m σ = and_then (batch_at σ.log.learned σ.applied) (λ es. and_then (verdict_at σ.log.learned σ.applied) (λ v.
-    and_then (finish_of m (code_of σ.held) (wants m σ.tables es) σ.tables v) (λ o. Some (record { wants = wants m σ.tables es; finish = o }))))
+    and_then (finish_of m (held_code σ.held) (wants m σ.tables es) σ.tables v) (λ o. Some (record { wants = wants m σ.tables es; finish = o }))))
 
 -- the state after the round is applied
 abbrev pub apply : Mid → Ready → Mid
@@ -54,7 +55,7 @@ apply σ R = record σ {
   applied = suc σ.applied;
   tables = settled σ.tables R.wants R.finish;
   pending = drop_done (settled σ.tables R.wants R.finish).last σ.pending;
-  tally = without_round σ.applied σ.tally;
+  tally = without σ.tally σ.applied;
   spec = None;
 }
 
@@ -89,11 +90,11 @@ apply_sends u x σ (Some R) = tells u x σ.tables.next R.wants R.finish.ends
 abbrev pub is_due : Mid → LogState AnyValue → Bool
 is_due σ log = nat_lt (length σ.log.learned) (length log.learned) && (length log.learned == 2 * σ.applied + 2)
 
-abbrev pub due_round : {B : Type 0} → Service B → Mid → LogState AnyValue → Option Ready
+abbrev pub due_round : Programs → Mid → LogState AnyValue → Option Ready
 due_round m σ log = if is_due σ log then ready m (with_log σ log) else None
 
 -- where the log learns the verdict of the next round, that round is applied if it can be, after the log's own packets
-abbrev pub in_log : {B : Type 0} → ℕ → Service B → ℕ → Mid → Turn AnyValue → Move Mid
+abbrev pub in_log : ℕ → Programs → ℕ → Mid → Turn AnyValue → Move Mid
 in_log u m x σ t = record {
   state = apply_state (with_log σ t.state) (due_round m σ t.state);
   facts = map as_fact t.facts;
@@ -107,11 +108,11 @@ abbrev pub missing : Option Number → Idle
 missing None = Nothing
 missing (Some k) = NoAnswer k.tier k.num
 
-abbrev pub unready : {B : Type 0} → Service B → Mid → Option (List Entry) → Option Verdict → Idle
-unready m σ (Some es) (Some Serial) = missing (first_missing (code_of σ.held) (wants m σ.tables es))
+abbrev pub unready : Programs → Mid → Option (List Entry) → Option Verdict → Idle
+unready m σ (Some es) (Some Serial) = missing (first_missing (held_code σ.held) (wants m σ.tables es))
 unready m σ es v = Nothing
 
 -- the next round is applied, or it is told why not: a Commit doesn't fit, or an answer isn't held
-abbrev pub applies : {B : Type 0} → ℕ → Service B → ℕ → Mid → Option Ready → Move Mid
+abbrev pub applies : ℕ → Programs → ℕ → Mid → Option Ready → Move Mid
 applies u m x σ None = idles σ (unready m σ (batch_at σ.log.learned σ.applied) (verdict_at σ.log.learned σ.applied))
 applies u m x σ (Some R) = says (apply σ R) (apply_sends u x σ (Some R))

@@ -24,11 +24,12 @@ use Rattle.frames.specs.declared.turn.RunNote.{RunNote}
 use Rattle.frames.specs.declared.turn.Idle.{Idle}
 use Rattle.frames.specs.declared.turn.Idle.TheVariants as why
 use Rattle.round_model.specs.Lists.{is_some, and_then, is_nil, put_at, concat, each, odd, half}
-use Rattle.round_model.specs.Service.{Service, is_request}
+use Rattle.round_model.specs.Service.{Programs, is_request}
 use Rattle.round_model.specs.Tables.{Parked, tables0, last_of, kept_of, fresh_pending, pending_of, batch_of, wants, job_of, first_missing}
 use Rattle.round_model.specs.After.{batch_at, verdict_at}
-use Rattle.round_model.specs.Verdicts.{Vote, vote_of, votes_in, verdict}
-use Rattle.round_model.specs.Answers.{Code, code_of, Noted, is_noted, usable, floor, highest}
+use Rattle.round_model.specs.Numbered.{put}
+use Rattle.round_model.specs.Verdicts.{Claims, Vote, claim, claim_of, with_claim, claims_in, how_many, verdict}
+use Rattle.round_model.specs.Held.{HeldState, held_code, is_noted, takes, hears, usable, floor, highest}
 use Rattle.tier_model.specs.Moves.{node, tier_of, is_client, is_node_of, Packet, Move, idles, drops, says, becomes, log_packets, asks, log_facts, held_in}
 use Rattle.frames.specs.Headers.{end_index}
 use Rattle.tier_model.specs.Mid.{Mid, in_log, ready, apply, applies, reply_to, calls_to, missing}
@@ -55,19 +56,26 @@ on_request x σ c s body =
 
 -- TOKENS
 
+-- the vote is in
+abbrev pub is_in : List (ℕ × Claims) → Vote → Bool
+is_in tally v = is_some (claim_of (claims_in tally v.round) v.from)
+
+abbrev pub with_vote : List (ℕ × Claims) → Vote → List (ℕ × Claims)
+with_vote tally v = put tally v.round (with_claim (claims_in tally v.round) v.from (claim v))
+
 abbrev pub tallied : Mid → Vote → Mid
-tallied σ v = record σ { tally = σ.tally ++ v ∷ [] }
+tallied σ v = record σ { tally = with_vote σ.tally v }
 
 -- a token counts once, and until its round's verdict is learned
 abbrev pub on_token : Mid → Vote → Move Mid
 on_token σ v =
-    if nat_lt (2 * v.round + 1) (open_at σ.log) || is_some (vote_of σ.tally v.round v.from) then idles σ why.Nothing
+    if nat_lt (2 * v.round + 1) (open_at σ.log) || is_in σ.tally v then idles σ why.Nothing
     else becomes (tallied σ v)
 
 -- ANSWERS
 
-abbrev pub holds : Mid → List Code → List Noted → Mid
-holds σ held noted = record σ { held = held; noted = noted }
+abbrev pub holds : Mid → HeldState → Mid
+holds σ held = record σ { held = held }
 
 abbrev pub have_to : ℕ → Tier → ℕ → ℕ → ℕ → Packet
 have_to x t n code y = record { from = node tiers.Mid x; to = node tiers.Mid y; message = msgs.Have t n code }
@@ -76,25 +84,24 @@ have_to x t n code y = record { from = node tiers.Mid x; to = node tiers.Mid y; 
 abbrev pub haves : ℕ → ℕ → Tier → ℕ → ℕ → List Packet
 haves u x t n code = each (2 * u + 1) (is x) (have_to x t n code)
 
-abbrev pub takes_answer : ℕ → ℕ → Mid → List Noted → Tier → ℕ → ℕ → Move Mid
-takes_answer u x σ noted t n code = record {
-  state = holds σ (σ.held ++ record { tier = t; num = n; code = code } ∷ []) noted;
+-- an answer that wasn't held before
+abbrev pub takes_answer : ℕ → ℕ → Mid → HeldState → Tier → ℕ → ℕ → Move Mid
+takes_answer u x σ held t n code = record {
+  state = holds σ held;
   facts = Held t n code ∷ [];
   sends = haves u x t n code;
   answer = Did;
 }
 
 abbrev pub on_answer : ℕ → ℕ → Mid → Tier → ℕ → ℕ → Move Mid
-on_answer u x σ t n code = if is_some (code_of σ.held t n) then idles σ why.Nothing else takes_answer u x σ σ.noted t n code
+on_answer u x σ t n code = if is_some (held_code σ.held t n) then idles σ why.Nothing else takes_answer u x σ (takes σ.held t n code) t n code
 
-abbrev pub notes : Mid → ℕ → Tier → ℕ → List Noted
-notes σ s t n = σ.noted ++ record { from = s; tier = t; num = n } ∷ []
-
+-- each node's first Have of an answer is noted; one of an answer that isn't held brings it, too
 abbrev pub on_have : ℕ → ℕ → Mid → ℕ → Tier → ℕ → ℕ → Move Mid
 on_have u x σ s t n code =
-    if is_noted σ.noted s t n && is_some (code_of σ.held t n) then idles σ why.Nothing
-    else if not (is_some (code_of σ.held t n)) then takes_answer u x σ (notes σ s t n) t n code
-    else becomes (holds σ σ.held (notes σ s t n))
+    if is_noted σ.held s t n then idles σ why.Nothing
+    else if is_some (held_code σ.held t n) then becomes (holds σ (hears σ.held s t n code))
+    else takes_answer u x σ (hears σ.held s t n code) t n code
 
 -- FRAMES
 
@@ -103,7 +110,7 @@ abbrev pub is_backend_node : ℕ → End → Bool
 is_backend_node u from = is_node_of u tiers.Inv from || is_node_of u tiers.Pay from
 
 -- a kind that it doesn't take, or not from there, is refused by rule 7, and a request that is none by rule 8
-abbrev pub on_frame : {B : Type 0} → ℕ → Service B → ℕ → Mid → End → Msg → Move Mid
+abbrev pub on_frame : ℕ → Programs → ℕ → Mid → End → Msg → Move Mid
 on_frame u m x σ from (msgs.Log p) = if is_node_of u tiers.Mid from then in_log u m x σ (on_msg u σ.log (end_index from) p) else drops σ 7
 on_frame u m x σ from (msgs.Request seq body) =
     if not (is_client from) then drops σ 7
@@ -119,31 +126,31 @@ on_frame u m x σ from (msgs.Settle g) = drops σ 7
 
 -- LEADING AND OFFERING
 
-abbrev pub leads : {B : Type 0} → ℕ → Service B → ℕ → Mid → Move Mid
+abbrev pub leads : ℕ → Programs → ℕ → Mid → Move Mid
 leads u m x σ = in_log u m x σ (lead u x σ.log)
 
 -- a batch is offered once the rounds before are applied, where an entry is fresh or a request is parked
-abbrev pub own_batch : {B : Type 0} → Service B → Mid → ℕ → Option AnyValue
+abbrev pub own_batch : Programs → Mid → ℕ → Option AnyValue
 own_batch m σ r =
     if nat_lt σ.applied r then None
     else if is_nil (fresh_pending m σ.tables σ.pending 16) && is_nil (concat σ.tables.queue) then None
     else Some (InMid (Batch (batch_of m σ.tables σ.pending)))
 
 abbrev pub own_verdict : ℕ → Mid → ℕ → Option AnyValue
-own_verdict u σ r = and_then (verdict u σ.tally r) (λ v. Some (InMid (Decided v)))
+own_verdict u σ r = and_then (verdict u (claims_in σ.tally r)) (λ v. Some (InMid (Decided v)))
 
 -- the node's own value for the first open position
-abbrev pub own_value : {B : Type 0} → ℕ → Service B → Mid → Option AnyValue
+abbrev pub own_value : ℕ → Programs → Mid → Option AnyValue
 own_value u m σ = if odd (open_at σ.log) then own_verdict u σ (half (open_at σ.log)) else own_batch m σ (half (open_at σ.log))
 
 -- why there is none
 abbrev pub own_cause : ℕ → Mid → Idle
 own_cause u σ =
-    if odd (open_at σ.log) then why.NoTokens (votes_in u σ.tally (half (open_at σ.log)))
+    if odd (open_at σ.log) then why.NoTokens (how_many u (claims_in σ.tally (half (open_at σ.log))))
     else if nat_lt σ.applied (half (open_at σ.log)) then why.Unapplied σ.applied
     else why.Nothing
 
-abbrev pub offers_as : {B : Type 0} → ℕ → Service B → ℕ → Mid → Offering → Move Mid
+abbrev pub offers_as : ℕ → Programs → ℕ → Mid → Offering → Move Mid
 offers_as u m x σ NotLeader = idles σ why.NotLeader
 offers_as u m x σ (NoPromises have) = idles σ (why.NoPromises have)
 offers_as u m x σ (InFlight p) = idles σ (why.InFlight p)
@@ -151,21 +158,21 @@ offers_as u m x σ LogFull = idles σ why.LogFull
 offers_as u m x σ Taken = in_log u m x σ (offer u x σ.log (own_value u m σ))
 offers_as u m x σ (Free p) = if is_some (own_value u m σ) then in_log u m x σ (offer u x σ.log (own_value u m σ)) else idles σ (own_cause u σ)
 
-abbrev pub offers : {B : Type 0} → ℕ → Service B → ℕ → Mid → Move Mid
+abbrev pub offers : ℕ → Programs → ℕ → Mid → Move Mid
 offers u m x σ = offers_as u m x σ (log_wants u σ.log)
 
 -- WORK
 
 -- the own vote joins the tally where none of its own is in
-abbrev pub with_own : List Vote → Vote → List Vote
-with_own vs v = if is_some (vote_of vs v.round v.from) then vs else vs ++ v ∷ []
+abbrev pub with_own : List (ℕ × Claims) → Vote → List (ℕ × Claims)
+with_own tally v = if is_in tally v then tally else with_vote tally v
 
 -- a run of a job: the vote, and what is told of it
 pub record Running : Type 0 where
   pub vote : Vote
   pub note : RunNote
 
-abbrev pub running : {B : Type 0} → Service B → ℕ → Mid → Run → Running
+abbrev pub running : Programs → ℕ → Mid → Run → Running
 running m x σ ran = record {
   vote = record { round = σ.applied; from = x; token = m.spell (changes.outcome σ.tables.store ran.store ran.ends); order = ran.order };
   note = record { round = σ.applied; steps = ran.steps; order = ran.order; redo = ran.redo };
@@ -182,41 +189,37 @@ runs u x σ r = record {
   answer = Ran r.note;
 }
 
--- the answers that may be used
-abbrev pub usable_here : ℕ → ℕ → Mid → Tier → ℕ → Option ℕ
-usable_here u x σ = usable u x σ.held σ.noted
-
 -- the run of the next round by a schedule, where it can be run
-abbrev pub to_run : {B : Type 0} → ℕ → Service B → ℕ → Mid → List ℕ → Option Running
+abbrev pub to_run : ℕ → Programs → ℕ → Mid → List ℕ → Option Running
 to_run u m x σ schedule =
     if is_some σ.spec then None
-    else and_then (batch_at σ.log.learned σ.applied) (λ es. and_then (job_of (usable_here u x σ) (wants m σ.tables es)) (λ J. Some (running m x σ (run_job m.begins J σ.tables.store schedule))))
+    else and_then (batch_at σ.log.learned σ.applied) (λ es. and_then (job_of (usable σ.held) (wants m σ.tables es)) (λ J. Some (running m x σ (run_job m.begins J σ.tables.store schedule))))
 
 -- why it can't
-abbrev pub not_run : {B : Type 0} → ℕ → Service B → ℕ → Mid → Option (List Entry) → Idle
+abbrev pub not_run : ℕ → Programs → ℕ → Mid → Option (List Entry) → Idle
 not_run u m x σ None = why.NoBatch
-not_run u m x σ (Some es) = if is_some σ.spec then why.Nothing else missing (first_missing (usable_here u x σ) (wants m σ.tables es))
+not_run u m x σ (Some es) = if is_some σ.spec then why.Nothing else missing (first_missing (usable σ.held) (wants m σ.tables es))
 
-abbrev pub runs_or_not : {B : Type 0} → ℕ → Service B → ℕ → Mid → Option Running → Move Mid
+abbrev pub runs_or_not : ℕ → Programs → ℕ → Mid → Option Running → Move Mid
 runs_or_not u m x σ None = idles σ (not_run u m x σ (batch_at σ.log.learned σ.applied))
 runs_or_not u m x σ (Some r) = runs u x σ r
 
 -- the next round is applied where its verdict is learned, and else is run
-abbrev pub work : {B : Type 0} → ℕ → Service B → ℕ → Mid → List ℕ → Move Mid
+abbrev pub work : ℕ → Programs → ℕ → Mid → List ℕ → Move Mid
 work u m x σ schedule =
     if is_some (verdict_at σ.log.learned σ.applied) then applies u m x σ (ready m σ)
     else runs_or_not u m x σ (to_run u m x σ schedule)
 
 -- the run that a work makes
-abbrev pub work_run : {B : Type 0} → ℕ → Service B → ℕ → Mid → List ℕ → Option Running
+abbrev pub work_run : ℕ → Programs → ℕ → Mid → List ℕ → Option Running
 work_run u m x σ schedule = if is_some (verdict_at σ.log.learned σ.applied) then None else to_run u m x σ schedule
 
 -- RETRY
 
 -- the parked calls of the tier whose answers aren't held
-abbrev pub open_calls : List Code → Tier → List Parked → List Parked
+abbrev pub open_calls : HeldState → Tier → List Parked → List Parked
 open_calls held t [] = []
-open_calls held t (p ∷ ps) = if same_tier p.tier t && not (is_some (code_of held p.tier p.num)) then p ∷ open_calls held t ps else open_calls held t ps
+open_calls held t (p ∷ ps) = if same_tier p.tier t && not (is_some (held_code held p.tier p.num)) then p ∷ open_calls held t ps else open_calls held t ps
 
 abbrev pub put_parked : Parked → List Parked → List Parked
 put_parked p [] = p ∷ []
@@ -231,9 +234,10 @@ abbrev pub calls_again : ℕ → ℕ → List Parked → List Packet
 calls_again u x [] = []
 calls_again u x (p ∷ ps) = calls_to u x p.tier p.num p.text ++ calls_again u x ps
 
-abbrev pub haves_again : ℕ → ℕ → List Code → List Packet
-haves_again u x [] = []
-haves_again u x (c ∷ cs) = haves u x c.tier c.num c.code ++ haves_again u x cs
+-- the others are told again of these answers of the tier, by number
+abbrev pub haves_again : ℕ → ℕ → Tier → List (ℕ × ℕ) → List Packet
+haves_again u x t [] = []
+haves_again u x t (e ∷ es) = haves u x t e.0 e.1 ++ haves_again u x t es
 
 abbrev pub settle_at : ℕ → Tier → ℕ → ℕ → Packet
 settle_at x t g y = record { from = node tiers.Mid x; to = node t y; message = msgs.Settle g }
@@ -241,14 +245,11 @@ settle_at x t g y = record { from = node tiers.Mid x; to = node t y; message = m
 abbrev pub settle_to : ℕ → ℕ → Tier → ℕ → List Packet
 settle_to u x t g = if nat_lt 1 g then each (2 * u + 1) nobody (settle_at x t g) else []
 
-abbrev pub floor_here : ℕ → ℕ → Mid → Tier → ℕ
-floor_here u x σ t = floor u x σ.held σ.noted t
-
 -- what a retry sends besides its Asks: the calls, the Haves and the floors
 abbrev pub again : ℕ → ℕ → Mid → List Packet
 again u x σ = calls_again u x (by_number (open_calls σ.held tiers.Inv (concat σ.tables.queue))) ++ (calls_again u x (by_number (open_calls σ.held tiers.Pay (concat σ.tables.queue)))
-    ++ (haves_again u x (highest tiers.Inv σ.held) ++ (haves_again u x (highest tiers.Pay σ.held)
-    ++ (settle_to u x tiers.Inv (floor_here u x σ tiers.Inv) ++ settle_to u x tiers.Pay (floor_here u x σ tiers.Pay)))))
+    ++ (haves_again u x tiers.Inv (highest σ.held tiers.Inv) ++ (haves_again u x tiers.Pay (highest σ.held tiers.Pay)
+    ++ (settle_to u x tiers.Inv (floor σ.held tiers.Inv) ++ settle_to u x tiers.Pay (floor σ.held tiers.Pay)))))
 
 abbrev pub retry : ℕ → ℕ → Mid → Move Mid
 retry u x σ = says σ (log_packets tiers.Mid x (asks u x (open_at σ.log)) ++ again u x σ)
@@ -256,13 +257,13 @@ retry u x σ = says σ (log_packets tiers.Mid x (asks u x (open_at σ.log)) ++ a
 -- RESTART
 
 -- rounds are applied while they can be
-abbrev pub catch_up : {B : Type 0} → Service B → ℕ → Mid → Mid
+abbrev pub catch_up : Programs → ℕ → Mid → Mid
 catch_up m zero σ = σ
 catch_up m (suc n) σ = elim (ready m σ) [ None ↦ σ | Some R ↦ catch_up m n (apply σ R) ]
 
 -- what the facts restore before that: log and held answers. The newest fact stands in front.
-abbrev pub bare : ℕ → ℕ → List Fact → Mid
-bare u depth facts = record { log = recover u (log_facts facts); applied = 0; tables = tables0 depth; pending = replicate 17 None; tally = []; spec = None; held = held_in facts; noted = [] }
+abbrev pub bare : ℕ → ℕ → ℕ → List Fact → Mid
+bare u depth x facts = record { log = recover u (log_facts facts); applied = 0; tables = tables0 depth; pending = replicate 17 None; tally = []; spec = None; held = held_in u x facts }
 
-abbrev pub recovered : {B : Type 0} → ℕ → Service B → ℕ → List Fact → Mid
-recovered u m depth facts = catch_up m (length (recover u (log_facts facts)).learned) (bare u depth facts)
+abbrev pub recovered : ℕ → Programs → ℕ → ℕ → List Fact → Mid
+recovered u m depth x facts = catch_up m (length (recover u (log_facts facts)).learned) (bare u depth x facts)

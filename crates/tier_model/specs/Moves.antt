@@ -25,7 +25,7 @@ use Rattle.frames.specs.declared.turn.Idle.{Idle}
 use Rattle.frames.specs.declared.turn.Idle.TheVariants as why
 use Rattle.frames.specs.declared.header.Refused.TheVariants.{Row}
 use Rattle.round_model.specs.Lists.{each}
-use Rattle.round_model.specs.Answers.{Code}
+use Rattle.round_model.specs.Held.{HeldState, none_held, takes}
 
 -- ENDS AND PACKETS
 
@@ -78,13 +78,13 @@ log_facts (Accepted p b v ∷ fs) = logs.Accepted p b v ∷ log_facts fs
 log_facts (Learned p v ∷ fs) = logs.Learned p v ∷ log_facts fs
 log_facts (Held t n code ∷ fs) = log_facts fs
 
--- the codes that are held, the oldest first, of facts with the newest in front
-abbrev pub held_in : List Fact → List Code
-held_in [] = []
-held_in (Promised b ∷ fs) = held_in fs
-held_in (Accepted p b v ∷ fs) = held_in fs
-held_in (Learned p v ∷ fs) = held_in fs
-held_in (Held t n code ∷ fs) = held_in fs ++ record { tier = t; num = n; code = code } ∷ []
+-- the answers that node x of a tier of 2u+1 holds by facts with the newest in front: of each call the oldest one counts
+abbrev pub held_in : ℕ → ℕ → List Fact → HeldState
+held_in u x [] = none_held u x
+held_in u x (Promised b ∷ fs) = held_in u x fs
+held_in u x (Accepted p b v ∷ fs) = held_in u x fs
+held_in u x (Learned p v ∷ fs) = held_in u x fs
+held_in u x (Held t n code ∷ fs) = takes (held_in u x fs) t n code
 
 -- MOVES
 
