@@ -8,7 +8,7 @@ use Rattle.log_model.specs.declared.message.PaxMsg.TheVariants.{Prepare, Promise
 use Rattle.log_model.specs.Log.{Leader, LogState, Turn, has, seen_at, count_below, is_at, has_ballot}
 use Rattle.log_model.specs.Recover.{onto, newest, promised_in, learned_in, accepted_in}
 use Rattle.log_model.specs.World.{Packet, packets_of, Mode, LogNode, World}
-use Rattle.log_model.specs.World.Mode.{Up, Down, Gone}
+use Rattle.log_model.specs.Nodes.Mode.{Up, Down, Gone}
 use Rattle.log_model.specs.Chosen.{has_sent, Meets}
 use Rattle.log_model.proofs.Ballots.{key, limit}
 use Rattle.log_model.proofs.Basics.{Every, every-weaker}

@@ -10,7 +10,7 @@ use Rattle.log_model.specs.declared.message.PaxMsg.TheVariants.{Prepare, Promise
 use Rattle.log_model.specs.Log.{LogState}
 use Rattle.log_model.specs.Recover.{newest, promised_in, learned_in, accepted_in, recover}
 use Rattle.log_model.specs.World.{Packet, Mode, LogNode, Event, start, run}
-use Rattle.log_model.specs.World.Mode.{Up, Down, Gone}
+use Rattle.log_model.specs.Nodes.Mode.{Up, Down, Gone}
 use Rattle.log_model.specs.Chosen.{chosen, Meets, Carries, Binds, StandsFor, HasFrom, KeepsVote}
 use Rattle.log_model.proofs.Ballots.{key, limit, at_most_key, key_at_most}
 use Rattle.log_model.proofs.Basics.{every-get, get_within}

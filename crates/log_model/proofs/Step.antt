@@ -7,7 +7,7 @@ use Rattle.log_model.specs.declared.fact.Fact.{Fact}
 use Rattle.log_model.specs.Log.{LogState, Turn}
 use Rattle.log_model.specs.Recover.{onto, newest, learned_in, recover}
 use Rattle.log_model.specs.World.{Packet, packets_of, Mode, LogNode, World, put, with_node, turned, recorded, stands}
-use Rattle.log_model.specs.World.Mode.{Up, Down, Gone}
+use Rattle.log_model.specs.Nodes.Mode.{Up, Down, Gone}
 use Rattle.log_model.specs.Chosen.{Meets}
 use Rattle.log_model.proofs.Basics.{Every, every-append, every-weaker, nothing_seen}
 use Rattle.log_model.proofs.History.{DidVote, Orderly, Grew, grew-refl, grew-onto, newest-push}

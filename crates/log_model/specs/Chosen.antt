@@ -7,7 +7,7 @@ use Rattle.log_model.specs.declared.message.PaxMsg.TheVariants.{Prepare, Promise
 use Rattle.log_model.specs.declared.fact.Fact.{Fact}
 use Rattle.log_model.specs.Log.{LogState, count_below}
 use Rattle.log_model.specs.World.{Packet, Mode, LogNode, World, Event, happens, start}
-use Rattle.log_model.specs.World.Mode.{Up, Down, Gone}
+use Rattle.log_model.specs.Nodes.Mode.{Up, Down, Gone}
 
 -- an Accepted of x with this ballot at p
 abbrev pub is_vote : {V : Type 0} → ℕ → Ballot → ℕ → PaxMsg V → ℕ → Bool

@@ -6,58 +6,41 @@ use Rattle.aeg_base.specs.declared.names.NodeId.{NodeId}
 use Rattle.aeg_base.specs.declared.names.Tier.{Tier}
 use Rattle.aeg_base.specs.declared.names.Tier.TheVariants.{Mid, Inv, Pay}
 use Rattle.log_model.specs.Chosen.{chosen_among}
-use Rattle.log_model.specs.World.{Node}
+use Rattle.log_model.specs.Nodes.{Node}
 use Rattle.log_values.specs.declared.any_value.AnyValue.{AnyValue}
 use Rattle.log_values.specs.declared.fact.Fact.{Fact}
-use Rattle.tier_model.specs.Mid as mid
-use Rattle.tier_model.specs.Back as back
+use Rattle.tier_model.specs.Kinds.{State}
 use Rattle.run_model.specs.declared.trace.Fared.TheVariants.{Fine, Cut, Fault}
 use Rattle.run_model.specs.declared.trace.Found.{Found}
 use Rattle.run_model.specs.declared.trace.Found.TheVariants.{Reads}
 use Rattle.run_model.specs.declared.trace.TraceEvent.{TraceEvent}
 use Rattle.run_model.specs.declared.trace.TraceEvent.TheVariants.{Submit, Deliver, Short, Lead, Offer, Work, Retry, Crash, Restart, Wipe}
-use Rattle.run_model.specs.World.{Config, World, with_mid, with_back, restarts, start}
-use Rattle.run_model.specs.Runs.{mid_chosen, back_chosen, mid_grows, back_grows, grows, log_soup}
+use Rattle.run_model.specs.World.{Config, World, with_node, restarts, start}
+use Rattle.run_model.specs.Runs.{grown, chosen_next, grows_at, grows}
 use Rattle.run_model.specs.Text.{after}
 use Rattle.run_model.specs.Resolving.{Becomes, AllBecome, AllFind, starts, all_nodes}
 use Rattle.run_model.specs.Standings.{keeps_limit}
 
 -- WHAT IS CHOSEN SENDS NOTHING
 
-mid_chosen-sends : {B : Type 0} (c : Config B) (w : World B) (o : Option AnyValue) → (mid_chosen c w o).soup ≡ w.soup
-mid_chosen-sends c w None = refl
-mid_chosen-sends c w (Some v) = refl
+grown-sends : {B : Type 0} (c : Config B) (w : World B) (t : Tier) (o : Option AnyValue) → (grown c w t o).soup ≡ w.soup
+grown-sends c w t None = refl
+grown-sends c w t (Some v) = refl
 
-back_chosen-sends : {B : Type 0} (w : World B) (t : Tier) (o : Option AnyValue) → (back_chosen w t o).soup ≡ w.soup
-back_chosen-sends w t None = refl
-back_chosen-sends w t (Some v) = refl
-
-mid_grows-sends : {B : Type 0} (c : Config B) (w : World B) → (mid_grows c w).soup ≡ w.soup
-mid_grows-sends c w = mid_chosen-sends c w (chosen_among c.u (log_soup Mid w.soup) (length w.log) (log_soup Mid w.soup))
-
-back_grows-sends : {B : Type 0} (c : Config B) (t : Tier) (w : World B) → (back_grows c t w).soup ≡ w.soup
-back_grows-sends c t w = back_chosen-sends w t (chosen_among c.u (log_soup t w.soup) (length (w.logs t)) (log_soup t w.soup))
+grows_at-sends : {B : Type 0} (c : Config B) (t : Tier) (w : World B) → (grows_at c t w).soup ≡ w.soup
+grows_at-sends c t w = grown-sends c w t (chosen_next c w t)
 
 grows-sends : {B : Type 0} (c : Config B) (w : World B) → (grows c w).soup ≡ w.soup
-grows-sends c w = back_grows-sends c Pay (back_grows c Inv (mid_grows c w)) ∙ (back_grows-sends c Inv (mid_grows c w) ∙ mid_grows-sends c w)
+grows-sends c w = grows_at-sends c Pay (grows_at c Inv (grows_at c Mid w)) ∙ (grows_at-sends c Inv (grows_at c Mid w) ∙ grows_at-sends c Mid w)
 
 -- NOR DOES A RESTART
 
-mid_node-sends : {B : Type 0} (w : World B) (x : ℕ) (n : Node mid.Mid Fact) (b : Bool) → (if b then with_mid w x n [] [] else w).soup ≡ w.soup
-mid_node-sends w x n true = append-nil w.soup
-mid_node-sends w x n false = refl
-
-back_node-sends : {B : Type 0} (w : World B) (t : Tier) (x : ℕ) (n : Node (back.Back B) Fact) (b : Bool) → (if b then with_back w t x n [] else w).soup ≡ w.soup
-back_node-sends w t x n true = append-nil w.soup
-back_node-sends w t x n false = refl
-
-restarts-send : {B : Type 0} (c : Config B) (w : World B) (found : Found) (t : Tier) (x : ℕ) → (restarts c w found t x).soup ≡ w.soup
-restarts-send c w found Mid x = mid_node-sends w x _ (nat_lt x (2 * c.u + 1))
-restarts-send c w found Inv x = back_node-sends w Inv x _ (nat_lt x (2 * c.u + 1))
-restarts-send c w found Pay x = back_node-sends w Pay x _ (nat_lt x (2 * c.u + 1))
+placed-sends : {B : Type 0} (w : World B) (t : Tier) (x : ℕ) (n : Node (State B t) Fact) (b : Bool) → (if b then with_node w t x n [] [] else w).soup ≡ w.soup
+placed-sends w t x n true = append-nil w.soup
+placed-sends w t x n false = refl
 
 pub restart-sends : {B : Type 0} (c : Config B) (w : World B) (n : NodeId) (found : Found) → (after c w (Restart n found)).soup ≡ w.soup
-restart-sends c w n found = grows-sends c (restarts c w found n.tier n.index) ∙ restarts-send c w found n.tier n.index
+restart-sends c w n found = grows-sends c (restarts c w found n.tier n.index) ∙ placed-sends w n.tier n.index _ (nat_lt n.index (2 * c.u + 1))
 
 -- what comes of a restart is one of the same node
 pub becomes_restart : (n : NodeId) (e : TraceEvent) → Becomes (Restart n (Reads 0)) e → (found : Found) × (e ≡ Restart n found)

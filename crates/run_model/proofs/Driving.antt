@@ -122,7 +122,7 @@ pub record Sums : Type 0 where
   pub packets : ℕ
 
 abbrev pub sums : World Amounts → Sums → Bool
-sums w s = same_history w.hist s.hist && (same_replies w.told s.told && ((length w.log == s.mid) && ((length (w.logs Inv) == s.inv) && ((length (w.logs Pay) == s.pay) && (length w.soup == s.packets)))))
+sums w s = same_history w.hist s.hist && (same_replies w.told s.told && ((length (w.logs Mid) == s.mid) && ((length (w.logs Inv) == s.inv) && ((length (w.logs Pay) == s.pay) && (length w.soup == s.packets)))))
 
 abbrev pub came_to : At → Sums → Bool
 came_to a s = sums a.world s

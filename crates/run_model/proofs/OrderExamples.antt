@@ -5,7 +5,7 @@ use Rattle.std.specs.Fmt.{digits}
 use Rattle.aeg_base.specs.Numbers.{checked, number_at, with_number}
 use Rattle.aeg_base.specs.Locks.{no_locks}
 use Rattle.aeg_base.specs.declared.names.ReqId.{ReqId}
-use Rattle.aeg_base.specs.declared.names.Tier.TheVariants.{Inv, Pay}
+use Rattle.aeg_base.specs.declared.names.Tier.TheVariants.{Mid, Inv, Pay}
 use Rattle.server_model.specs.declared.history.Hist.TheVariants.{Start, Serve, Resume}
 use Rattle.exec_model.specs.Jobs.{run_job}
 use Rattle.log_values.specs.declared.entry.Entry.{Entry}
@@ -69,7 +69,7 @@ serial_in (Some (Commit token order)) = false
 serial_in (Some Serial) = true
 
 abbrev pub is_serial : At → Bool
-is_serial a = serial_in (verdict_at a.world.log 1)
+is_serial a = serial_in (verdict_at (a.world.logs Mid) 1)
 
 serial_is_chosen : is_serial (decided (Work (m 0) first_books ∷ Work (m 1) second_books ∷ [])) ≡ true
 unfolding digits checked number_at with_number no_locks run_job outcome_at all_pairs_at all_ends_at pairs_at pair_at ending_at backend_at stage_at text_at list_at

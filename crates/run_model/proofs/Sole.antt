@@ -7,9 +7,9 @@ use Rattle.aeg_base.specs.declared.names.Tier.{Tier}
 use Rattle.aeg_base.specs.declared.names.Tier.TheVariants.{Mid, Inv, Pay}
 use Rattle.server_model.specs.Server.{same_tier}
 use Rattle.log_model.specs.Chosen.{chosen_among}
-use Rattle.log_model.specs.World.{Mode, Node, Device, put, recorded, stands, failed}
-use Rattle.log_model.specs.World.Mode.{Up, Down, Gone}
-use Rattle.log_model.specs.World.Device.{Fine as WasFine, CutKeep, CutDrop, Fault as WasFault}
+use Rattle.log_model.specs.Nodes.{Mode, Node, Device, put, recorded, stands, is_well, failed, moved, sent, crashed, up_as, found_at, restarted}
+use Rattle.log_model.specs.Nodes.Mode.{Up, Down, Gone}
+use Rattle.log_model.specs.Nodes.Device.{Fine as WasFine, CutKeep, CutDrop, Fault as WasFault}
 use Rattle.log_values.specs.declared.any_value.AnyValue.{AnyValue}
 use Rattle.log_values.specs.declared.fact.Fact.{Fact}
 use Rattle.frames.specs.declared.message.Msg.{Msg}
@@ -17,29 +17,25 @@ use Rattle.frames.specs.declared.message.Msg.TheVariants as msgs
 use Rattle.round_model.specs.Lists.{is_some}
 use Rattle.round_model.specs.Verdicts.{Vote}
 use Rattle.tier_model.specs.Moves.{Packet, Move}
-use Rattle.tier_model.specs.Mid as mid
+use Rattle.tier_model.specs.Kinds.{State}
 use Rattle.tier_model.specs.MidRows as mids
-use Rattle.tier_model.specs.Back as back
-use Rattle.tier_model.specs.BackRows as backs
 use Rattle.run_model.specs.declared.trace.Fared.{Fared}
 use Rattle.run_model.specs.declared.trace.Fared.TheVariants.{Fine, Cut, Fault}
 use Rattle.run_model.specs.declared.trace.Found.{Found}
 use Rattle.run_model.specs.declared.trace.Found.TheVariants.{Reads, Fault as Fails}
 use Rattle.run_model.specs.declared.trace.TraceEvent.{TraceEvent}
 use Rattle.run_model.specs.declared.trace.TraceEvent.TheVariants.{Submit, Deliver, Short, Lead, Offer, Work, Retry, Crash, Restart, Wipe}
-use Rattle.run_model.specs.World.{Config, World, start, device_of, fate, unwritten, can_fare, is_well, moved, sent, with_mid, with_back, the_run, no_run, mid_up, at_mid, back_up, at_back, opens, submits, reopens, takes_reply, client_gets, node_gets, arrives, delivered, shortened, leads, offers, works, node_retries, retries, mid_node, back_node, crashed, crashes, up_as, found_at, restarted, restarts, wipes, if_can, happens}
-use Rattle.run_model.specs.Runs.{mid_chosen, back_chosen, mid_grows, back_grows, log_soup}
+use Rattle.run_model.specs.World.{Config, World, Nodes, Fate, put_nodes, kind_at, with_node, node_up, at_node, moves, placed, start, device_of, fate, unwritten, can_fare, ran, opens, submits, reopens, takes_reply, client_gets, node_gets, arrives, delivered, shortened, leads, offers, works, node_retries, retries, crashes, list_of, restarts, wipes, if_can, happens}
+use Rattle.run_model.specs.Runs.{grown, chosen_next, grows_at}
 use Rattle.run_model.specs.Text.{after}
 use Rattle.run_model.specs.Resolving.{is_fine as fares_well, is_sure, others_at}
 use Rattle.run_model.specs.Standings.{IsSole}
 
 pub sole_at : {B : Type 0} (w : World B) (t : Tier) (x : ℕ) → IsSole w → others_at w t x ≡ []
-sole_at w Mid x s = s.mids x
-sole_at w Inv x s = s.backs Inv x
-sole_at w Pay x s = s.backs Pay x
+sole_at w t x s = s.sole t x
 
 pub start_sole : {B : Type 0} → IsSole (start {B = B})
-start_sole = record { mids = λ x. refl; backs = λ t x. refl }
+start_sole = record { sole = λ t x. refl }
 
 -- A NODE IN ITS PLACE
 
@@ -50,19 +46,26 @@ sole_either false n m h k = k
 sole_put : {S : Type 0} (f : ℕ → Node S Fact) (x : ℕ) (n : Node S Fact) → ((y : ℕ) → (f y).others ≡ []) → n.others ≡ [] → (y : ℕ) → (put f x n y).others ≡ []
 sole_put f x n h k y = sole_either (y == x) n (f y) k (h y)
 
-sole_tier : {S : Type 0} (b : Bool) (f g : ℕ → Node S Fact) → ((y : ℕ) → (f y).others ≡ []) → ((y : ℕ) → (g y).others ≡ []) → (y : ℕ) → ((if b then f else g) y).others ≡ []
-sole_tier true f g h k y = h y
-sole_tier false f g h k y = k y
+-- so are the nodes of one tier among all
+sole_nodes : {B : Type 0} (f : Nodes B) (t : Tier) (g : ℕ → Node (State B t) Fact) → ((v : Tier) (y : ℕ) → (f v y).others ≡ [])
+    → ((y : ℕ) → (g y).others ≡ []) → (v : Tier) (y : ℕ) → (put_nodes f t g v y).others ≡ []
+sole_nodes f Mid g h k Mid y = k y
+sole_nodes f Mid g h k Inv y = h Inv y
+sole_nodes f Mid g h k Pay y = h Pay y
+sole_nodes f Inv g h k Mid y = h Mid y
+sole_nodes f Inv g h k Inv y = k y
+sole_nodes f Inv g h k Pay y = h Pay y
+sole_nodes f Pay g h k Mid y = h Mid y
+sole_nodes f Pay g h k Inv y = h Inv y
+sole_nodes f Pay g h k Pay y = k y
 
 sole_if : {B : Type 0} (b : Bool) (v w : World B) → IsSole v → IsSole w → IsSole (if b then v else w)
 sole_if true v w h k = h
 sole_if false v w h k = k
 
-sole_mid : {B : Type 0} (w : World B) (x : ℕ) (n : Node mid.Mid Fact) (ks : List Packet) (vs : List Vote) → IsSole w → n.others ≡ [] → IsSole (with_mid w x n ks vs)
-sole_mid w x n ks vs s h = record { mids = sole_put w.mids x n s.mids h; backs = s.backs }
-
-sole_back : {B : Type 0} (w : World B) (t : Tier) (x : ℕ) (n : Node (back.Back B) Fact) (ks : List Packet) → IsSole w → n.others ≡ [] → IsSole (with_back w t x n ks)
-sole_back w t x n ks s h = record { mids = s.mids; backs = λ v. sole_tier (same_tier v t) (put (w.backs t) x n) (w.backs v) (sole_put (w.backs t) x n (s.backs t) h) (s.backs v) }
+sole_with : {B : Type 0} (w : World B) (t : Tier) (x : ℕ) (n : Node (State B t) Fact) (ks : List Packet) (vs : List Vote) → IsSole w → n.others ≡ []
+    → IsSole (with_node w t x n ks vs)
+sole_with w t x n ks vs s h = record { sole = sole_nodes w.nodes t (put (w.nodes t) x n) s.sole (sole_put (w.nodes t) x n (s.sole t) h) }
 
 -- MOVES
 
@@ -98,43 +101,40 @@ sole_failed n facts CutKeep h k = refl
 sole_failed n facts CutDrop h k = refl
 sole_failed n facts WasFault h k = absurd (cc)
 
-sole_moved : {S : Type 0} (n : Node S Fact) (d : Device) (v : Move S) → is_safe d ≡ true → n.others ≡ [] → (moved n d v).others ≡ []
-sole_moved n d v h k = sole_either (is_well d v.facts) (stands (Up v.state) (recorded n.records v.facts)) (failed n v.facts d) refl (sole_failed n v.facts d h k)
+sole_moved : {S : Type 0} (n : Node S Fact) (d : Device) (state : S) (facts : List Fact) → is_safe d ≡ true → n.others ≡ [] → (moved n d state facts).others ≡ []
+sole_moved n d state facts h k = sole_either (is_well d facts) (stands (Up state) (recorded n.records facts)) (failed n facts d) refl (sole_failed n facts d h k)
 
-sole_mid_up : {B : Type 0} (w : World B) (x : ℕ) (d : List (List Fact) → List Fact → Device) (move : mid.Mid → Move mid.Mid) (run : mid.Mid → Option mids.Running) (mode : Mode mid.Mid) → AreSafe d → IsSole w → IsSole (mid_up w x d move run mode)
-sole_mid_up w x d move run (Up σ) h s =
-    sole_mid w x (moved (w.mids x) (d (w.mids x).records (move σ).facts) (move σ)) (sent (d (w.mids x).records (move σ).facts) (move σ)) (the_run (run σ)) s
-    (sole_moved (w.mids x) (d (w.mids x).records (move σ).facts) (move σ) (h (w.mids x).records (move σ).facts) (s.mids x))
-sole_mid_up w x d move run Down h s = s
-sole_mid_up w x d move run Gone h s = s
+sole_up : {B : Type 0} (w : World B) (t : Tier) (x : ℕ) (d : Fate) (move : State B t → Move (State B t)) (ran : State B t → List Vote) (mode : Mode (State B t)) → AreSafe d → IsSole w
+    → IsSole (node_up w t x d move ran mode)
+sole_up w t x d move ran (Up σ) h s =
+    let facts : List Fact = (move σ).facts in
+    let device : Device = d (w.nodes t x).records facts in
+    sole_with w t x (moved (w.nodes t x) device (move σ).state facts) (sent device facts (move σ).sends) (ran σ) s
+    (sole_moved (w.nodes t x) device (move σ).state facts (h (w.nodes t x).records facts) (s.sole t x))
+sole_up w t x d move ran Down h s = s
+sole_up w t x d move ran Gone h s = s
 
-sole_at_mid : {B : Type 0} (c : Config B) (w : World B) (x : ℕ) (d : List (List Fact) → List Fact → Device) (move : mid.Mid → Move mid.Mid) (run : mid.Mid → Option mids.Running) → AreSafe d → IsSole w → IsSole (at_mid c w x d move run)
-sole_at_mid c w x d move run h s = sole_if (nat_lt x (2 * c.u + 1)) (mid_up w x d move run (w.mids x).mode) w (sole_mid_up w x d move run (w.mids x).mode h s) s
+sole_at_node : {B : Type 0} (c : Config B) (w : World B) (t : Tier) (x : ℕ) (d : Fate) (move : State B t → Move (State B t)) (ran : State B t → List Vote) → AreSafe d → IsSole w
+    → IsSole (at_node c w t x d move ran)
+sole_at_node c w t x d move ran h s = sole_if (nat_lt x (2 * c.u + 1)) (node_up w t x d move ran (w.nodes t x).mode) w (sole_up w t x d move ran (w.nodes t x).mode h s) s
 
-sole_back_up : {B : Type 0} (w : World B) (t : Tier) (x : ℕ) (d : List (List Fact) → List Fact → Device) (move : back.Back B → Move (back.Back B)) (mode : Mode (back.Back B)) → AreSafe d → IsSole w → IsSole (back_up w t x d move mode)
-sole_back_up w t x d move (Up σ) h s =
-    sole_back w t x (moved (w.backs t x) (d (w.backs t x).records (move σ).facts) (move σ)) (sent (d (w.backs t x).records (move σ).facts) (move σ)) s
-    (sole_moved (w.backs t x) (d (w.backs t x).records (move σ).facts) (move σ) (h (w.backs t x).records (move σ).facts) (s.backs t x))
-sole_back_up w t x d move Down h s = s
-sole_back_up w t x d move Gone h s = s
-
-sole_at_back : {B : Type 0} (c : Config B) (w : World B) (t : Tier) (x : ℕ) (d : List (List Fact) → List Fact → Device) (move : back.Back B → Move (back.Back B)) → AreSafe d → IsSole w → IsSole (at_back c w t x d move)
-sole_at_back c w t x d move h s = sole_if (nat_lt x (2 * c.u + 1)) (back_up w t x d move (w.backs t x).mode) w (sole_back_up w t x d move (w.backs t x).mode h s) s
+sole_moves : {B : Type 0} (c : Config B) (w : World B) (t : Tier) (x : ℕ) (d : Fate) (move : State B t → Move (State B t)) → AreSafe d → IsSole w → IsSole (moves c w t x d move)
+sole_moves c w t x d move h s = sole_at_node c w t x d move (λ σ. []) h s
 
 -- CLIENTS
 
 sole_opens : {B : Type 0} (u : ℕ) (w : World B) (y : ℕ) (text : List ℕ) → IsSole w → IsSole (opens u w y text)
-sole_opens u w y text s = record { mids = s.mids; backs = s.backs }
+sole_opens u w y text s = record { sole = s.sole }
 
 sole_submits : {B : Type 0} (c : Config B) (w : World B) (y : ℕ) (text : List ℕ) → IsSole w → IsSole (submits c w y text)
 sole_submits c w y text s = sole_if _ (opens c.u w y text) w (sole_opens c.u w y text s) s
 
 sole_reopens : {B : Type 0} (c : Config B) (w : World B) (y : ℕ) (o : Option (List ℕ)) → IsSole w → IsSole (reopens c w y o)
 sole_reopens c w y None s = s
-sole_reopens c w y (Some text) s = record { mids = s.mids; backs = s.backs }
+sole_reopens c w y (Some text) s = record { sole = s.sole }
 
 sole_takes : {B : Type 0} (w : World B) (y seq : ℕ) (text : List ℕ) → IsSole w → IsSole (takes_reply w y seq text)
-sole_takes w y seq text s = sole_if (is_some (w.clients y).opened && (seq == (w.clients y).last)) _ w (record { mids = s.mids; backs = s.backs }) s
+sole_takes w y seq text s = sole_if (is_some (w.clients y).opened && (seq == (w.clients y).last)) _ w (record { sole = s.sole }) s
 
 sole_client : {B : Type 0} (w : World B) (y : ℕ) (m : Msg) → IsSole w → IsSole (client_gets w y m)
 sole_client w y (msgs.Reply who text) s = sole_takes w y who.seq text s
@@ -149,9 +149,7 @@ sole_client w y (msgs.Settle g) s = s
 -- DELIVERIES AND COMMANDS
 
 sole_gets : {B : Type 0} (c : Config B) (w : World B) (fared : Fared) (from : End) (m : Msg) (t : Tier) (x : ℕ) → fares_well fared ≡ true → IsSole w → IsSole (node_gets c w fared from m t x)
-sole_gets c w fared from m Mid x h s = sole_at_mid c w x (fate c fared) (λ σ. mids.on_frame c.u c.service x σ from m) no_run (safe_fate c fared h) s
-sole_gets c w fared from m Inv x h s = sole_at_back c w Inv x (fate c fared) (λ σ. backs.on_frame c.u c.service Inv x σ from m) (safe_fate c fared h) s
-sole_gets c w fared from m Pay x h s = sole_at_back c w Pay x (fate c fared) (λ σ. backs.on_frame c.u c.service Pay x σ from m) (safe_fate c fared h) s
+sole_gets c w fared from m t x h s = sole_moves c w t x (fate c fared) ((kind_at c t x).on_frame from m) (safe_fate c fared h) s
 
 sole_arrives : {B : Type 0} (c : Config B) (w : World B) (fared : Fared) (from : End) (m : Msg) (to : End) → fares_well fared ≡ true → IsSole w → IsSole (arrives c w fared from m to)
 sole_arrives c w fared from m (NodeEnd n) h s = sole_gets c w fared from m n.tier n.index h s
@@ -167,24 +165,18 @@ sole_shortened c w fared bytes (Some k) h s =
     sole_if (nat_le (c.frame_length k.from k.message) bytes) (arrives c w fared k.from k.message k.to) w (sole_arrives c w fared k.from k.message k.to h s) s
 
 sole_leads : {B : Type 0} (c : Config B) (w : World B) (fared : Fared) (t : Tier) (x : ℕ) → fares_well fared ≡ true → IsSole w → IsSole (leads c w fared t x)
-sole_leads c w fared Mid x h s = sole_at_mid c w x (fate c fared) (λ σ. mids.leads c.u c.service x σ) no_run (safe_fate c fared h) s
-sole_leads c w fared Inv x h s = sole_at_back c w Inv x (fate c fared) (λ σ. backs.leads c.u c.service Inv x σ) (safe_fate c fared h) s
-sole_leads c w fared Pay x h s = sole_at_back c w Pay x (fate c fared) (λ σ. backs.leads c.u c.service Pay x σ) (safe_fate c fared h) s
+sole_leads c w fared t x h s = sole_moves c w t x (fate c fared) (kind_at c t x).leads (safe_fate c fared h) s
 
 sole_offers : {B : Type 0} (c : Config B) (w : World B) (fared : Fared) (t : Tier) (x : ℕ) → fares_well fared ≡ true → IsSole w → IsSole (offers c w fared t x)
-sole_offers c w fared Mid x h s = sole_at_mid c w x (fate c fared) (λ σ. mids.offers c.u c.service x σ) no_run (safe_fate c fared h) s
-sole_offers c w fared Inv x h s = sole_at_back c w Inv x (fate c fared) (λ σ. backs.offers c.u c.service Inv x σ) (safe_fate c fared h) s
-sole_offers c w fared Pay x h s = sole_at_back c w Pay x (fate c fared) (λ σ. backs.offers c.u c.service Pay x σ) (safe_fate c fared h) s
+sole_offers c w fared t x h s = sole_moves c w t x (fate c fared) (kind_at c t x).offers (safe_fate c fared h) s
 
 sole_works : {B : Type 0} (c : Config B) (w : World B) (t : Tier) (x : ℕ) (schedule : List ℕ) → IsSole w → IsSole (works c w t x schedule)
-sole_works c w Mid x schedule s = sole_at_mid c w x unwritten (λ σ. mids.work c.u c.service x σ schedule) (λ σ. mids.work_run c.u c.service x σ schedule) safe_unwritten s
+sole_works c w Mid x schedule s = sole_at_node c w Mid x unwritten (λ σ. mids.work c.u c.service.programs x σ schedule) (ran c x schedule) safe_unwritten s
 sole_works c w Inv x schedule s = s
 sole_works c w Pay x schedule s = s
 
 sole_node_retries : {B : Type 0} (c : Config B) (w : World B) (t : Tier) (x : ℕ) → IsSole w → IsSole (node_retries c w t x)
-sole_node_retries c w Mid x s = sole_at_mid c w x unwritten (λ σ. mids.retry c.u x σ) no_run safe_unwritten s
-sole_node_retries c w Inv x s = sole_at_back c w Inv x unwritten (λ σ. backs.retry c.u Inv x σ) safe_unwritten s
-sole_node_retries c w Pay x s = sole_at_back c w Pay x unwritten (λ σ. backs.retry c.u Pay x σ) safe_unwritten s
+sole_node_retries c w t x s = sole_moves c w t x unwritten (kind_at c t x).retry safe_unwritten s
 
 sole_retries : {B : Type 0} (c : Config B) (w : World B) (end : End) → IsSole w → IsSole (retries c w end)
 sole_retries c w (NodeEnd n) s = sole_node_retries c w n.tier n.index s
@@ -192,11 +184,8 @@ sole_retries c w (Client y) s = sole_reopens c w y (w.clients y).opened s
 
 -- CRASH, RESTART, WIPE
 
-sole_mid_node : {B : Type 0} (c : Config B) (w : World B) (x : ℕ) (n : Node mid.Mid Fact) → n.others ≡ [] → IsSole w → IsSole (mid_node c w x n)
-sole_mid_node c w x n h s = sole_if (nat_lt x (2 * c.u + 1)) (with_mid w x n [] []) w (sole_mid w x n [] [] s h) s
-
-sole_back_node : {B : Type 0} (c : Config B) (w : World B) (t : Tier) (x : ℕ) (n : Node (back.Back B) Fact) → n.others ≡ [] → IsSole w → IsSole (back_node c w t x n)
-sole_back_node c w t x n h s = sole_if (nat_lt x (2 * c.u + 1)) (with_back w t x n []) w (sole_back w t x n [] s h) s
+sole_placed : {B : Type 0} (c : Config B) (w : World B) (t : Tier) (x : ℕ) (n : Node (State B t) Fact) → n.others ≡ [] → IsSole w → IsSole (placed c w t x n)
+sole_placed c w t x n h s = sole_if (nat_lt x (2 * c.u + 1)) (with_node w t x n [] []) w (sole_with w t x n [] [] s h) s
 
 sole_crashed : {S : Type 0} (n : Node S Fact) (m : Mode S) → n.others ≡ [] → (crashed n m).others ≡ []
 sole_crashed n (Up s) h = refl
@@ -204,9 +193,7 @@ sole_crashed n Down h = h
 sole_crashed n Gone h = h
 
 sole_crashes : {B : Type 0} (c : Config B) (w : World B) (t : Tier) (x : ℕ) → IsSole w → IsSole (crashes c w t x)
-sole_crashes c w Mid x s = sole_mid_node c w x (crashed (w.mids x) (w.mids x).mode) (sole_crashed (w.mids x) (w.mids x).mode (s.mids x)) s
-sole_crashes c w Inv x s = sole_back_node c w Inv x (crashed (w.backs Inv x) (w.backs Inv x).mode) (sole_crashed (w.backs Inv x) (w.backs Inv x).mode (s.backs Inv x)) s
-sole_crashes c w Pay x s = sole_back_node c w Pay x (crashed (w.backs Pay x) (w.backs Pay x).mode) (sole_crashed (w.backs Pay x) (w.backs Pay x).mode (s.backs Pay x)) s
+sole_crashes c w t x s = sole_placed c w t x (crashed (w.nodes t x) (w.nodes t x).mode) (sole_crashed (w.nodes t x) (w.nodes t x).mode (s.sole t x)) s
 
 sole_as : {S : Type 0} (recover : List Fact → S) (n : Node S Fact) (o : Option (List (List Fact))) → n.others ≡ [] → (up_as recover n o).others ≡ []
 sole_as recover n None h = h
@@ -216,23 +203,21 @@ sole_found : {S : Type 0} (recover : List Fact → S) (n : Node S Fact) (k : ℕ
 sole_found recover n zero h = refl
 sole_found recover n (suc k) h = sole_as recover n (slice_get n.others k) h
 
-sole_restarted : {S : Type 0} (recover : List Fact → S) (n : Node S Fact) (found : Found) (m : Mode S) → n.others ≡ [] → (restarted recover n found m).others ≡ []
-sole_restarted recover n (Reads k) Down h = sole_found recover n k h
-sole_restarted recover n Fails Down h = h
-sole_restarted recover n (Reads k) (Up s) h = h
-sole_restarted recover n Fails (Up s) h = h
-sole_restarted recover n (Reads k) Gone h = h
-sole_restarted recover n Fails Gone h = h
+sole_restarted : {S : Type 0} (recover : List Fact → S) (n : Node S Fact) (found : Option ℕ) (m : Mode S) → n.others ≡ [] → (restarted recover n found m).others ≡ []
+sole_restarted recover n (Some k) Down h = sole_found recover n k h
+sole_restarted recover n None Down h = h
+sole_restarted recover n (Some k) (Up s) h = h
+sole_restarted recover n None (Up s) h = h
+sole_restarted recover n (Some k) Gone h = h
+sole_restarted recover n None Gone h = h
 
 sole_restarts : {B : Type 0} (c : Config B) (w : World B) (found : Found) (t : Tier) (x : ℕ) → IsSole w → IsSole (restarts c w found t x)
-sole_restarts c w found Mid x s = sole_mid_node c w x (restarted (mids.recovered c.u c.service c.depth) (w.mids x) found (w.mids x).mode) (sole_restarted (mids.recovered c.u c.service c.depth) (w.mids x) found (w.mids x).mode (s.mids x)) s
-sole_restarts c w found Inv x s = sole_back_node c w Inv x (restarted (backs.recovered c.u c.service Inv) (w.backs Inv x) found (w.backs Inv x).mode) (sole_restarted (backs.recovered c.u c.service Inv) (w.backs Inv x) found (w.backs Inv x).mode (s.backs Inv x)) s
-sole_restarts c w found Pay x s = sole_back_node c w Pay x (restarted (backs.recovered c.u c.service Pay) (w.backs Pay x) found (w.backs Pay x).mode) (sole_restarted (backs.recovered c.u c.service Pay) (w.backs Pay x) found (w.backs Pay x).mode (s.backs Pay x)) s
+sole_restarts c w found t x s =
+    sole_placed c w t x (restarted (kind_at c t x).recovered (w.nodes t x) (list_of found) (w.nodes t x).mode)
+    (sole_restarted (kind_at c t x).recovered (w.nodes t x) (list_of found) (w.nodes t x).mode (s.sole t x)) s
 
 sole_wipes : {B : Type 0} (c : Config B) (w : World B) (t : Tier) (x : ℕ) → IsSole w → IsSole (wipes c w t x)
-sole_wipes c w Mid x s = sole_mid_node c w x (stands Gone []) refl s
-sole_wipes c w Inv x s = sole_back_node c w Inv x (stands Gone []) refl s
-sole_wipes c w Pay x s = sole_back_node c w Pay x (stands Gone []) refl s
+sole_wipes c w t x s = sole_placed c w t x (stands Gone []) refl s
 
 -- EVENTS
 
@@ -251,21 +236,14 @@ sole_happens c w (Crash n) h s = sole_crashes c w n.tier n.index s
 sole_happens c w (Restart n found) h s = sole_restarts c w found n.tier n.index s
 sole_happens c w (Wipe n) h s = sole_wipes c w n.tier n.index s
 
-sole_mid_chosen : {B : Type 0} (c : Config B) (w : World B) (o : Option AnyValue) → IsSole w → IsSole (mid_chosen c w o)
-sole_mid_chosen c w None s = s
-sole_mid_chosen c w (Some v) s = record { mids = s.mids; backs = s.backs }
+sole_grown : {B : Type 0} (c : Config B) (w : World B) (t : Tier) (o : Option AnyValue) → IsSole w → IsSole (grown c w t o)
+sole_grown c w t None s = s
+sole_grown c w t (Some v) s = record { sole = s.sole }
 
-sole_back_chosen : {B : Type 0} (w : World B) (t : Tier) (o : Option AnyValue) → IsSole w → IsSole (back_chosen w t o)
-sole_back_chosen w t None s = s
-sole_back_chosen w t (Some v) s = record { mids = s.mids; backs = s.backs }
-
-sole_mid_grows : {B : Type 0} (c : Config B) (w : World B) → IsSole w → IsSole (mid_grows c w)
-sole_mid_grows c w s = sole_mid_chosen c w (chosen_among c.u (log_soup Mid w.soup) (length w.log) (log_soup Mid w.soup)) s
-
-sole_back_grows : {B : Type 0} (c : Config B) (t : Tier) (w : World B) → IsSole w → IsSole (back_grows c t w)
-sole_back_grows c t w s = sole_back_chosen w t (chosen_among c.u (log_soup t w.soup) (length (w.logs t)) (log_soup t w.soup)) s
+sole_grows : {B : Type 0} (c : Config B) (t : Tier) (w : World B) → IsSole w → IsSole (grows_at c t w)
+sole_grows c t w s = sole_grown c w t (chosen_next c w t) s
 
 -- an event in which no disk met a fault leaves one list to each
 pub sole_after : {B : Type 0} (c : Config B) (w : World B) (e : TraceEvent) → is_sure e ≡ true → IsSole w → IsSole (after c w e)
 sole_after c w e h s =
-    sole_back_grows c Pay (back_grows c Inv (mid_grows c (happens c w e))) (sole_back_grows c Inv (mid_grows c (happens c w e)) (sole_mid_grows c (happens c w e) (sole_happens c w e h s)))
+    sole_grows c Pay (grows_at c Inv (grows_at c Mid (happens c w e))) (sole_grows c Inv (grows_at c Mid (happens c w e)) (sole_grows c Mid (happens c w e) (sole_happens c w e h s)))

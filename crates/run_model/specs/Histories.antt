@@ -11,7 +11,7 @@ use Rattle.log_values.specs.declared.mid_value.MidValue.TheVariants.{Batch, Verd
 use Rattle.log_values.specs.declared.back_value.BackValue.TheVariants.{Call, Settle}
 use Rattle.log_values.specs.declared.mid_value.Verdict.{Verdict}
 use Rattle.round_model.specs.Lists.{at, is_some, half}
-use Rattle.round_model.specs.Service.{Service, finish, is_order}
+use Rattle.round_model.specs.Service.{Programs, Backend, finish, is_order}
 use Rattle.round_model.specs.Tables.{Want, numbers, Codes}
 use Rattle.round_model.specs.After.{order_in, Round, round}
 
@@ -36,15 +36,15 @@ abbrev pub no_step : History
 no_step = (Serve Inv 0, []) ∷ []
 
 -- one step for each segment of a round, in the verdict's order, with the numbers that the tables give
-abbrev pub ordered_steps : {B : Type 0} → Service B → Round → List ℕ → History
+abbrev pub ordered_steps : Programs → Round → List ℕ → History
 ordered_steps m R order = if is_order (length R.job) order then steps_by R.wants (numbers R.tables.next (finish m R.job order R.tables.store).ends) order else no_step
 
-abbrev pub verdict_steps : {B : Type 0} → Service B → Option Round → Verdict → History
+abbrev pub verdict_steps : Programs → Option Round → Verdict → History
 verdict_steps m None v = no_step
 verdict_steps m (Some R) v = ordered_steps m R (order_in (length R.job) v)
 
 -- what a value at the end of this middle log adds to the history
-abbrev pub value_steps : {B : Type 0} → Service B → ℕ → List AnyValue → Codes → AnyValue → History
+abbrev pub value_steps : Programs → ℕ → List AnyValue → Codes → AnyValue → History
 value_steps m depth L A (Back v) = []
 value_steps m depth L A (Mid (Batch es)) = []
 value_steps m depth L A (Mid (Decided v)) = verdict_steps m (round m depth L A (half (length L))) v
@@ -72,21 +72,21 @@ pub record BackRun (B : Type 0) : Type 0 where
 abbrev pub put : {A : Type 0} → (ℕ → A) → ℕ → A → ℕ → A
 put f x a y = if y == x then a else f y
 
-abbrev pub back_serve : {B : Type 0} → Service B → Tier → BackRun B → ℕ → List ℕ → BackRun B
-back_serve m t R n text = record { state = (m.meaning.serve t R.state text).state; code = put R.code n (Some (m.meaning.serve t R.state text).code) }
+abbrev pub back_serve : {B : Type 0} → Backend B → BackRun B → ℕ → List ℕ → BackRun B
+back_serve b R n text = record { state = (b.serve R.state text).state; code = put R.code n (Some (b.serve R.state text).code) }
 
 -- the first call of each number is served
-abbrev pub back_value : {B : Type 0} → Service B → Tier → BackRun B → AnyValue → BackRun B
-back_value m t R (Back (Call n text)) = if is_some (R.code n) then R else back_serve m t R n text
-back_value m t R (Back (Settle g)) = R
-back_value m t R (Mid v) = R
+abbrev pub back_value : {B : Type 0} → Backend B → BackRun B → AnyValue → BackRun B
+back_value b R (Back (Call n text)) = if is_some (R.code n) then R else back_serve b R n text
+back_value b R (Back (Settle g)) = R
+back_value b R (Mid v) = R
 
-abbrev pub back_from : {B : Type 0} → Service B → Tier → BackRun B → List AnyValue → BackRun B
-back_from m t R [] = R
-back_from m t R (v ∷ vs) = back_from m t (back_value m t R v) vs
+abbrev pub back_from : {B : Type 0} → Backend B → BackRun B → List AnyValue → BackRun B
+back_from b R [] = R
+back_from b R (v ∷ vs) = back_from b (back_value b R v) vs
 
-abbrev pub back_run : {B : Type 0} → Service B → Tier → List AnyValue → BackRun B
-back_run m t vs = back_from m t (record { state = m.meaning.opening t; code = λ n. None }) vs
+abbrev pub back_run : {B : Type 0} → Backend B → List AnyValue → BackRun B
+back_run b vs = back_from b (record { state = b.opening; code = λ n. None }) vs
 
 abbrev pub floor_value : ℕ → AnyValue → ℕ
 floor_value f (Back (Call n text)) = f

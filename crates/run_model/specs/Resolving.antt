@@ -7,8 +7,8 @@ use Rattle.aeg_base.specs.declared.names.NodeId.{NodeId}
 use Rattle.aeg_base.specs.declared.names.End.{End}
 use Rattle.aeg_base.specs.declared.names.End.TheVariants.{Node, Client}
 use Rattle.log_model.specs.Log.{nobody}
-use Rattle.log_model.specs.World.{Mode}
-use Rattle.log_model.specs.World.Mode.{Up, Down, Gone}
+use Rattle.log_model.specs.Nodes.{Mode}
+use Rattle.log_model.specs.Nodes.Mode.{Up, Down, Gone}
 use Rattle.log_values.specs.declared.fact.Fact.{Fact}
 use Rattle.frames.specs.declared.turn.Turn.{Turn}
 use Rattle.frames.specs.declared.turn.Turn.TheVariants.{Did, Ran, Dropped, Idle as Idles}
@@ -16,7 +16,6 @@ use Rattle.round_model.specs.Lists.{each}
 use Rattle.tier_model.specs.Moves.{Packet, Move}
 use Rattle.tier_model.specs.Mid as mid
 use Rattle.tier_model.specs.MidRows as mids
-use Rattle.tier_model.specs.BackRows as backs
 use Rattle.run_model.specs.declared.line.Event.{Event}
 use Rattle.run_model.specs.declared.line.Event.TheVariants as lines
 use Rattle.run_model.specs.declared.line.CutLine.{CutLine}
@@ -27,7 +26,7 @@ use Rattle.run_model.specs.declared.trace.Found.TheVariants.{Reads, Fault as Fai
 use Rattle.run_model.specs.declared.trace.TraceEvent.{TraceEvent}
 use Rattle.run_model.specs.declared.trace.TraceEvent.TheVariants.{Submit, Deliver, Short, Lead, Offer, Work, Retry, Crash, Restart, Wipe}
 use Rattle.run_model.specs.Script.{Numbered, Script}
-use Rattle.run_model.specs.World.{Config, World, start}
+use Rattle.run_model.specs.World.{Config, World, kind_at, start}
 use Rattle.run_model.specs.Runs.{world}
 use Rattle.run_model.specs.Text.{after}
 
@@ -54,9 +53,7 @@ is_up Down = false
 is_up Gone = false
 
 abbrev pub is_node_up : {B : Type 0} → World B → Tier → ℕ → Bool
-is_node_up w Mid x = is_up (w.mids x).mode
-is_node_up w Inv x = is_up (w.backs Inv x).mode
-is_node_up w Pay x = is_up (w.backs Pay x).mode
+is_node_up w t x = is_up (w.nodes t x).mode
 
 -- a client is always there
 abbrev pub is_there : {B : Type 0} → World B → End → Bool
@@ -124,14 +121,12 @@ acts move Down = false
 acts move Gone = false
 
 abbrev pub offer_acts : {B : Type 0} → Config B → World B → Tier → ℕ → Bool
-offer_acts c w Mid x = acts (λ s. mids.offers c.u c.service x s) (w.mids x).mode
-offer_acts c w Inv x = acts (λ s. backs.offers c.u c.service Inv x s) (w.backs Inv x).mode
-offer_acts c w Pay x = acts (λ s. backs.offers c.u c.service Pay x s) (w.backs Pay x).mode
+offer_acts c w t x = acts (kind_at c t x).offers (w.nodes t x).mode
 
 -- the command is one at a node that is up, and isn't idle
 abbrev pub command_acts : {B : Type 0} → Config B → World B → TraceEvent → Bool
 command_acts c w (Offer n fared) = offer_acts c w n.tier n.index
-command_acts c w (Work n schedule) = acts (λ s. mids.work c.u c.service n.index s schedule) (w.mids n.index).mode
+command_acts c w (Work n schedule) = acts (λ s. mids.work c.u c.service.programs n.index s schedule) (w.nodes Mid n.index).mode
 command_acts c w event = false
 
 -- the steps that a work by this schedule prints, none where it runs no job
@@ -140,13 +135,13 @@ steps_of None = []
 steps_of (Some r) = r.note.steps
 
 abbrev pub steps_by : {B : Type 0} → Config B → Mode mid.Mid → ℕ → List ℕ → List ℕ
-steps_by c (Up s) x schedule = steps_of (mids.work_run c.u c.service x s schedule)
+steps_by c (Up s) x schedule = steps_of (mids.work_run c.u c.service.programs x s schedule)
 steps_by c Down x schedule = []
 steps_by c Gone x schedule = []
 
 -- a work is noted with the steps that it makes
 abbrev pub works : {B : Type 0} → Config B → World B → NodeId → List ℕ → TraceEvent
-works c w n schedule = Work n (steps_by c (w.mids n.index).mode n.index schedule)
+works c w n schedule = Work n (steps_by c (w.nodes Mid n.index).mode n.index schedule)
 
 abbrev pub as_noted : {B : Type 0} → Config B → World B → TraceEvent → TraceEvent
 as_noted c w (Work n schedule) = works c w n schedule
@@ -299,9 +294,7 @@ AllSure [] = Unit {0}
 AllSure (e ∷ es) = (is_sure e ≡ true) × AllSure es
 
 abbrev pub others_at : {B : Type 0} → World B → Tier → ℕ → List (List (List Fact))
-others_at w Mid x = (w.mids x).others
-others_at w Inv x = (w.backs Inv x).others
-others_at w Pay x = (w.backs Pay x).others
+others_at w t x = (w.nodes t x).others
 
 -- what a restart read is one of the lists that the disk stands for
 abbrev pub Finds : {B : Type 0} → World B → TraceEvent → Type 0

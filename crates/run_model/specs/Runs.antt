@@ -5,12 +5,13 @@ use Rattle.aeg_base.specs.declared.names.Tier.TheVariants.{Mid, Inv, Pay}
 use Rattle.aeg_base.specs.declared.names.End.{End}
 use Rattle.aeg_base.specs.declared.names.End.TheVariants.{Node, Client}
 use Rattle.server_model.specs.Server.{same_tier, found_in}
-use Rattle.server_model.specs.History.{served}
+use Rattle.server_model.specs.History.{History, served}
 use Rattle.log_model.specs.World.{Packet as LogPacket}
 use Rattle.log_model.specs.Chosen.{chosen_among}
 use Rattle.log_values.specs.declared.any_value.AnyValue.{AnyValue}
 use Rattle.frames.specs.declared.message.Msg.{Msg}
 use Rattle.frames.specs.declared.message.Msg.TheVariants as msgs
+use Rattle.round_model.specs.Service.{meaning}
 use Rattle.round_model.specs.Tables.{Codes}
 use Rattle.tier_model.specs.Moves.{Packet}
 use Rattle.frames.specs.Headers.{end_index}
@@ -43,25 +44,28 @@ log_soup t (k ∷ ks) = log_part t k.from k.to k.message ++ log_soup t ks
 
 -- the codes of the history's served calls
 abbrev pub served_of : {B : Type 0} → Config B → World B → Codes
-served_of c w t n = found_in (served c.service.meaning w.hist) t n
+served_of c w t n = found_in (served (meaning c.service) w.hist) t n
 
-abbrev pub mid_chosen : {B : Type 0} → Config B → World B → Option AnyValue → World B
-mid_chosen c w None = w
-mid_chosen c w (Some v) = record w { log = w.log ++ v ∷ []; hist = w.hist ++ value_steps c.service c.depth w.log (served_of c w) v }
+-- what a value at the end of the tier's log adds to the history
+abbrev pub steps_at : {B : Type 0} → Config B → World B → Tier → AnyValue → History
+steps_at c w Mid v = value_steps c.service.programs c.depth (w.logs Mid) (served_of c w) v
+steps_at c w Inv v = back_steps Inv (w.logs Inv) v
+steps_at c w Pay v = back_steps Pay (w.logs Pay) v
 
-abbrev pub back_chosen : {B : Type 0} → World B → Tier → Option AnyValue → World B
-back_chosen w t None = w
-back_chosen w t (Some v) = record w { logs = put_tier w.logs t (w.logs t ++ v ∷ []); hist = w.hist ++ back_steps t (w.logs t) v }
+abbrev pub grown : {B : Type 0} → Config B → World B → Tier → Option AnyValue → World B
+grown c w t None = w
+grown c w t (Some v) = record w { logs = put_tier w.logs t (w.logs t ++ v ∷ []); hist = w.hist ++ steps_at c w t v }
 
--- a log is lengthened by the value that is chosen at its end
-abbrev pub mid_grows : {B : Type 0} → Config B → World B → World B
-mid_grows c w = mid_chosen c w (chosen_among c.u (log_soup Mid w.soup) (length w.log) (log_soup Mid w.soup))
+-- the value that is chosen at the end of the tier's log
+abbrev pub chosen_next : {B : Type 0} → Config B → World B → Tier → Option AnyValue
+chosen_next c w t = chosen_among c.u (log_soup t w.soup) (length (w.logs t)) (log_soup t w.soup)
 
-abbrev pub back_grows : {B : Type 0} → Config B → Tier → World B → World B
-back_grows c t w = back_chosen w t (chosen_among c.u (log_soup t w.soup) (length (w.logs t)) (log_soup t w.soup))
+-- the log is lengthened by it
+abbrev pub grows_at : {B : Type 0} → Config B → Tier → World B → World B
+grows_at c t w = grown c w t (chosen_next c w t)
 
 abbrev pub grows : {B : Type 0} → Config B → World B → World B
-grows c w = back_grows c Pay (back_grows c Inv (mid_grows c w))
+grows c w = grows_at c Pay (grows_at c Inv (grows_at c Mid w))
 
 -- RUNS
 

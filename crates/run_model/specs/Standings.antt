@@ -23,5 +23,4 @@ keeps_limit c w (e ∷ es) = nat_le (length w.soup) PACKETS_BEFORE && keeps_limi
 
 -- each node's disk stands for its list of records alone
 pub record IsSole {B : Type 0} (w : World B) : Type 0 where
-  pub mids : (x : ℕ) → (w.mids x).others ≡ []
-  pub backs : (t : Tier) (x : ℕ) → (w.backs t x).others ≡ []
+  pub sole : (t : Tier) (x : ℕ) → (w.nodes t x).others ≡ []

@@ -2,7 +2,6 @@
 use Rattle.std.specs.Prelude.{ℕ, ◌+◌, ◌==◌, ◌&&◌, nat_lt, nat_le, Bool, true, false, List, [], ◌∷◌, ◌++◌, drop, length, map, codes, Option, Some, None, slice_get, if◌then◌else◌}
 use Rattle.std.specs.List.{flat_map, join_with_byte}
 use Rattle.std.specs.Fmt.{decimal}
-use Rattle.aeg_base.specs.declared.limits.TheConstants.{JOURNAL_BYTES}
 use Rattle.aeg_base.specs.declared.names.Tier.{Tier}
 use Rattle.aeg_base.specs.declared.names.Tier.TheVariants.{Mid, Inv, Pay}
 use Rattle.aeg_base.specs.declared.names.NodeId.{NodeId}
@@ -13,8 +12,8 @@ use Rattle.server_model.specs.Single.{tier_name}
 use Rattle.server_model.specs.History.{History}
 use Rattle.server_model.specs.declared.history.Hist.{Hist}
 use Rattle.server_model.specs.declared.history.Hist.TheVariants.{Start, Serve, Resume}
-use Rattle.log_model.specs.World.{Mode, Node as NodeOf}
-use Rattle.log_model.specs.World.Mode.{Up, Down, Gone}
+use Rattle.log_model.specs.Nodes.{Mode, Node as NodeOf, is_well}
+use Rattle.log_model.specs.Nodes.Mode.{Up, Down, Gone}
 use Rattle.log_values.specs.declared.any_value.AnyValue.{AnyValue}
 use Rattle.log_values.specs.declared.any_value.AnyValue.TheVariants as values
 use Rattle.log_values.specs.declared.mid_value.MidValue.TheVariants.{Batch, Verdict as Decided}
@@ -33,14 +32,13 @@ use Rattle.frames.specs.declared.turn.Turn.TheVariants.{Did, Ran, Dropped, Idle 
 use Rattle.round_model.specs.Lists.{is_some, half}
 use Rattle.tier_model.specs.Moves.{Packet, Move}
 use Rattle.tier_model.specs.MidRows as mids
-use Rattle.tier_model.specs.BackRows as backs
 use Rattle.run_model.specs.declared.trace.Fared.{Fared}
 use Rattle.run_model.specs.declared.trace.Fared.TheVariants.{Fine, Cut, Fault}
 use Rattle.run_model.specs.declared.trace.Found.{Found}
 use Rattle.run_model.specs.declared.trace.Found.TheVariants.{Reads, Fault as Fails}
 use Rattle.run_model.specs.declared.trace.TraceEvent.{TraceEvent}
 use Rattle.run_model.specs.declared.trace.TraceEvent.TheVariants.{Submit, Deliver, Short, Lead, Offer, Work, Retry, Crash, Restart, Wipe}
-use Rattle.run_model.specs.World.{Config, World, start, journal_length, fate, can_fare, is_well, happens}
+use Rattle.run_model.specs.World.{Config, World, kind_at, start, is_past, fate, can_fare, happens}
 use Rattle.run_model.specs.Runs.{grows}
 
 -- WORDS
@@ -167,9 +165,6 @@ fault_text false Fine = []
 fault_text false (Cut nth keep) = codes "cut"
 fault_text false Fault = codes "disk"
 
-abbrev pub is_past : {B : Type 0} → Config B → List (List Fact) → List Fact → Bool
-is_past c records facts = nat_lt JOURNAL_BYTES (journal_length c.record_length records + (5 + c.record_length facts))
-
 -- the node's answer, or why it goes down
 abbrev pub moves_text : {B S : Type 0} → Config B → NodeId → Fared → List (List Fact) → (List ℕ → Turn → List ℕ) → Move S → List ℕ
 moves_text c n fared records tells v =
@@ -191,9 +186,7 @@ frames_text c n k fared node move Gone = lost_line k
 -- PACKETS
 
 abbrev pub node_frame_text : {B : Type 0} → Config B → World B → ℕ → Fared → End → Msg → NodeId → Tier → List ℕ
-node_frame_text c w k fared from message n Mid = frames_text c n k fared (w.mids n.index) (λ s. mids.on_frame c.u c.service n.index s from message) (w.mids n.index).mode
-node_frame_text c w k fared from message n Inv = frames_text c n k fared (w.backs Inv n.index) (λ s. backs.on_frame c.u c.service Inv n.index s from message) (w.backs Inv n.index).mode
-node_frame_text c w k fared from message n Pay = frames_text c n k fared (w.backs Pay n.index) (λ s. backs.on_frame c.u c.service Pay n.index s from message) (w.backs Pay n.index).mode
+node_frame_text c w k fared from message n t = frames_text c n k fared (w.nodes t n.index) ((kind_at c t n.index).on_frame from message) (w.nodes t n.index).mode
 
 -- reply CLIENT.SEQ TEXT
 abbrev pub reply_line : ReqId → List ℕ → List ℕ
@@ -228,9 +221,7 @@ refuses_text k n Down = lost_line k
 refuses_text k n Gone = lost_line k
 
 abbrev pub node_refuses_text : {B : Type 0} → World B → ℕ → NodeId → Tier → List ℕ
-node_refuses_text w k n Mid = refuses_text k n (w.mids n.index).mode
-node_refuses_text w k n Inv = refuses_text k n (w.backs Inv n.index).mode
-node_refuses_text w k n Pay = refuses_text k n (w.backs Pay n.index).mode
+node_refuses_text w k n t = refuses_text k n (w.nodes t n.index).mode
 
 abbrev pub cut_short_text : {B : Type 0} → World B → ℕ → End → List ℕ
 cut_short_text w k (Node n) = node_refuses_text w k n n.tier
@@ -244,24 +235,18 @@ shorts_text c w k bytes fared (Some packet) =
 -- COMMANDS
 
 abbrev pub leads_text : {B : Type 0} → Config B → World B → Fared → NodeId → Tier → List ℕ
-leads_text c w fared n Mid = commands_text c n fared (w.mids n.index) (λ s. mids.leads c.u c.service n.index s) (w.mids n.index).mode
-leads_text c w fared n Inv = commands_text c n fared (w.backs Inv n.index) (λ s. backs.leads c.u c.service Inv n.index s) (w.backs Inv n.index).mode
-leads_text c w fared n Pay = commands_text c n fared (w.backs Pay n.index) (λ s. backs.leads c.u c.service Pay n.index s) (w.backs Pay n.index).mode
+leads_text c w fared n t = commands_text c n fared (w.nodes t n.index) (kind_at c t n.index).leads (w.nodes t n.index).mode
 
 abbrev pub offers_text : {B : Type 0} → Config B → World B → Fared → NodeId → Tier → List ℕ
-offers_text c w fared n Mid = commands_text c n fared (w.mids n.index) (λ s. mids.offers c.u c.service n.index s) (w.mids n.index).mode
-offers_text c w fared n Inv = commands_text c n fared (w.backs Inv n.index) (λ s. backs.offers c.u c.service Inv n.index s) (w.backs Inv n.index).mode
-offers_text c w fared n Pay = commands_text c n fared (w.backs Pay n.index) (λ s. backs.offers c.u c.service Pay n.index s) (w.backs Pay n.index).mode
+offers_text c w fared n t = commands_text c n fared (w.nodes t n.index) (kind_at c t n.index).offers (w.nodes t n.index).mode
 
 abbrev pub works_text : {B : Type 0} → Config B → World B → List ℕ → NodeId → Tier → List ℕ
-works_text c w schedule n Mid = commands_text c n Fine (w.mids n.index) (λ s. mids.work c.u c.service n.index s schedule) (w.mids n.index).mode
+works_text c w schedule n Mid = commands_text c n Fine (w.nodes Mid n.index) (λ s. mids.work c.u c.service.programs n.index s schedule) (w.nodes Mid n.index).mode
 works_text c w schedule n Inv = []
 works_text c w schedule n Pay = []
 
 abbrev pub node_retries_text : {B : Type 0} → Config B → World B → NodeId → Tier → List ℕ
-node_retries_text c w n Mid = commands_text c n Fine (w.mids n.index) (λ s. mids.retry c.u n.index s) (w.mids n.index).mode
-node_retries_text c w n Inv = commands_text c n Fine (w.backs Inv n.index) (λ s. backs.retry c.u Inv n.index s) (w.backs Inv n.index).mode
-node_retries_text c w n Pay = commands_text c n Fine (w.backs Pay n.index) (λ s. backs.retry c.u Pay n.index s) (w.backs Pay n.index).mode
+node_retries_text c w n t = commands_text c n Fine (w.nodes t n.index) (kind_at c t n.index).retry (w.nodes t n.index).mode
 
 abbrev pub retries_text : {B : Type 0} → Config B → World B → End → List ℕ
 retries_text c w (Node n) = node_retries_text c w n n.tier
@@ -292,12 +277,6 @@ wipe_text name (Up s) = []
 wipe_text name Down = []
 wipe_text name Gone = gone_line name
 
--- what is printed of a node's mode
-abbrev pub by_mode : {B : Type 0} → World B → ((S : Type 0) → Mode S → List ℕ) → Tier → ℕ → List ℕ
-by_mode w text Mid x = text _ (w.mids x).mode
-by_mode w text Inv x = text _ (w.backs Inv x).mode
-by_mode w text Pay x = text _ (w.backs Pay x).mode
-
 -- EVENTS
 
 abbrev pub if_can : Fared → List ℕ → List ℕ
@@ -312,9 +291,9 @@ own_text c w (Lead n fared) = if_can fared (leads_text c w fared n n.tier)
 own_text c w (Offer n fared) = if_can fared (offers_text c w fared n n.tier)
 own_text c w (Work n schedule) = works_text c w schedule n n.tier
 own_text c w (Retry end) = retries_text c w end
-own_text c w (Crash n) = by_mode w (λ S. crash_text {S = S} (node_name n)) n.tier n.index
-own_text c w (Restart n found) = by_mode w (λ S. restart_text {S = S} (node_name n) found) n.tier n.index
-own_text c w (Wipe n) = by_mode w (λ S. wipe_text {S = S} (node_name n)) n.tier n.index
+own_text c w (Crash n) = crash_text (node_name n) (w.nodes n.tier n.index).mode
+own_text c w (Restart n found) = restart_text (node_name n) found (w.nodes n.tier n.index).mode
+own_text c w (Wipe n) = wipe_text (node_name n) (w.nodes n.tier n.index).mode
 
 -- WHAT IS CHOSEN
 
@@ -344,7 +323,7 @@ history_text steps = flat_map (λ step. step_line step.0 step.1) steps
 
 -- the verdict that an event's packets choose, and the steps that the history gains
 abbrev pub growth_text : {B : Type 0} → World B → World B → List ℕ
-growth_text old new = chosen_text (length old.log) (drop (length old.log) new.log) ++ history_text (drop (length old.hist) new.hist)
+growth_text old new = chosen_text (length (old.logs Mid)) (drop (length (old.logs Mid)) (new.logs Mid)) ++ history_text (drop (length old.hist) new.hist)
 
 abbrev pub after : {B : Type 0} → Config B → World B → TraceEvent → World B
 after c w e = grows c (happens c w e)
@@ -367,4 +346,4 @@ log_line t count = then_word (codes "log") (then_word (tier_name t) (decimal cou
 
 -- how many positions of each tier are chosen, and how many packets were sent
 abbrev pub closing : {B : Type 0} → World B → List ℕ
-closing w = log_line Mid (length w.log) ++ (log_line Inv (length (w.logs Inv)) ++ (log_line Pay (length (w.logs Pay)) ++ then_word (codes "packets") (decimal (length w.soup) ++ line_end)))
+closing w = log_line Mid (length (w.logs Mid)) ++ (log_line Inv (length (w.logs Inv)) ++ (log_line Pay (length (w.logs Pay)) ++ then_word (codes "packets") (decimal (length w.soup) ++ line_end)))

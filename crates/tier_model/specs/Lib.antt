@@ -3,3 +3,4 @@ pub mod Mid
 pub mod MidRows
 pub mod Back
 pub mod BackRows
+pub mod Kinds
