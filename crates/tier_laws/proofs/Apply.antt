@@ -105,28 +105,28 @@ record IsDecided {B : Type 0} (c : Config B) (P : Past B) (σ : Mid) (R : Ready)
   finish_is : R.finish ≡ finish_in c.service decision.made decision.verdict
 
 finish_right : {B : Type 0} (c : Config B) (P : Past B) (x : ℕ) (σ : Mid) (v : Verdict) (R : Round) (o : Finish) → Known c P → MidOther c P x σ → RoundIn R → R.tables ≡ σ.tables → job_of P.server.served R.wants ≡ Some R.job → VerdictBy c P σ.applied R v
-    → finish_of c.service (code_of σ.held) R.wants σ.tables v ≡ Some o → o ≡ finish_in c.service R v
+    → finish_of c.service.programs (code_of σ.held) R.wants σ.tables v ≡ Some o → o ≡ finish_in c.service R v
 finish_right {B} c P x σ (Commit t order) R o k q inside st j by e = sym taken.1 ∙ ap (λ (z : Tables). finish_by z.store parts.0) (sym st) ∙ ap (finish_by R.tables.store) same ∙ (λ i. record { store = written-changes R.tables.store made.store i; ends = made.ends })
   where
     made : Finish
-    made = finish c.service R.job order R.tables.store
+    made = finish c.service.programs R.job order R.tables.store
 
-    parts : (w : Outcome) × (c.service.read t ≡ Some w) × (cond (fits c.service R.wants w.ends) (Some (finish_by σ.tables.store w)) None ≡ Some o)
-    parts = then_parts (c.service.read t) (λ o. cond (fits c.service R.wants o.ends) (Some (finish_by σ.tables.store o)) None) o e
+    parts : (w : Outcome) × (c.service.programs.read t ≡ Some w) × (cond (fits c.service.programs R.wants w.ends) (Some (finish_by σ.tables.store w)) None ≡ Some o)
+    parts = then_parts (c.service.programs.read t) (λ o. cond (fits c.service.programs R.wants o.ends) (Some (finish_by σ.tables.store o)) None) o e
 
-    taken : (fits c.service R.wants parts.0.ends ≡ true) × (finish_by σ.tables.store parts.0 ≡ o)
-    taken = cond_some (fits c.service R.wants parts.0.ends) (finish_by σ.tables.store parts.0) o parts.2
+    taken : (fits c.service.programs R.wants parts.0.ends ≡ true) × (finish_by σ.tables.store parts.0 ≡ o)
+    taken = cond_some (fits c.service.programs R.wants parts.0.ends) (finish_by σ.tables.store parts.0) o parts.2
 
     same : parts.0 ≡ changes.outcome R.tables.store made.store made.ends
-    same = let f : c.service.read t ≡ Some (changes.outcome R.tables.store made.store made.ends) = ap c.service.read by.1 ∙ k.laws.reads R.job order R.tables.store inside.job by.0 inside.store in let g = parts.1 in cc
+    same = let f : c.service.programs.read t ≡ Some (changes.outcome R.tables.store made.store made.ends) = ap c.service.programs.read by.1 ∙ k.laws.reads R.job order R.tables.store inside.job by.0 inside.store in let g = parts.1 in cc
 finish_right c P x σ Serial R o k q inside st j by e =
-    let p = then_parts (job_of (code_of σ.held) R.wants) (λ J. Some (finish c.service J (below (length J)) σ.tables.store)) o e in
+    let p = then_parts (job_of (code_of σ.held) R.wants) (λ J. Some (finish c.service.programs J (below (length J)) σ.tables.store)) o e in
     let f : job_of P.server.served R.wants ≡ Some p.0 = job-more (code_of σ.held) P.server.served R.wants p.0 (held_right c P x σ k q) p.1 in
     let same : p.0 ≡ R.job = cc in
-    let g : finish c.service p.0 (below (length p.0)) σ.tables.store ≡ o = let h = p.2 in cc in
-    sym g ∙ ap (λ z. finish c.service z (below (length z)) σ.tables.store) same ∙ ap (λ (z : Tables). finish c.service R.job (below (length R.job)) z.store) (sym st)
+    let g : finish c.service.programs p.0 (below (length p.0)) σ.tables.store ≡ o = let h = p.2 in cc in
+    sym g ∙ ap (λ z. finish c.service.programs z (below (length z)) σ.tables.store) same ∙ ap (λ (z : Tables). finish c.service.programs R.job (below (length R.job)) z.store) (sym st)
 
-is_decided : {B : Type 0} (c : Config B) (P : Past B) (x : ℕ) (σ : Mid) (R : Ready) → Known c P → MidOther c P x σ → MoreLog σ.log.learned P.log → ready c.service σ ≡ Some R → IsDecided c P σ R
+is_decided : {B : Type 0} (c : Config B) (P : Past B) (x : ℕ) (σ : Mid) (R : Ready) → Known c P → MidOther c P x σ → MoreLog σ.log.learned P.log → ready c.service.programs σ ≡ Some R → IsDecided c P σ R
 is_decided {B} c P x σ R k o pre e = record {
   decision = d;
   tables = tables;
@@ -137,16 +137,16 @@ is_decided {B} c P x σ R k o pre e = record {
     m : Service B
     m = c.service
 
-    p : (es : List Entry) × (batch_at σ.log.learned σ.applied ≡ Some es) × (and_then (verdict_at σ.log.learned σ.applied) (λ v. and_then (finish_of c.service (code_of σ.held) (wants c.service σ.tables es) σ.tables v) (λ o. Some (record { wants = wants c.service σ.tables es; finish = o }))) ≡ Some R)
-    p = then_parts (batch_at σ.log.learned σ.applied) (λ es. and_then (verdict_at σ.log.learned σ.applied) (λ v. and_then (finish_of c.service (code_of σ.held) (wants c.service σ.tables es) σ.tables v) (λ o. Some (record { wants = wants c.service σ.tables es; finish = o })))) R e
+    p : (es : List Entry) × (batch_at σ.log.learned σ.applied ≡ Some es) × (and_then (verdict_at σ.log.learned σ.applied) (λ v. and_then (finish_of c.service.programs (code_of σ.held) (wants c.service.programs σ.tables es) σ.tables v) (λ o. Some (record { wants = wants c.service.programs σ.tables es; finish = o }))) ≡ Some R)
+    p = then_parts (batch_at σ.log.learned σ.applied) (λ es. and_then (verdict_at σ.log.learned σ.applied) (λ v. and_then (finish_of c.service.programs (code_of σ.held) (wants c.service.programs σ.tables es) σ.tables v) (λ o. Some (record { wants = wants c.service.programs σ.tables es; finish = o })))) R e
 
-    q : (v : Verdict) × (verdict_at σ.log.learned σ.applied ≡ Some v) × (and_then (finish_of c.service (code_of σ.held) (wants c.service σ.tables p.0) σ.tables v) (λ o. Some (record { wants = wants c.service σ.tables p.0; finish = o })) ≡ Some R)
-    q = then_parts (verdict_at σ.log.learned σ.applied) (λ v. and_then (finish_of c.service (code_of σ.held) (wants c.service σ.tables p.0) σ.tables v) (λ o. Some (record { wants = wants c.service σ.tables p.0; finish = o }))) R p.2
+    q : (v : Verdict) × (verdict_at σ.log.learned σ.applied ≡ Some v) × (and_then (finish_of c.service.programs (code_of σ.held) (wants c.service.programs σ.tables p.0) σ.tables v) (λ o. Some (record { wants = wants c.service.programs σ.tables p.0; finish = o })) ≡ Some R)
+    q = then_parts (verdict_at σ.log.learned σ.applied) (λ v. and_then (finish_of c.service.programs (code_of σ.held) (wants c.service.programs σ.tables p.0) σ.tables v) (λ o. Some (record { wants = wants c.service.programs σ.tables p.0; finish = o }))) R p.2
 
-    r : (t : Finish) × (finish_of c.service (code_of σ.held) (wants c.service σ.tables p.0) σ.tables q.0 ≡ Some t) × (Some (record { wants = wants c.service σ.tables p.0; finish = t }) ≡ Some R)
-    r = then_parts (finish_of c.service (code_of σ.held) (wants c.service σ.tables p.0) σ.tables q.0) (λ o. Some (record { wants = wants c.service σ.tables p.0; finish = o })) R q.2
+    r : (t : Finish) × (finish_of c.service.programs (code_of σ.held) (wants c.service.programs σ.tables p.0) σ.tables q.0 ≡ Some t) × (Some (record { wants = wants c.service.programs σ.tables p.0; finish = t }) ≡ Some R)
+    r = then_parts (finish_of c.service.programs (code_of σ.held) (wants c.service.programs σ.tables p.0) σ.tables q.0) (λ o. Some (record { wants = wants c.service.programs σ.tables p.0; finish = o })) R q.2
 
-    made : record { wants = wants c.service σ.tables p.0; finish = r.0 } ≡ R
+    made : record { wants = wants c.service.programs σ.tables p.0; finish = r.0 } ≡ R
     made = let h = r.2 in cc
 
     verdict : verdict_at P.log σ.applied ≡ Some q.0
@@ -158,14 +158,14 @@ is_decided {B} c P x σ R k o pre e = record {
     d : Decision c.service c.depth P.log P.server σ.applied
     d = k.decided σ.applied (below_half σ.applied (length P.log) (slice_get_within P.log (2 * σ.applied + 1) value.0 value.1))
 
-    a : (T : Tables) × (after c.service c.depth P.log P.server.served σ.applied ≡ Some T) × (round_at c.service P.log P.server.served σ.applied T ≡ Some d.made)
-    a = then_parts (after c.service c.depth P.log P.server.served σ.applied) (round_at c.service P.log P.server.served σ.applied) d.made d.is_round
+    a : (T : Tables) × (after c.service.programs c.depth P.log P.server.served σ.applied ≡ Some T) × (round_at c.service.programs P.log P.server.served σ.applied T ≡ Some d.made)
+    a = then_parts (after c.service.programs c.depth P.log P.server.served σ.applied) (round_at c.service.programs P.log P.server.served σ.applied) d.made d.is_round
 
     same_tables : a.0 ≡ σ.tables
     same_tables = let f = a.1 in let g = o.is_after in cc
 
     parts : RoundParts c.service P.log P.server.served σ.applied σ.tables d.made
-    parts = round_parts c.service P.log P.server.served σ.applied σ.tables d.made (subst (λ z. round_at c.service P.log P.server.served σ.applied z ≡ Some d.made) same_tables a.2)
+    parts = round_parts c.service P.log P.server.served σ.applied σ.tables d.made (subst (λ z. round_at c.service.programs P.log P.server.served σ.applied z ≡ Some d.made) same_tables a.2)
 
     tables : d.made.tables ≡ σ.tables
     tables = parts.is_tables
@@ -173,8 +173,8 @@ is_decided {B} c P x σ R k o pre e = record {
     same_batch : parts.batch ≡ p.0
     same_batch = let f = batch-more σ.log.learned P.log σ.applied p.0 pre p.1 in let g = parts.is_batch in cc
 
-    wants_same : d.made.wants ≡ wants c.service σ.tables p.0
-    wants_same = parts.is_wants ∙ ap (wants c.service σ.tables) same_batch
+    wants_same : d.made.wants ≡ wants c.service.programs σ.tables p.0
+    wants_same = parts.is_wants ∙ ap (wants c.service.programs σ.tables) same_batch
 
     same_verdict : d.verdict ≡ q.0
     same_verdict = let f = d.is_verdict in let g = verdict in cc
@@ -192,13 +192,13 @@ is_decided {B} c P x σ R k o pre e = record {
 
     right : r.0 ≡ finish_in c.service d.made d.verdict
     right = finish_right c P x σ q.0 d.made r.0 k o (round_in c.service c.depth P.log P.server.served σ.applied d.made k.laws d.is_round) tables (subst (λ z. job_of P.server.served z ≡ Some d.made.job) (sym parts.is_wants) parts.is_job) (subst (λ z. VerdictBy c P σ.applied z q.0) same_made ok.by)
-        (subst (λ z. finish_of c.service (code_of σ.held) z σ.tables q.0 ≡ Some r.0) (sym wants_same) r.1) ∙ ap (finish_in c.service d.made) (sym same_verdict)
+        (subst (λ z. finish_of c.service.programs (code_of σ.held) z σ.tables q.0 ≡ Some r.0) (sym wants_same) r.1) ∙ ap (finish_in c.service d.made) (sym same_verdict)
 
-pub apply_ok : {B : Type 0} (c : Config B) (P : Past B) (x : ℕ) (σ : Mid) (R : Ready) → Known c P → MidOther c P x σ → MoreLog σ.log.learned P.log → ready c.service σ ≡ Some R
+pub apply_ok : {B : Type 0} (c : Config B) (P : Past B) (x : ℕ) (σ : Mid) (R : Ready) → Known c P → MidOther c P x σ → MoreLog σ.log.learned P.log → ready c.service.programs σ ≡ Some R
     → MidOther c P x (apply σ R) × Every (SentOk c P) (tells c.u x σ.tables.next R.wants R.finish.ends)
 apply_ok {B} c P x σ R k o pre e = (
   record {
-    is_after = subst (λ z. after c.service c.depth P.log P.server.served (suc σ.applied) ≡ Some z) same
+    is_after = subst (λ z. after c.service.programs c.depth P.log P.server.served (suc σ.applied) ≡ Some z) same
         (after-step c.service c.depth P.log P.server.served σ.applied d.made d.verdict (settled d.made.tables d.made.wants (finish_in c.service d.made d.verdict)) d.is_round d.is_verdict
         (cond-true (is_order (length d.made.job) (ordered d.made d.verdict)) (Some (settled d.made.tables d.made.wants (finish_in c.service d.made d.verdict))) None d.is_ordered));
     tables = subst (TablesOk P.server) same d.tables;

@@ -40,15 +40,15 @@ prefix-split (x ∷ xs) (y ∷ ys) k =
 take-prefix : {V : Type 0} (xs ys : List V) → MoreLog xs ys → take (length xs) ys ≡ xs
 take-prefix xs ys k = let r = prefix-split xs ys k in ap (take (length xs)) r.1 ∙ take-append_seam xs r.0
 
-back_from-append : {B : Type 0} (m : Service B) (t : Tier) (R : BackRun B) (xs ys : List AnyValue) → back_from m t R (xs ++ ys) ≡ back_from m t (back_from m t R xs) ys
+back_from-append : {B : Type 0} (m : Service B) (t : Tier) (R : BackRun B) (xs ys : List AnyValue) → back_from (m.backend t) R (xs ++ ys) ≡ back_from (m.backend t) (back_from (m.backend t) R xs) ys
 back_from-append m t R [] ys = refl
-back_from-append m t R (x ∷ xs) ys = back_from-append m t (back_value m t R x) xs ys
+back_from-append m t R (x ∷ xs) ys = back_from-append m t (back_value (m.backend t) R x) xs ys
 
 -- a code of a prefix is one of the log
-prefix-code : {B : Type 0} (m : Service B) (t : Tier) (xs ys : List AnyValue) (n code : ℕ) → MoreLog xs ys → (back_run m t xs).code n ≡ Some code → (back_run m t ys).code n ≡ Some code
+prefix-code : {B : Type 0} (m : Service B) (t : Tier) (xs ys : List AnyValue) (n code : ℕ) → MoreLog xs ys → (back_run (m.backend t) xs).code n ≡ Some code → (back_run (m.backend t) ys).code n ≡ Some code
 prefix-code {B} m t xs ys n code k e =
     let r = prefix-split xs ys k in
-    ap (λ z. (back_run m t z).code n) r.1 ∙ ap (λ (R : BackRun B). R.code n) (back_from-append m t _ xs r.0) ∙ run-keeps m t (back_run m t xs) r.0 n code e
+    ap (λ z. (back_run (m.backend t) z).code n) r.1 ∙ ap (λ (R : BackRun B). R.code n) (back_from-append m t _ xs r.0) ∙ run-keeps m t (back_run (m.backend t) xs) r.0 n code e
 
 floor-append : (f : ℕ) (vs : List AnyValue) (v : AnyValue) → floor_from f (vs ++ v ∷ []) ≡ floor_value (floor_from f vs) v
 floor-append f [] v = refl
@@ -99,7 +99,7 @@ pub record Learnt {B : Type 0} (c : Config B) (P : Past B) (t : Tier) (x : ℕ) 
   pub other : BackOther c P t σ
   pub sends : Every (SentOk c P) ks
 
-tied_same : {B : Type 0} (m : Service B) (t : Tier) (xs ys : List AnyValue) (σ : Back B) → back_run m t ys ≡ back_run m t xs → floor_of ys ≡ floor_of xs → Tied m t xs σ → Tied m t ys σ
+tied_same : {B : Type 0} (m : Service B) (t : Tier) (xs ys : List AnyValue) (σ : Back B) → back_run (m.backend t) ys ≡ back_run (m.backend t) xs → floor_of ys ≡ floor_of xs → Tied m t xs σ → Tied m t ys σ
 tied_same {B} m t xs ys σ e q k = record {
   greatest = k.greatest ∙ sym q;
   above = k.above;
@@ -110,32 +110,32 @@ tied_same {B} m t xs ys σ e q k = record {
 }
 
 learn_call : {B : Type 0} (c : Config B) (P : Past B) (t : Tier) (x : ℕ) (vs xs : List AnyValue) (σ : Back B) (n : ℕ) (text : List ℕ) → BackKnown c P t vs → MoreLog (xs ++ OfBack (Called n text) ∷ []) vs → Tied c.service t xs σ → BackOther c P t σ
-    → Learnt c P t x (xs ++ OfBack (Called n text) ∷ []) (after_value c.service t σ (OfBack (Called n text))) (value_sends c.u c.service t x σ (OfBack (Called n text)))
+    → Learnt c P t x (xs ++ OfBack (Called n text) ∷ []) (after_value (c.service.backend t) σ (OfBack (Called n text))) (value_sends c.u (c.service.backend t) t x σ (OfBack (Called n text)))
 learn_call {B} c P t x vs xs σ n text known pre tied other = go (passes t σ n) refl
   where
     positive : 0 < n
     positive = known.positive (length xs) n text (pre.at (length xs) (OfBack (Called n text)) (get_end xs (OfBack (Called n text))))
 
-    pushed_run : back_run c.service t (xs ++ OfBack (Called n text) ∷ []) ≡ cond (is_some ((back_run c.service t xs).code n)) (back_run c.service t xs) (back_serve c.service t (back_run c.service t xs) n text)
+    pushed_run : back_run (c.service.backend t) (xs ++ OfBack (Called n text) ∷ []) ≡ cond (is_some ((back_run (c.service.backend t) xs).code n)) (back_run (c.service.backend t) xs) (back_serve (c.service.backend t) (back_run (c.service.backend t) xs) n text)
     pushed_run = back-push c.service t xs (OfBack (Called n text))
 
-    has : passes t σ n ≡ true → (code : ℕ) × ((back_run c.service t xs).code n ≡ Some code)
+    has : passes t σ n ≡ true → (code : ℕ) × ((back_run (c.service.backend t) xs).code n ≡ Some code)
     has e = by (nat_lt n σ.floor) refl (code_of σ.kept t n) refl e
       where
-        by : (b : Bool) → nat_lt n σ.floor ≡ b → (o : Option ℕ) → code_of σ.kept t n ≡ o → (b || is_some o) ≡ true → (code : ℕ) × ((back_run c.service t xs).code n ≡ Some code)
+        by : (b : Bool) → nat_lt n σ.floor ≡ b → (o : Option ℕ) → code_of σ.kept t n ≡ o → (b || is_some o) ≡ true → (code : ℕ) × ((back_run (c.service.backend t) xs).code n ≡ Some code)
         by true f o g h = tied.floor n positive (ltb-true n σ.floor f)
         by false f (Some code) g h = (code, tied.kept n code g)
         by false f None g h = absurd (cc)
 
-    none : passes t σ n ≡ false → (code_of σ.kept t n ≡ None) × ((back_run c.service t xs).code n ≡ None) × (σ.floor ≤ n)
+    none : passes t σ n ≡ false → (code_of σ.kept t n ≡ None) × ((back_run (c.service.backend t) xs).code n ≡ None) × (σ.floor ≤ n)
     none e = by (nat_lt n σ.floor) refl (code_of σ.kept t n) refl e
       where
-        by : (b : Bool) → nat_lt n σ.floor ≡ b → (o : Option ℕ) → code_of σ.kept t n ≡ o → (b || is_some o) ≡ false → (code_of σ.kept t n ≡ None) × ((back_run c.service t xs).code n ≡ None) × (σ.floor ≤ n)
+        by : (b : Bool) → nat_lt n σ.floor ≡ b → (o : Option ℕ) → code_of σ.kept t n ≡ o → (b || is_some o) ≡ false → (code_of σ.kept t n ≡ None) × ((back_run (c.service.backend t) xs).code n ≡ None) × (σ.floor ≤ n)
         by true f o g h = absurd (cc)
         by false f (Some code) g h = absurd (cc)
-        by false f None g h = (g, empty ((back_run c.service t xs).code n) refl, ltb-false n σ.floor f)
+        by false f None g h = (g, empty ((back_run (c.service.backend t) xs).code n) refl, ltb-false n σ.floor f)
           where
-            empty : (o : Option ℕ) → (back_run c.service t xs).code n ≡ o → (back_run c.service t xs).code n ≡ None
+            empty : (o : Option ℕ) → (back_run (c.service.backend t) xs).code n ≡ o → (back_run (c.service.backend t) xs).code n ≡ None
             empty None q = q
             empty (Some code) q = absurd (no_code (tied.codes n code q))
               where
@@ -143,13 +143,13 @@ learn_call {B} c P t x vs xs σ n text known pre tied other = go (passes t σ n)
                 no_code (inl l) = omega (arith, ltb-false n σ.floor f)
                 no_code (inr l) = cc
 
-    go : (b : Bool) → passes t σ n ≡ b → Learnt c P t x (xs ++ OfBack (Called n text) ∷ []) (cond b σ (serves c.service t σ n text)) (cond b [] (each (2 * c.u + 1) nobody (answer_to t x n (c.service.meaning.serve t σ.state text).code)))
+    go : (b : Bool) → passes t σ n ≡ b → Learnt c P t x (xs ++ OfBack (Called n text) ∷ []) (cond b σ (serves (c.service.backend t) σ n text)) (cond b [] (each (2 * c.u + 1) nobody (answer_to t x n ((c.service.backend t).serve σ.state text).code)))
     go true e =
         let r = has e in
-        record { tied = tied_same c.service t xs (xs ++ OfBack (Called n text) ∷ []) σ (pushed_run ∙ ap (λ z. cond (is_some z) (back_run c.service t xs) (back_serve c.service t (back_run c.service t xs) n text)) r.1) (floor-push xs (OfBack (Called n text))) tied; other = other; sends = tt }
+        record { tied = tied_same c.service t xs (xs ++ OfBack (Called n text) ∷ []) σ (pushed_run ∙ ap (λ z. cond (is_some z) (back_run (c.service.backend t) xs) (back_serve (c.service.backend t) (back_run (c.service.backend t) xs) n text)) r.1) (floor-push xs (OfBack (Called n text))) tied; other = other; sends = tt }
     go false e = record {
       tied = record {
-        state = ap (λ b. (c.service.meaning.serve t b text).state) tied.state ∙ ap (λ (R : BackRun B). R.state) (sym served);
+        state = ap (λ b. ((c.service.backend t).serve b text).state) tied.state ∙ ap (λ (R : BackRun B). R.state) (sym served);
         codes = λ k code f. codes k code (cases_eq k n) (sym (ap (λ (R : BackRun B). R.code k) served) ∙ f);
         kept = λ k code f. ap (λ (R : BackRun B). R.code k) served ∙ kept k code (code_of-cases σ.kept _ t k code f);
         floor = λ k a b. let r = tied.floor k a b in (r.0, ap (λ (R : BackRun B). R.code k) served ∙ keeps k r.0 r.1);
@@ -157,57 +157,57 @@ learn_call {B} c P t x vs xs σ n text known pre tied other = go (passes t σ n)
         above = λ k code f. above k code (code_of-cases σ.kept _ t k code f);
       };
       other = record { copies = λ i k f. let q = copies_but_at σ.copies n i k f in other.copies q.0 k q.1; floors = other.floors; kept = pushed (λ (z : Code). P.server.served t z.num ≡ Some z.code) σ.kept _ other.kept right };
-      sends = every-each (SentOk c P) (2 * c.u + 1) nobody (answer_to t x n (c.service.meaning.serve t σ.state text).code) (λ y. right);
+      sends = every-each (SentOk c P) (2 * c.u + 1) nobody (answer_to t x n ((c.service.backend t).serve σ.state text).code) (λ y. right);
     }
       where
         code_new : ℕ
-        code_new = (c.service.meaning.serve t σ.state text).code
+        code_new = ((c.service.backend t).serve σ.state text).code
 
-        same_code : (c.service.meaning.serve t σ.state text).code ≡ (c.service.meaning.serve t (back_run c.service t xs).state text).code
-        same_code = ap (λ b. (c.service.meaning.serve t b text).code) tied.state
+        same_code : ((c.service.backend t).serve σ.state text).code ≡ ((c.service.backend t).serve (back_run (c.service.backend t) xs).state text).code
+        same_code = ap (λ b. ((c.service.backend t).serve b text).code) tied.state
 
-        served : back_run c.service t (xs ++ OfBack (Called n text) ∷ []) ≡ back_serve c.service t (back_run c.service t xs) n text
-        served = pushed_run ∙ ap (λ z. cond (is_some z) (back_run c.service t xs) (back_serve c.service t (back_run c.service t xs) n text)) (none e).1
+        served : back_run (c.service.backend t) (xs ++ OfBack (Called n text) ∷ []) ≡ back_serve (c.service.backend t) (back_run (c.service.backend t) xs) n text
+        served = pushed_run ∙ ap (λ z. cond (is_some z) (back_run (c.service.backend t) xs) (back_serve (c.service.backend t) (back_run (c.service.backend t) xs) n text)) (none e).1
 
-        here : (back_serve c.service t (back_run c.service t xs) n text).code n ≡ Some (c.service.meaning.serve t σ.state text).code
-        here = put_here (back_run c.service t xs).code n _ ∙ ap Some (sym same_code)
+        here : (back_serve (c.service.backend t) (back_run (c.service.backend t) xs) n text).code n ≡ Some ((c.service.backend t).serve σ.state text).code
+        here = put_here (back_run (c.service.backend t) xs).code n _ ∙ ap Some (sym same_code)
 
-        right : P.server.served t n ≡ Some (c.service.meaning.serve t σ.state text).code
-        right = known.served n ∙ prefix-code c.service t (xs ++ OfBack (Called n text) ∷ []) vs n (c.service.meaning.serve t σ.state text).code pre (ap (λ (R : BackRun B). R.code n) served ∙ here)
+        right : P.server.served t n ≡ Some ((c.service.backend t).serve σ.state text).code
+        right = known.served n ∙ prefix-code c.service t (xs ++ OfBack (Called n text) ∷ []) vs n ((c.service.backend t).serve σ.state text).code pre (ap (λ (R : BackRun B). R.code n) served ∙ here)
 
-        keeps : (k code : ℕ) → (back_run c.service t xs).code k ≡ Some code → (back_serve c.service t (back_run c.service t xs) n text).code k ≡ Some code
-        keeps k code f = sym (ap (λ (R : BackRun B). R.code k) served) ∙ ap (λ (R : BackRun B). R.code k) (back-push c.service t xs (OfBack (Called n text))) ∙ value-keeps c.service t (back_run c.service t xs) (OfBack (Called n text)) k code f
+        keeps : (k code : ℕ) → (back_run (c.service.backend t) xs).code k ≡ Some code → (back_serve (c.service.backend t) (back_run (c.service.backend t) xs) n text).code k ≡ Some code
+        keeps k code f = sym (ap (λ (R : BackRun B). R.code k) served) ∙ ap (λ (R : BackRun B). R.code k) (back-push c.service t xs (OfBack (Called n text))) ∙ value-keeps c.service t (back_run (c.service.backend t) xs) (OfBack (Called n text)) k code f
 
-        codes : (k code : ℕ) → (k ≡ n) ⊎ (k ≡ n → ⊥) → (back_serve c.service t (back_run c.service t xs) n text).code k ≡ Some code → (k < σ.floor) ⊎ (code_of (σ.kept ++ record { tier = t; num = n; code = (c.service.meaning.serve t σ.state text).code } ∷ []) t k ≡ Some code)
+        codes : (k code : ℕ) → (k ≡ n) ⊎ (k ≡ n → ⊥) → (back_serve (c.service.backend t) (back_run (c.service.backend t) xs) n text).code k ≡ Some code → (k < σ.floor) ⊎ (code_of (σ.kept ++ record { tier = t; num = n; code = ((c.service.backend t).serve σ.state text).code } ∷ []) t k ≡ Some code)
         codes k code (inl g) f =
-            let h : Some code ≡ Some (c.service.meaning.serve t σ.state text).code = sym f ∙ ap (back_serve c.service t (back_run c.service t xs) n text).code g ∙ here in
-            inr (ap (code_of (σ.kept ++ record { tier = t; num = n; code = (c.service.meaning.serve t σ.state text).code } ∷ []) t) g ∙ code_of-right σ.kept t n (c.service.meaning.serve t σ.state text).code (none e).0 ∙ sym h)
-        codes k code (inr g) f = old (tied.codes k code (sym (put_there (back_run c.service t xs).code n _ k g) ∙ f))
+            let h : Some code ≡ Some ((c.service.backend t).serve σ.state text).code = sym f ∙ ap (back_serve (c.service.backend t) (back_run (c.service.backend t) xs) n text).code g ∙ here in
+            inr (ap (code_of (σ.kept ++ record { tier = t; num = n; code = ((c.service.backend t).serve σ.state text).code } ∷ []) t) g ∙ code_of-right σ.kept t n ((c.service.backend t).serve σ.state text).code (none e).0 ∙ sym h)
+        codes k code (inr g) f = old (tied.codes k code (sym (put_there (back_run (c.service.backend t) xs).code n _ k g) ∙ f))
           where
-            old : (k < σ.floor) ⊎ (code_of σ.kept t k ≡ Some code) → (k < σ.floor) ⊎ (code_of (σ.kept ++ record { tier = t; num = n; code = (c.service.meaning.serve t σ.state text).code } ∷ []) t k ≡ Some code)
+            old : (k < σ.floor) ⊎ (code_of σ.kept t k ≡ Some code) → (k < σ.floor) ⊎ (code_of (σ.kept ++ record { tier = t; num = n; code = ((c.service.backend t).serve σ.state text).code } ∷ []) t k ≡ Some code)
             old (inl l) = inl l
             old (inr l) = inr (code_of-left σ.kept _ t k code l)
 
-        above : (k code : ℕ) → (code_of σ.kept t k ≡ Some code) ⊎ ((n ≡ k) × ((c.service.meaning.serve t σ.state text).code ≡ code)) → σ.floor ≤ k
+        above : (k code : ℕ) → (code_of σ.kept t k ≡ Some code) ⊎ ((n ≡ k) × (((c.service.backend t).serve σ.state text).code ≡ code)) → σ.floor ≤ k
         above k code (inl f) = tied.above k code f
         above k code (inr f) = omega (arith, f.0, (none e).2)
 
-        kept : (k code : ℕ) → (code_of σ.kept t k ≡ Some code) ⊎ ((n ≡ k) × ((c.service.meaning.serve t σ.state text).code ≡ code)) → (back_serve c.service t (back_run c.service t xs) n text).code k ≡ Some code
+        kept : (k code : ℕ) → (code_of σ.kept t k ≡ Some code) ⊎ ((n ≡ k) × (((c.service.backend t).serve σ.state text).code ≡ code)) → (back_serve (c.service.backend t) (back_run (c.service.backend t) xs) n text).code k ≡ Some code
         kept k code (inl f) = keeps k code (tied.kept k code f)
-        kept k code (inr f) = ap (back_serve c.service t (back_run c.service t xs) n text).code (sym f.0) ∙ here ∙ ap Some f.1
+        kept k code (inr f) = ap (back_serve (c.service.backend t) (back_run (c.service.backend t) xs) n text).code (sym f.0) ∙ here ∙ ap Some f.1
 
 learn_settle : {B : Type 0} (c : Config B) (P : Past B) (t : Tier) (x : ℕ) (vs xs : List AnyValue) (σ : Back B) (g : ℕ) → BackKnown c P t vs → MoreLog (xs ++ OfBack (Settled g) ∷ []) vs → Tied c.service t xs σ → BackOther c P t σ
     → Learnt c P t x (xs ++ OfBack (Settled g) ∷ []) (settles σ g) []
 learn_settle {B} c P t x vs xs σ g known pre tied other = go (nat_lt σ.floor g) refl
   where
-    same : back_run c.service t (xs ++ OfBack (Settled g) ∷ []) ≡ back_run c.service t xs
+    same : back_run (c.service.backend t) (xs ++ OfBack (Settled g) ∷ []) ≡ back_run (c.service.backend t) xs
     same = back-push c.service t xs (OfBack (Settled g))
 
     before : MoreLog xs vs
     before = record { at = λ i v e. pre.at i v (get_left xs (OfBack (Settled g) ∷ []) i v e) }
 
-    all : (n : ℕ) → 0 < n → n < g → (code : ℕ) × ((back_run c.service t xs).code n ≡ Some code)
-    all n a b = let r = known.settles (length xs) g n (pre.at (length xs) (OfBack (Settled g)) (get_end xs (OfBack (Settled g)))) a b in (r.0, subst (λ z. (back_run c.service t z).code n ≡ Some r.0) (take-prefix xs vs before) r.1)
+    all : (n : ℕ) → 0 < n → n < g → (code : ℕ) × ((back_run (c.service.backend t) xs).code n ≡ Some code)
+    all n a b = let r = known.settles (length xs) g n (pre.at (length xs) (OfBack (Settled g)) (get_end xs (OfBack (Settled g)))) a b in (r.0, subst (λ z. (back_run (c.service.backend t) z).code n ≡ Some r.0) (take-prefix xs vs before) r.1)
 
     go : (b : Bool) → nat_lt σ.floor g ≡ b → Learnt c P t x (xs ++ OfBack (Settled g) ∷ []) (cond b (record { log = σ.log; state = σ.state; kept = codes_from σ.kept g; floor = g; copies = copies_from σ.copies g; floors = σ.floors }) σ) []
     go false e = record { tied = tied_same c.service t xs (xs ++ OfBack (Settled g) ∷ []) σ same (floor-push xs (OfBack (Settled g)) ∙ cond-false (nat_lt (floor_of xs) g) g (floor_of xs) (subst (λ z. nat_lt z g ≡ false) tied.greatest e)) tied; other = other; sends = tt }
@@ -230,7 +230,7 @@ learn_settle {B} c P t x vs xs σ g known pre tied other = go (nat_lt σ.floor g
         codes n code (inr f) (inr l) = inr (from-keeps σ.kept g t n l ∙ f)
 
 pub learn_ok : {B : Type 0} (c : Config B) (P : Past B) (t : Tier) (x : ℕ) (vs xs : List AnyValue) (σ : Back B) (v : AnyValue) → BackKnown c P t vs → MoreLog (xs ++ v ∷ []) vs → Tied c.service t xs σ → BackOther c P t σ
-    → Learnt c P t x (xs ++ v ∷ []) (after_value c.service t σ v) (value_sends c.u c.service t x σ v)
+    → Learnt c P t x (xs ++ v ∷ []) (after_value (c.service.backend t) σ v) (value_sends c.u (c.service.backend t) t x σ v)
 learn_ok c P t x vs xs σ (OfBack (Called n text)) known pre tied other = learn_call c P t x vs xs σ n text known pre tied other
 learn_ok c P t x vs xs σ (OfBack (Settled g)) known pre tied other = learn_settle c P t x vs xs σ g known pre tied other
 learn_ok c P t x vs xs σ (OfMid v) known pre tied other = record { tied = tied_same c.service t xs (xs ++ OfMid v ∷ []) σ (back-push c.service t xs (OfMid v)) (floor-push xs (OfMid v)) tied; other = other; sends = tt }

@@ -86,19 +86,19 @@ tier_sym Pay MidTier e = e
 tier_sym Pay Inv e = e
 tier_sym Pay Pay e = e
 
-value_none : {B : Type 0} (u : ℕ) (m : Service B) (t : Tier) (x : ℕ) (σ : Back B) (o : Option AnyValue) → NoLog (value_tells u m t x σ o)
+value_none : {B : Type 0} (u : ℕ) (m : Service B) (t : Tier) (x : ℕ) (σ : Back B) (o : Option AnyValue) → NoLog (value_tells u (m.backend t) t x σ o)
 value_none u m t x σ None = none_nil
 value_none u m t x σ (Some (OfBack (Settled g))) = none_nil
 value_none u m t x σ (Some (OfMid v)) = none_nil
-value_none u m t x σ (Some (OfBack (Called n text))) = cond_both (passes t σ n) [] (each (2 * u + 1) nobody (answer_to t x n (m.meaning.serve t σ.state text).code)) NoLog (λ e. none_nil)
-    (λ e. none_each (2 * u + 1) nobody (answer_to t x n (m.meaning.serve t σ.state text).code) (λ y. record { all = λ v. refl }))
+value_none u m t x σ (Some (OfBack (Called n text))) = cond_both (passes t σ n) [] (each (2 * u + 1) nobody (answer_to t x n ((m.backend t).serve σ.state text).code)) NoLog (λ e. none_nil)
+    (λ e. none_each (2 * u + 1) nobody (answer_to t x n ((m.backend t).serve σ.state text).code) (λ y. record { all = λ v. refl }))
 
-value_log : {B : Type 0} (m : Service B) (t : Tier) (σ : Back B) (v : AnyValue) → (after_value m t σ v).log ≡ σ.log
+value_log : {B : Type 0} (m : Service B) (t : Tier) (σ : Back B) (v : AnyValue) → (after_value (m.backend t) σ v).log ≡ σ.log
 value_log {B} m t σ (OfBack (Called n text)) = cond_both (passes t σ n) σ _ (λ (z : Back B). z.log ≡ σ.log) (λ e. refl) (λ e. refl)
 value_log m t σ (OfMid v) = refl
 value_log {B} m t σ (OfBack (Settled g)) = cond_both (nat_lt σ.floor g) _ σ (λ (z : Back B). z.log ≡ σ.log) (λ e. refl) (λ e. refl)
 
-state_log : {B : Type 0} (m : Service B) (t : Tier) (σ : Back B) (o : Option AnyValue) → (value_state m t σ o).log ≡ σ.log
+state_log : {B : Type 0} (m : Service B) (t : Tier) (σ : Back B) (o : Option AnyValue) → (value_state (m.backend t) σ o).log ≡ σ.log
 state_log m t σ None = refl
 state_log m t σ (Some v) = value_log m t σ v
 
@@ -111,10 +111,10 @@ relog_other c P t σ s k = record { copies = k.copies; floors = k.floors; kept =
 -- A TURN OF THE LOG
 
 turn_learnt : {B : Type 0} (c : Config B) (P : Past B) (t : Tier) (x : ℕ) (vs : List AnyValue) (σ : Back B) (s : LogState AnyValue) → BackKnown c P t vs → Tied c.service t σ.log.learned σ → BackOther c P t σ → MoreLog s.learned vs
-    → (s.learned ≡ σ.log.learned) ⊎ ((v : AnyValue) × (s.learned ≡ σ.log.learned ++ v ∷ [])) → Learnt c P t x s.learned (value_state c.service t (with_log σ s) (new_value σ.log s)) (value_tells c.u c.service t x (with_log σ s) (new_value σ.log s))
+    → (s.learned ≡ σ.log.learned) ⊎ ((v : AnyValue) × (s.learned ≡ σ.log.learned ++ v ∷ [])) → Learnt c P t x s.learned (value_state (c.service.backend t) (with_log σ s) (new_value σ.log s)) (value_tells c.u (c.service.backend t) t x (with_log σ s) (new_value σ.log s))
 turn_learnt {B} c P t x vs σ s known tied other more (inl e) =
     let none : new_value σ.log s ≡ None = cond-false (nat_lt (length σ.log.learned) (length s.learned)) (slice_get s.learned (length σ.log.learned)) None (not_more (length σ.log.learned) (length s.learned) (ap length e)) in
-    subst (λ o. Learnt c P t x s.learned (value_state c.service t (with_log σ s) o) (value_tells c.u c.service t x (with_log σ s) o)) (sym none)
+    subst (λ o. Learnt c P t x s.learned (value_state (c.service.backend t) (with_log σ s) o) (value_tells c.u (c.service.backend t) t x (with_log σ s) o)) (sym none)
     (record { tied = subst (λ z. Tied c.service t z (with_log σ s)) (sym e) (relog_tied c.service t σ.log.learned σ s tied); other = relog_other c P t σ s other; sends = tt })
   where
     not_more : (a b : ℕ) → b ≡ a → nat_lt a b ≡ false
@@ -122,13 +122,13 @@ turn_learnt {B} c P t x vs σ s known tied other more (inl e) =
 turn_learnt {B} c P t x vs σ s known tied other more (inr r) =
     let some : new_value σ.log s ≡ Some r.0 = cond-true (nat_lt (length σ.log.learned) (length s.learned)) (slice_get s.learned (length σ.log.learned)) None (lt-ltb _ _ (omega (arith, ap length r.1, length_push σ.log.learned r.0)))
     ∙ ap (λ z. slice_get z (length σ.log.learned)) r.1 ∙ get_end σ.log.learned r.0 in
-    let l : Learnt c P t x (σ.log.learned ++ r.0 ∷ []) (after_value c.service t (with_log σ s) r.0) (value_sends c.u c.service t x (with_log σ s) r.0) =
+    let l : Learnt c P t x (σ.log.learned ++ r.0 ∷ []) (after_value (c.service.backend t) (with_log σ s) r.0) (value_sends c.u (c.service.backend t) t x (with_log σ s) r.0) =
     learn_ok c P t x vs σ.log.learned (with_log σ s) r.0 known (subst (λ z. MoreLog z vs) r.1 more) (relog_tied c.service t σ.log.learned σ s tied) (relog_other c P t σ s other) in
-    subst (λ o. Learnt c P t x s.learned (value_state c.service t (with_log σ s) o) (value_tells c.u c.service t x (with_log σ s) o)) (sym some)
-    (subst (λ z. Learnt c P t x z (after_value c.service t (with_log σ s) r.0) (value_sends c.u c.service t x (with_log σ s) r.0)) (sym r.1) l)
+    subst (λ o. Learnt c P t x s.learned (value_state (c.service.backend t) (with_log σ s) o) (value_tells c.u (c.service.backend t) t x (with_log σ s) o)) (sym some)
+    (subst (λ z. Learnt c P t x z (after_value (c.service.backend t) (with_log σ s) r.0) (value_sends c.u (c.service.backend t) t x (with_log σ s) r.0)) (sym r.1) l)
 
 pub back_move : {B : Type 0} (c : Config B) (P : Past B) (t : Tier) (vs : List AnyValue) (h : ℕ → List (LogFact AnyValue)) (soup : List Packet) (x : ℕ) (σ : Back B) (a : Turn AnyValue) (own : Option AnyValue) → BackHere c P t vs h soup x σ → TurnOk c.u h (back_soup t soup) x a → Origins c.u h x own a
-    → length a.facts ≤ 1 → ((p : ℕ) (v : AnyValue) → own ≡ Some v → BackOk c P t p v) → BackMoveOk c P t h soup x (in_log c.u c.service t x σ a)
+    → length a.facts ≤ 1 → ((p : ℕ) (v : AnyValue) → own ≡ Some v → BackOk c P t p v) → BackMoveOk c P t h soup x (in_log c.u (c.service.backend t) t x σ a)
 back_move {B} c P t vs h soup x σ a own k ok from one fine = record {
   turn = a;
   turn_ok = ok;
@@ -139,14 +139,14 @@ back_move {B} c P t vs h soup x σ a own k ok from one fine = record {
   no_mid = mid_soup-append (log_packets t x a.sends) told ∙ ap (λ z. z ++ mid_soup told) (mid_soup-back t x a.sends k.backend) ∙ no_mid told none;
   no_back = λ w e. back_soup-append w (log_packets t x a.sends) told ∙ ap (λ z. z ++ back_soup w told) (back_soup-other w t x a.sends (tier_sym w t e)) ∙ no_back told none w;
   other = l.other;
-  tied = subst (λ (z : LogState AnyValue). Tied c.service t z.learned (value_state c.service t (with_log σ a.state) (new_value σ.log a.state))) (sym (state_log c.service t (with_log σ a.state) (new_value σ.log a.state))) l.tied;
+  tied = subst (λ (z : LogState AnyValue). Tied c.service t z.learned (value_state (c.service.backend t) (with_log σ a.state) (new_value σ.log a.state))) (sym (state_log c.service t (with_log σ a.state) (new_value σ.log a.state))) l.tied;
   sends = every-append (SentOk c P) (log_packets t x a.sends) told (every-log c P t x a.sends) l.sends;
 }
   where
     told : List Packet
-    told = value_tells c.u c.service t x (with_log σ a.state) (new_value σ.log a.state)
+    told = value_tells c.u (c.service.backend t) t x (with_log σ a.state) (new_value σ.log a.state)
 
-    none : NoLog (value_tells c.u c.service t x (with_log σ a.state) (new_value σ.log a.state))
+    none : NoLog (value_tells c.u (c.service.backend t) t x (with_log σ a.state) (new_value σ.log a.state))
     none = value_none c.u c.service t x (with_log σ a.state) (new_value σ.log a.state)
 
     good : (p : ℕ) (w : AnyValue) → Stood c.u h p w ⊎ ((own ≡ Some w) × (p ≡ length a.state.learned)) → BackOk c P t p w
@@ -163,7 +163,7 @@ back_move {B} c P t vs h soup x σ a own k ok from one fine = record {
     steps (inl e) = inl (r.state.learned ∙ e ∙ sym k.log.learned)
     steps (inr e) = inr (e.0, r.state.learned ∙ e.1 ∙ ap (λ z. z ++ e.0 ∷ []) (sym k.log.learned))
 
-    l : Learnt c P t x a.state.learned (value_state c.service t (with_log σ a.state) (new_value σ.log a.state)) (value_tells c.u c.service t x (with_log σ a.state) (new_value σ.log a.state))
+    l : Learnt c P t x a.state.learned (value_state (c.service.backend t) (with_log σ a.state) (new_value σ.log a.state)) (value_tells c.u (c.service.backend t) t x (with_log σ a.state) (new_value σ.log a.state))
     l = turn_learnt c P t x vs σ a.state k.known k.tied k.other more (steps (learned_step a.facts (h x) one))
 
 -- OFFERS
@@ -249,35 +249,35 @@ back_retry_ok {B} c P t vs h soup x σ k = record {
 
 -- LEADING AND OFFERING
 
-pub back_leads_ok : {B : Type 0} (c : Config B) (P : Past B) (t : Tier) (vs : List AnyValue) (h : ℕ → List (LogFact AnyValue)) (soup : List Packet) (x : ℕ) (σ : Back B) → BackHere c P t vs h soup x σ → BackMoveOk c P t h soup x (leads c.u c.service t x σ)
+pub back_leads_ok : {B : Type 0} (c : Config B) (P : Past B) (t : Tier) (vs : List AnyValue) (h : ℕ → List (LogFact AnyValue)) (soup : List Packet) (x : ℕ) (σ : Back B) → BackHere c P t vs h soup x σ → BackMoveOk c P t h soup x (leads c.u (c.service.backend t) t x σ)
 back_leads_ok c P t vs h soup x σ k = back_move c P t vs h soup x σ (lead c.u x σ.log) None k (lead_ok c.u h (back_soup t soup) x σ.log (back_knows c P t vs h soup x σ k)) (lead_from c.u h x σ.log k.inside) (one_lead c.u x σ.log) (λ p v e. absurd (cc))
 
-pub back_offers_ok : {B : Type 0} (c : Config B) (P : Past B) (t : Tier) (vs : List AnyValue) (h : ℕ → List (LogFact AnyValue)) (soup : List Packet) (x : ℕ) (σ : Back B) → BackHere c P t vs h soup x σ → BackMoveOk c P t h soup x (offers c.u c.service t x σ)
+pub back_offers_ok : {B : Type 0} (c : Config B) (P : Past B) (t : Tier) (vs : List AnyValue) (h : ℕ → List (LogFact AnyValue)) (soup : List Packet) (x : ℕ) (σ : Back B) → BackHere c P t vs h soup x σ → BackMoveOk c P t h soup x (offers c.u (c.service.backend t) t x σ)
 back_offers_ok {B} c P t vs h soup x σ k = go (log_wants c.u σ.log)
   where
-    offered : BackMoveOk c P t h soup x (in_log c.u c.service t x σ (offer c.u x σ.log (own_value c.u σ)))
+    offered : BackMoveOk c P t h soup x (in_log c.u (c.service.backend t) t x σ (offer c.u x σ.log (own_value c.u σ)))
     offered = back_move c P t vs h soup x σ (offer c.u x σ.log (own_value c.u σ)) (own_value c.u σ) k (offer_ok c.u h (back_soup t soup) x σ.log σ.log.leader (own_value c.u σ) (back_knows c P t vs h soup x σ k) k.log.leader)
         (offer_from c.u h x σ.log σ.log.leader (own_value c.u σ) k.inside k.log.leader) (one_offer c.u x σ.log σ.log.leader (own_value c.u σ))
         (λ p v e. back_own_ok c P t σ p v k.other e)
 
-    go : (o : Offering) → BackMoveOk c P t h soup x (offers_as c.u c.service t x σ o)
+    go : (o : Offering) → BackMoveOk c P t h soup x (offers_as c.u (c.service.backend t) t x σ o)
     go NotLeader = back_stays c P t vs h soup x σ k
     go (NoPromises have) = back_stays c P t vs h soup x σ k
     go (InFlight p) = back_stays c P t vs h soup x σ k
     go LogFull = back_stays c P t vs h soup x σ k
     go Taken = offered
-    go (Free p) = cond_both (is_some (own_value c.u σ)) (in_log c.u c.service t x σ (offer c.u x σ.log (own_value c.u σ))) (idles σ why.Nothing) (BackMoveOk c P t h soup x) (λ e. offered) (λ e. back_stays c P t vs h soup x σ k)
+    go (Free p) = cond_both (is_some (own_value c.u σ)) (in_log c.u (c.service.backend t) t x σ (offer c.u x σ.log (own_value c.u σ))) (idles σ why.Nothing) (BackMoveOk c P t h soup x) (λ e. offered) (λ e. back_stays c P t vs h soup x σ k)
 
 -- RESTART
 
-values_ok : {B : Type 0} (c : Config B) (P : Past B) (t : Tier) (K xs vs : List AnyValue) (σ : Back B) → BackKnown c P t K → MoreLog (xs ++ vs) K → Tied c.service t xs σ → BackOther c P t σ → Tied c.service t (xs ++ vs) (after_values c.service t σ vs) × BackOther c P t (after_values c.service t σ vs) × ((after_values c.service t σ vs).log ≡ σ.log)
+values_ok : {B : Type 0} (c : Config B) (P : Past B) (t : Tier) (K xs vs : List AnyValue) (σ : Back B) → BackKnown c P t K → MoreLog (xs ++ vs) K → Tied c.service t xs σ → BackOther c P t σ → Tied c.service t (xs ++ vs) (after_values (c.service.backend t) σ vs) × BackOther c P t (after_values (c.service.backend t) σ vs) × ((after_values (c.service.backend t) σ vs).log ≡ σ.log)
 values_ok c P t K xs [] σ known pre tied other = (subst (λ z. Tied c.service t z σ) (sym (append-nil xs)) tied, other, refl)
 values_ok c P t K xs (v ∷ vs) σ known pre tied other =
     let p : MoreLog ((xs ++ v ∷ []) ++ vs) K = subst (λ z. MoreLog z K) (sym (append_assoc xs (v ∷ []) vs)) pre in
     let one : MoreLog (xs ++ v ∷ []) K = record { at = λ i w e. p.at i w (get_left (xs ++ v ∷ []) vs i w e) } in
-    let l : Learnt c P t 0 (xs ++ v ∷ []) (after_value c.service t σ v) (value_sends c.u c.service t 0 σ v) = learn_ok c P t 0 K xs σ v known one tied other in
-    let r = values_ok c P t K (xs ++ v ∷ []) vs (after_value c.service t σ v) known p l.tied l.other in
-    (subst (λ z. Tied c.service t z (after_values c.service t (after_value c.service t σ v) vs)) (append_assoc xs (v ∷ []) vs) r.0, r.1, r.2 ∙ value_log c.service t σ v)
+    let l : Learnt c P t 0 (xs ++ v ∷ []) (after_value (c.service.backend t) σ v) (value_sends c.u (c.service.backend t) t 0 σ v) = learn_ok c P t 0 K xs σ v known one tied other in
+    let r = values_ok c P t K (xs ++ v ∷ []) vs (after_value (c.service.backend t) σ v) known p l.tied l.other in
+    (subst (λ z. Tied c.service t z (after_values (c.service.backend t) (after_value (c.service.backend t) σ v) vs)) (append_assoc xs (v ∷ []) vs) r.0, r.1, r.2 ∙ value_log c.service t σ v)
 
 floors_one : (n y : ℕ) → floor_at (replicate n 1) y ≡ 1
 floors_one n y = at-replicate 1 n y

@@ -47,8 +47,8 @@ back_other-more c P Q t σ g k = record {
 
 -- what is known of the tier's chosen log
 pub record BackKnown {B : Type 0} (c : Config B) (P : Past B) (t : Tier) (vs : List AnyValue) : Type 0 where
-  pub served : (n : ℕ) → P.server.served t n ≡ (back_run c.service t vs).code n
-  pub settles : (i g n : ℕ) → slice_get vs i ≡ Some (OfBack (Settled g)) → 0 < n → n < g → (code : ℕ) × ((back_run c.service t (take i vs)).code n ≡ Some code)
+  pub served : (n : ℕ) → P.server.served t n ≡ (back_run (c.service.backend t) vs).code n
+  pub settles : (i g n : ℕ) → slice_get vs i ≡ Some (OfBack (Settled g)) → 0 < n → n < g → (code : ℕ) × ((back_run (c.service.backend t) (take i vs)).code n ≡ Some code)
   pub positive : (i n : ℕ) (text : List ℕ) → slice_get vs i ≡ Some (OfBack (Called n text)) → 0 < n
 
 pub record BackMoveOk {B : Type 0} (c : Config B) (P : Past B) (t : Tier) (h : ℕ → List (LogFact AnyValue)) (soup : List Packet) (x : ℕ) (v : Move (Back B)) : Type 0 where

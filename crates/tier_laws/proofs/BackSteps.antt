@@ -9,7 +9,7 @@ use Rattle.log_model.proofs.Step.{put_each, put_same, restored, wrote}
 use Rattle.log_model.specs.Log.{LogState}
 use Rattle.log_model.specs.Recover.{learned_in, newest, onto, recover}
 use Rattle.log_model.specs.World.{Device, Mode, Node, Packet as LogPacket, put, recorded, stands}
-use Rattle.log_model.specs.World.Mode.{Down, Gone, Up}
+use Rattle.log_model.specs.Nodes.Mode.{Down, Gone, Up}
 use Rattle.log_model.specs.declared.fact.Fact.{Fact as LogFact}
 use Rattle.log_values.specs.declared.any_value.AnyValue.{AnyValue}
 use Rattle.log_values.specs.declared.any_value.AnyValue.TheVariants.{Back as OfBack}

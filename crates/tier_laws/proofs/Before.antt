@@ -52,7 +52,7 @@ verdict_before {B} c es e r v few i l f =
     (subst (λ z. length z ≤ 2 * r + 1) (sym (happens_keeps c w e).log) l) (ap (λ (z : World B). slice_get z.log (2 * r + 1)) (sym (run-append c es (e ∷ []) start)) ∙ f))
 
 pub used_before : {B : Type 0} (c : Config B) (es : List TraceEvent) (e : TraceEvent) (r : ℕ) (v : Verdict) → c.u < 128 → Laws c.service → length (world c es).log ≤ 2 * r + 1 → slice_get (world c (es ++ e ∷ [])).log (2 * r + 1) ≡ Some (OfMid (Decided v)) → FewGone c (world c es) → UsedBefore c (world c es) r
-used_before {B} c es e r v few laws l f gone = record { made = k.made; is_round = subst (λ A. round c.service c.depth w.log A r ≡ Some k.made) (sym (served_same c w i.codes i.h i.k i.core)) k.is_round; held = λ j q n g h. durable c w n.tier n.num i (k.held.at j q n g h) gone }
+used_before {B} c es e r v few laws l f gone = record { made = k.made; is_round = subst (λ A. round c.service.programs c.depth w.log A r ≡ Some k.made) (sym (served_same c w i.codes i.h i.k i.core)) k.is_round; held = λ j q n g h. durable c w n.tier n.num i (k.held.at j q n g h) gone }
   where
     w : World B
     w = world c es

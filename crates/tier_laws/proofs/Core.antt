@@ -10,7 +10,7 @@ use Rattle.log_model.proofs.History.{DidVote}
 use Rattle.log_model.proofs.Invariant.{AllGrew, SoupGrew, soup-append, state-grew, turn-grew}
 use Rattle.log_model.specs.Recover.{onto}
 use Rattle.log_model.specs.World.{Mode, Node, Packet as LogPacket}
-use Rattle.log_model.specs.World.Mode.{Down, Gone, Up}
+use Rattle.log_model.specs.Nodes.Mode.{Down, Gone, Up}
 use Rattle.log_model.specs.declared.fact.Fact.{Fact as LogFact}
 use Rattle.log_values.specs.declared.fact.Fact.{Fact}
 use Rattle.log_values.specs.declared.any_value.AnyValue.{AnyValue}

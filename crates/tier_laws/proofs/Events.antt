@@ -133,7 +133,7 @@ opens_ok {B} c w y text i = client_changed c w cl (requests c.u y (suc (w.client
         subst (λ (q : ClientEnd). Submitted Q (record { client = z; seq = q.last; body = t })) (sym there) (r.0, more.at r.0 _ r.1)
 
 submits_ok : {B : Type 0} (c : Config B) (w : World B) (y : ℕ) (text : List ℕ) → (i : WorldOk c w) → Mid_event c (past c w i.codes) (submits c w y text)
-submits_ok c w y text i = cond_both (is_client_number y && (is_request c.service (record { client = y; seq = suc (w.clients y).last }) text && (not (is_some (w.clients y).opened) && nat_lt (w.clients y).last 65536))) (opens c.u w y text) w (Mid_event c (past c w i.codes)) (λ e. opens_ok c w y text i) (λ e. unchanged c w i)
+submits_ok c w y text i = cond_both (is_client_number y && (is_request c.service.programs (record { client = y; seq = suc (w.clients y).last }) text && (not (is_some (w.clients y).opened) && nat_lt (w.clients y).last 65536))) (opens c.u w y text) w (Mid_event c (past c w i.codes)) (λ e. opens_ok c w y text i) (λ e. unchanged c w i)
 
 reopens_ok : {B : Type 0} (c : Config B) (w : World B) (y : ℕ) (o : Option (List ℕ)) → (w.clients y).opened ≡ o → (i : WorldOk c w) → Mid_event c (past c w i.codes) (reopens c w y o)
 reopens_ok c w y None e i = unchanged c w i
@@ -203,10 +203,10 @@ node_in u t (Node n) e = (and_parts (same_tier n.tier t) (nat_lt n.index (2 * u 
 node_in u t (Client y) e = absurd (cc)
 
 mid_frame_ok : {B : Type 0} (c : Config B) (w : World B) (place : ℕ) (from to : End) (message : Msg) (x : ℕ) (σ : Mid) → (i : WorldOk c w) → slice_get w.soup place ≡ Some (record { from = from; to = to; message = message }) → SentBy c (past c w i.codes) from to message → Here c (past c w i.codes) i.h w.soup x σ
-    → MoveOk c (past c w i.codes) i.h w.soup x [] (on_frame c.u c.service x σ from message)
-mid_frame_ok {B} c w place from to (msgs.Log p) x σ i e sent k = cond_both (is_node_of c.u MidTier from) (in_log c.u c.service x σ (on_msg c.u σ.log (end_index from) p)) (drops σ 7) (MoveOk c (past c w i.codes) i.h w.soup x []) taken (λ f. stays_ok c (past c w i.codes) i.h w.soup x σ k)
+    → MoveOk c (past c w i.codes) i.h w.soup x [] (on_frame c.u c.service.programs x σ from message)
+mid_frame_ok {B} c w place from to (msgs.Log p) x σ i e sent k = cond_both (is_node_of c.u MidTier from) (in_log c.u c.service.programs x σ (on_msg c.u σ.log (end_index from) p)) (drops σ 7) (MoveOk c (past c w i.codes) i.h w.soup x []) taken (λ f. stays_ok c (past c w i.codes) i.h w.soup x σ k)
   where
-    taken : is_node_of c.u MidTier from ≡ true → MoveOk c (past c w i.codes) i.h w.soup x [] (in_log c.u c.service x σ (on_msg c.u σ.log (end_index from) p))
+    taken : is_node_of c.u MidTier from ≡ true → MoveOk c (past c w i.codes) i.h w.soup x [] (in_log c.u c.service.programs x σ (on_msg c.u σ.log (end_index from) p))
     taken f =
         let q = log_place MidTier w.soup place from to p (node_in c.u MidTier from f) e in
         let j : LogPacket AnyValue = record { from = end_index from; to = end_index to; msg = p } in
@@ -215,7 +215,7 @@ mid_frame_ok {B} c w place from to (msgs.Log p) x σ i e sent k = cond_both (is_
         (on_msg_ok c.u i.h (mid_soup w.soup) x σ.log q.0 j p (knows c (past c w i.codes) i.h w.soup x σ k) q.1 refl right)
         (msg_from c.u i.h (mid_soup w.soup) x σ.log (end_index from) p k.inside right) (λ v f. absurd (cc))
 mid_frame_ok c w place from to (msgs.Request seq text) x σ i e sent k = cond_both (not (is_client from)) (drops σ 7) _ (MoveOk c (past c w i.codes) i.h w.soup x []) (λ f. stays_ok c (past c w i.codes) i.h w.soup x σ k)
-    (λ f. cond_both (not (is_request c.service (record { client = end_index from; seq = seq }) text)) (drops σ 8) (on_request x σ (end_index from) seq text) (MoveOk c (past c w i.codes) i.h w.soup x []) (λ g. stays_ok c (past c w i.codes) i.h w.soup x σ k)
+    (λ f. cond_both (not (is_request c.service.programs (record { client = end_index from; seq = seq }) text)) (drops σ 8) (on_request x σ (end_index from) seq text) (MoveOk c (past c w i.codes) i.h w.soup x []) (λ g. stays_ok c (past c w i.codes) i.h w.soup x σ k)
     (λ g. request_ok c (past c w i.codes) i.h w.soup x σ (end_index from) seq text k sent))
 mid_frame_ok c w place from to (msgs.Token r token order) x σ i e sent k = cond_both (is_node_of c.u MidTier from) (on_token σ (record { round = r; from = end_index from; token = token; order = order })) (drops σ 7) (MoveOk c (past c w i.codes) i.h w.soup x [])
     (λ f. token_ok c (past c w i.codes) i.h w.soup x σ (record { round = r; from = end_index from; token = token; order = order }) k sent) (λ f. stays_ok c (past c w i.codes) i.h w.soup x σ k)
@@ -228,10 +228,10 @@ mid_frame_ok c w place from to (msgs.Call n text) x σ i e sent k = stays_ok c (
 mid_frame_ok c w place from to (msgs.Settle g) x σ i e sent k = stays_ok c (past c w i.codes) i.h w.soup x σ k
 
 back_frame_ok : {B : Type 0} (c : Config B) (w : World B) (place : ℕ) (from : End) (message : Msg) (t : Tier) (x : ℕ) (σ : Back B) → (i : WorldOk c w) → slice_get w.soup place ≡ Some (record { from = from; to = node t x; message = message }) → SentBy c (past c w i.codes) from (node t x) message
-    → BackHere c (past c w i.codes) t (w.logs t) (i.k t) w.soup x σ → BackMoveOk c (past c w i.codes) t (i.k t) w.soup x (backs.on_frame c.u c.service t x σ from message)
-back_frame_ok {B} c w place from (msgs.Log p) t x σ i e sent k = cond_both (is_node_of c.u t from) (back.in_log c.u c.service t x σ (on_msg c.u σ.log (end_index from) p)) (drops σ 7) (BackMoveOk c (past c w i.codes) t (i.k t) w.soup x) taken (λ f. back_stays c (past c w i.codes) t (w.logs t) (i.k t) w.soup x σ k)
+    → BackHere c (past c w i.codes) t (w.logs t) (i.k t) w.soup x σ → BackMoveOk c (past c w i.codes) t (i.k t) w.soup x (backs.on_frame c.u (c.service.backend t) t x σ from message)
+back_frame_ok {B} c w place from (msgs.Log p) t x σ i e sent k = cond_both (is_node_of c.u t from) (back.in_log c.u (c.service.backend t) t x σ (on_msg c.u σ.log (end_index from) p)) (drops σ 7) (BackMoveOk c (past c w i.codes) t (i.k t) w.soup x) taken (λ f. back_stays c (past c w i.codes) t (w.logs t) (i.k t) w.soup x σ k)
   where
-    taken : is_node_of c.u t from ≡ true → BackMoveOk c (past c w i.codes) t (i.k t) w.soup x (back.in_log c.u c.service t x σ (on_msg c.u σ.log (end_index from) p))
+    taken : is_node_of c.u t from ≡ true → BackMoveOk c (past c w i.codes) t (i.k t) w.soup x (back.in_log c.u (c.service.backend t) t x σ (on_msg c.u σ.log (end_index from) p))
     taken f =
         let q = back_place t w.soup place from (node t x) p k.backend (node_in c.u t from f) e in
         let j : LogPacket AnyValue = record { from = end_index from; to = x; msg = p } in
@@ -264,9 +264,9 @@ client_ok c w from (msgs.Settle g) y i sent = unchanged c w i
 
 node_gets_ok : {B : Type 0} (c : Config B) (w : World B) (fared : Fared) (place : ℕ) (from : End) (message : Msg) (t : Tier) (x : ℕ) → c.u < 128 → (i : WorldOk c w) → slice_get w.soup place ≡ Some (record { from = from; to = node t x; message = message }) → SentBy c (past c w i.codes) from (node t x) message
     → Mid_event c (past c w i.codes) (node_gets c w fared from message t x)
-node_gets_ok c w fared place from message MidTier x few i e sent = at_mid_ok c w x (fate c fared) (λ σ. on_frame c.u c.service x σ from message) no_run few i.core.laws i (λ σ k. mid_frame_ok c w place from (node MidTier x) message x σ i e sent k)
-node_gets_ok c w fared place from message Inv x few i e sent = at_back_ok c w Inv x (fate c fared) (λ σ. backs.on_frame c.u c.service Inv x σ from message) few refl i (λ σ k. back_frame_ok c w place from message Inv x σ i e sent k)
-node_gets_ok c w fared place from message Pay x few i e sent = at_back_ok c w Pay x (fate c fared) (λ σ. backs.on_frame c.u c.service Pay x σ from message) few refl i (λ σ k. back_frame_ok c w place from message Pay x σ i e sent k)
+node_gets_ok c w fared place from message MidTier x few i e sent = at_mid_ok c w x (fate c fared) (λ σ. on_frame c.u c.service.programs x σ from message) no_run few i.core.laws i (λ σ k. mid_frame_ok c w place from (node MidTier x) message x σ i e sent k)
+node_gets_ok c w fared place from message Inv x few i e sent = at_back_ok c w Inv x (fate c fared) (λ σ. backs.on_frame c.u (c.service.backend Inv) Inv x σ from message) few refl i (λ σ k. back_frame_ok c w place from message Inv x σ i e sent k)
+node_gets_ok c w fared place from message Pay x few i e sent = at_back_ok c w Pay x (fate c fared) (λ σ. backs.on_frame c.u (c.service.backend Pay) Pay x σ from message) few refl i (λ σ k. back_frame_ok c w place from message Pay x σ i e sent k)
 
 arrives_ok : {B : Type 0} (c : Config B) (w : World B) (fared : Fared) (place : ℕ) (from : End) (message : Msg) (to : End) → c.u < 128 → (i : WorldOk c w) → slice_get w.soup place ≡ Some (record { from = from; to = to; message = message }) → Mid_event c (past c w i.codes) (arrives c w fared from message to)
 arrives_ok c w fared place from message (Node n) few i e = node_gets_ok c w fared place from message n.tier n.index few i e (every-get (SentOk c (past c w i.codes)) w.soup place (record { from = from; to = Node n; message = message }) i.core.packets e)
@@ -283,17 +283,17 @@ shortened_ok c w fared bytes place (Some k) few i e = cond_both (nat_le (c.frame
 -- COMMANDS
 
 lead_event : {B : Type 0} (c : Config B) (w : World B) (fared : Fared) (t : Tier) (x : ℕ) → c.u < 128 → (i : WorldOk c w) → Mid_event c (past c w i.codes) (leads c w fared t x)
-lead_event c w fared MidTier x few i = at_mid_ok c w x (fate c fared) (λ σ. mids.leads c.u c.service x σ) no_run few i.core.laws i (λ σ k. leads_ok c (past c w i.codes) i.h w.soup x σ k)
-lead_event c w fared Inv x few i = at_back_ok c w Inv x (fate c fared) (λ σ. backs.leads c.u c.service Inv x σ) few refl i (λ σ k. back_leads_ok c (past c w i.codes) Inv (w.logs Inv) (i.k Inv) w.soup x σ k)
-lead_event c w fared Pay x few i = at_back_ok c w Pay x (fate c fared) (λ σ. backs.leads c.u c.service Pay x σ) few refl i (λ σ k. back_leads_ok c (past c w i.codes) Pay (w.logs Pay) (i.k Pay) w.soup x σ k)
+lead_event c w fared MidTier x few i = at_mid_ok c w x (fate c fared) (λ σ. mids.leads c.u c.service.programs x σ) no_run few i.core.laws i (λ σ k. leads_ok c (past c w i.codes) i.h w.soup x σ k)
+lead_event c w fared Inv x few i = at_back_ok c w Inv x (fate c fared) (λ σ. backs.leads c.u (c.service.backend Inv) Inv x σ) few refl i (λ σ k. back_leads_ok c (past c w i.codes) Inv (w.logs Inv) (i.k Inv) w.soup x σ k)
+lead_event c w fared Pay x few i = at_back_ok c w Pay x (fate c fared) (λ σ. backs.leads c.u (c.service.backend Pay) Pay x σ) few refl i (λ σ k. back_leads_ok c (past c w i.codes) Pay (w.logs Pay) (i.k Pay) w.soup x σ k)
 
 offer_event : {B : Type 0} (c : Config B) (w : World B) (fared : Fared) (t : Tier) (x : ℕ) → c.u < 128 → (i : WorldOk c w) → Mid_event c (past c w i.codes) (offers c w fared t x)
-offer_event c w fared MidTier x few i = at_mid_ok c w x (fate c fared) (λ σ. mids.offers c.u c.service x σ) no_run few i.core.laws i (λ σ k. offers_ok c (past c w i.codes) i.h w.soup x σ k)
-offer_event c w fared Inv x few i = at_back_ok c w Inv x (fate c fared) (λ σ. backs.offers c.u c.service Inv x σ) few refl i (λ σ k. back_offers_ok c (past c w i.codes) Inv (w.logs Inv) (i.k Inv) w.soup x σ k)
-offer_event c w fared Pay x few i = at_back_ok c w Pay x (fate c fared) (λ σ. backs.offers c.u c.service Pay x σ) few refl i (λ σ k. back_offers_ok c (past c w i.codes) Pay (w.logs Pay) (i.k Pay) w.soup x σ k)
+offer_event c w fared MidTier x few i = at_mid_ok c w x (fate c fared) (λ σ. mids.offers c.u c.service.programs x σ) no_run few i.core.laws i (λ σ k. offers_ok c (past c w i.codes) i.h w.soup x σ k)
+offer_event c w fared Inv x few i = at_back_ok c w Inv x (fate c fared) (λ σ. backs.offers c.u (c.service.backend Inv) Inv x σ) few refl i (λ σ k. back_offers_ok c (past c w i.codes) Inv (w.logs Inv) (i.k Inv) w.soup x σ k)
+offer_event c w fared Pay x few i = at_back_ok c w Pay x (fate c fared) (λ σ. backs.offers c.u (c.service.backend Pay) Pay x σ) few refl i (λ σ k. back_offers_ok c (past c w i.codes) Pay (w.logs Pay) (i.k Pay) w.soup x σ k)
 
 work_event : {B : Type 0} (c : Config B) (w : World B) (t : Tier) (x : ℕ) (schedule : List ℕ) → c.u < 128 → (i : WorldOk c w) → Mid_event c (past c w i.codes) (works c w t x schedule)
-work_event c w MidTier x schedule few i = at_mid_ok c w x unwritten (λ σ. work c.u c.service x σ schedule) (λ σ. work_run c.u c.service x σ schedule) few i.core.laws i (λ σ k. work_ok c (past c w i.codes) i.h w.soup x σ schedule k)
+work_event c w MidTier x schedule few i = at_mid_ok c w x unwritten (λ σ. work c.u c.service.programs x σ schedule) (λ σ. work_run c.u c.service.programs x σ schedule) few i.core.laws i (λ σ k. work_ok c (past c w i.codes) i.h w.soup x σ schedule k)
 work_event c w Inv x schedule few i = unchanged c w i
 work_event c w Pay x schedule few i = unchanged c w i
 

@@ -154,11 +154,11 @@ batch_value (OfMid (Batch ds)) es e = let s : ds ≡ es = cc in ap (λ z. OfMid 
 batch_value (OfMid (Decided v)) es e = absurd (cc)
 batch_value (OfBack v) es e = absurd (cc)
 
-value_starts : {B : Type 0} (c : Config B) (w : World B) (codes : ℕ → List Code) (h : ℕ → List (LogFact AnyValue)) (k : Tier → ℕ → List (LogFact AnyValue)) (v : AnyValue) → Core c w codes h k → MidOk c (past c w codes) (length w.log) v → StartsIn (past c w codes) (value_steps c.service c.depth w.log (server c.service w.hist).served v)
+value_starts : {B : Type 0} (c : Config B) (w : World B) (codes : ℕ → List Code) (h : ℕ → List (LogFact AnyValue)) (k : Tier → ℕ → List (LogFact AnyValue)) (v : AnyValue) → Core c w codes h k → MidOk c (past c w codes) (length w.log) v → StartsIn (past c w codes) (value_steps c.service.programs c.depth w.log (server c.service w.hist).served v)
 unfolding is_start
 value_starts c w codes h k (OfMid (Batch es)) i o j n who body e = absurd (cc)
 value_starts c w codes h k (OfBack v) i o j n who body e = absurd o
-value_starts {B} c w codes h k (OfMid (Decided v)) i o j n who body e = go (is_order (length R.job) (ordered R v)) (subst (λ z. slice_get (verdict_steps c.service z v) j ≡ Some (Start who n, body)) o.1.is_round e)
+value_starts {B} c w codes h k (OfMid (Decided v)) i o j n who body e = go (is_order (length R.job) (ordered R v)) (subst (λ z. slice_get (verdict_steps c.service.programs z v) j ≡ Some (Start who n, body)) o.1.is_round e)
   where
     R : Round
     R = o.1.made
@@ -166,8 +166,8 @@ value_starts {B} c w codes h k (OfMid (Decided v)) i o j n who body e = go (is_o
     P : Past B
     P = past c w codes
 
-    a : (T : Tables) × (after c.service c.depth w.log (server c.service w.hist).served (half (length w.log)) ≡ Some T) × (round_at c.service w.log (server c.service w.hist).served (half (length w.log)) T ≡ Some o.1.made)
-    a = then_parts (after c.service c.depth w.log (server c.service w.hist).served (half (length w.log))) (round_at c.service w.log (server c.service w.hist).served (half (length w.log))) o.1.made o.1.is_round
+    a : (T : Tables) × (after c.service.programs c.depth w.log (server c.service w.hist).served (half (length w.log)) ≡ Some T) × (round_at c.service.programs w.log (server c.service w.hist).served (half (length w.log)) T ≡ Some o.1.made)
+    a = then_parts (after c.service.programs c.depth w.log (server c.service w.hist).served (half (length w.log))) (round_at c.service.programs w.log (server c.service w.hist).served (half (length w.log))) o.1.made o.1.is_round
 
     parts : RoundParts c.service w.log (server c.service w.hist).served (half (length w.log)) a.0 o.1.made
     parts = round_parts c.service w.log (server c.service w.hist).served (half (length w.log)) a.0 o.1.made a.2
@@ -178,13 +178,13 @@ value_starts {B} c w codes h k (OfMid (Decided v)) i o j n who body e = go (is_o
     entries : BatchOk P parts.batch
     entries = (subst (MidOk c P (2 * half (length w.log))) (batch_value value.0 parts.batch value.2) (meets_good c.u h (mid_soup w.soup) w.log (MidOk c P) (2 * half (length w.log)) value.0 i.mid_log (i.mid_log.sound (2 * half (length w.log)) value.0 value.1))).1
 
-    from : StartOf (wants c.service a.0 parts.batch) who.client who.seq body → Submitted P (record { client = who.client; seq = who.seq; body = body })
-    from q = by (get_cases (map resumed (head_of a.0.queue)) (map started (fresh_of c.service a.0 [] parts.batch)) q.place q.want q.is_want)
+    from : StartOf (wants c.service.programs a.0 parts.batch) who.client who.seq body → Submitted P (record { client = who.client; seq = who.seq; body = body })
+    from q = by (get_cases (map resumed (head_of a.0.queue)) (map started (fresh_of c.service.programs a.0 [] parts.batch)) q.place q.want q.is_want)
       where
-        by : (slice_get (map resumed (head_of a.0.queue)) q.place ≡ Some q.want) ⊎ ((l : ℕ) × (slice_get (map started (fresh_of c.service a.0 [] parts.batch)) l ≡ Some q.want)) → Submitted P (record { client = who.client; seq = who.seq; body = body })
+        by : (slice_get (map resumed (head_of a.0.queue)) q.place ≡ Some q.want) ⊎ ((l : ℕ) × (slice_get (map started (fresh_of c.service.programs a.0 [] parts.batch)) l ≡ Some q.want)) → Submitted P (record { client = who.client; seq = who.seq; body = body })
         by (inl f) = absurd (let z = get_map resumed (head_of a.0.queue) q.place q.want f in let g : (resumed z.0).call ≡ None = ap (λ (x : Want). x.call) z.2 ∙ q.none in cc)
         by (inr f) =
-            let z = get_map started (fresh_of c.service a.0 [] parts.batch) f.0 q.want f.1 in
+            let z = get_map started (fresh_of c.service.programs a.0 [] parts.batch) f.0 q.want f.1 in
             let b = (fresh-at c.service a.0 [] parts.batch f.0 z.0 z.1).1 in
             let e1 : z.0.client ≡ who.client = ap (λ (x : Want). x.client) z.2 ∙ q.client in
             let e2 : z.0.seq ≡ who.seq = ap (λ (x : Want). x.seq) z.2 ∙ q.seq in
@@ -192,8 +192,8 @@ value_starts {B} c w codes h k (OfMid (Decided v)) i o j n who body e = go (is_o
             let same : z.0 ≡ record { client = who.client; seq = who.seq; body = body } = λ i. record { client = e1 i; seq = e2 i; body = e3 i } in
             subst (Submitted P) same (entries b.0 z.0 b.1)
 
-    go : (b : Bool) → slice_get {X = HistoryStep} (cond b (steps_by o.1.made.wants (numbers o.1.made.tables.next (finish c.service o.1.made.job (ordered o.1.made v) o.1.made.tables.store).ends) (ordered o.1.made v)) ((Serve Inv 0, []) ∷ [])) j ≡ Some (Start who n, body) → Submitted P (record { client = who.client; seq = who.seq; body = body })
-    go true f = from (subst (λ z. StartOf z who.client who.seq body) parts.is_wants (steps_start o.1.made.wants (numbers o.1.made.tables.next (finish c.service o.1.made.job (ordered o.1.made v) o.1.made.tables.store).ends) (ordered o.1.made v) j n who body f))
+    go : (b : Bool) → slice_get {X = HistoryStep} (cond b (steps_by o.1.made.wants (numbers o.1.made.tables.next (finish c.service.programs o.1.made.job (ordered o.1.made v) o.1.made.tables.store).ends) (ordered o.1.made v)) ((Serve Inv 0, []) ∷ [])) j ≡ Some (Start who n, body) → Submitted P (record { client = who.client; seq = who.seq; body = body })
+    go true f = from (subst (λ z. StartOf z who.client who.seq body) parts.is_wants (steps_start o.1.made.wants (numbers o.1.made.tables.next (finish c.service.programs o.1.made.job (ordered o.1.made v) o.1.made.tables.store).ends) (ordered o.1.made v) j n who body f))
     go false f = absurd (none j f)
       where
         none : (j : ℕ) → slice_get {X = HistoryStep} ((Serve Inv 0, []) ∷ []) j ≡ Some (Start who n, body) → ⊥
@@ -212,20 +212,20 @@ pub served_same : {B : Type 0} (c : Config B) (w : World B) (codes : ℕ → Lis
 served_same c w codes h k i = λ j t n. (shown c.service w.hist i.laws.again i.ledger.legal).shows.served t n j
 
 extend_by : {B : Type 0} (c : Config B) (w : World B) (codes : ℕ → List Code) (h : ℕ → List (LogFact AnyValue)) (k : Tier → ℕ → List (LogFact AnyValue)) (v : AnyValue) → Core c w codes h k → MidOk c (past c w codes) (length w.log) v
-    → Extended c.service c.depth w.hist (w.log ++ v ∷ []) w.logs (w.hist ++ value_steps c.service c.depth w.log (server c.service w.hist).served v)
+    → Extended c.service c.depth w.hist (w.log ++ v ∷ []) w.logs (w.hist ++ value_steps c.service.programs c.depth w.log (server c.service w.hist).served v)
 extend_by c w codes h k (OfBack v) i o = absurd o
 extend_by c w codes h k (OfMid (Batch es)) i o = extend_batch c.service c.depth w.log w.logs w.hist es o.0 i.ledger
 extend_by c w codes h k (OfMid (Decided v)) i o = ledger_verdict c.service c.depth w.log w.logs w.hist v o.1.made o.0 o.1.is_round (is_ordered c (past c w codes) (half (length w.log)) o.1.made v o.1.by) i.ledger
 
 abbrev steps_now : {B : Type 0} → Config B → World B → AnyValue → History_
-steps_now c w v = value_steps c.service c.depth w.log (served_of c w) v
+steps_now c w v = value_steps c.service.programs c.depth w.log (served_of c w) v
 
 extend_mid : {B : Type 0} (c : Config B) (w : World B) (codes : ℕ → List Code) (h : ℕ → List (LogFact AnyValue)) (k : Tier → ℕ → List (LogFact AnyValue)) (v : AnyValue) → Core c w codes h k → MidOk c (past c w codes) (length w.log) v
     → Extended c.service c.depth w.hist (w.log ++ v ∷ []) w.logs (w.hist ++ steps_now c w v)
-extend_mid c w codes h k v i o = subst (λ A. Extended c.service c.depth w.hist (w.log ++ v ∷ []) w.logs (w.hist ++ value_steps c.service c.depth w.log A v)) (sym (served_same c w codes h k i)) (extend_by c w codes h k v i o)
+extend_mid c w codes h k v i o = subst (λ A. Extended c.service c.depth w.hist (w.log ++ v ∷ []) w.logs (w.hist ++ value_steps c.service.programs c.depth w.log A v)) (sym (served_same c w codes h k i)) (extend_by c w codes h k v i o)
 
 steps_start_now : {B : Type 0} (c : Config B) (w : World B) (codes : ℕ → List Code) (h : ℕ → List (LogFact AnyValue)) (k : Tier → ℕ → List (LogFact AnyValue)) (v : AnyValue) → Core c w codes h k → MidOk c (past c w codes) (length w.log) v → StartsIn (past c w codes) (steps_now c w v)
-steps_start_now c w codes h k v i o = subst (λ A. StartsIn (past c w codes) (value_steps c.service c.depth w.log A v)) (sym (served_same c w codes h k i)) (value_starts c w codes h k v i o)
+steps_start_now c w codes h k v i o = subst (λ A. StartsIn (past c w codes) (value_steps c.service.programs c.depth w.log A v)) (sym (served_same c w codes h k i)) (value_starts c w codes h k v i o)
 
 mid_grown : {B : Type 0} (c : Config B) (w : World B) (codes : ℕ → List Code) (h : ℕ → List (LogFact AnyValue)) (k : Tier → ℕ → List (LogFact AnyValue)) (o : Option AnyValue) → c.u < 128 → chosen_among c.u (mid_soup w.soup) (length w.log) (mid_soup w.soup) ≡ o → Core c w codes h k → NearlyDone c w → MidGrown c (mid_chosen c w o) codes h k
 mid_grown c w codes h k None few e i n = record { core = i; mid = grow_none c.u (mid_soup w.soup) w.log n.mid e; back = n.back }

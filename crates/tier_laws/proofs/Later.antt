@@ -11,7 +11,7 @@ use Rattle.aeg_base.specs.declared.names.End.TheVariants.{Node as OfNode, Client
 use Rattle.server_model.specs.declared.history.Hist.TheVariants.{Start}
 use Rattle.log_model.specs.Chosen.{chosen_among}
 use Rattle.log_model.specs.World.{Device, Mode, Node, stands}
-use Rattle.log_model.specs.World.Mode.{Down, Gone, Up}
+use Rattle.log_model.specs.Nodes.Mode.{Down, Gone, Up}
 use Rattle.log_values.specs.declared.fact.Fact.{Fact}
 use Rattle.log_values.specs.declared.any_value.AnyValue.{AnyValue}
 use Rattle.frames.specs.declared.message.Msg.{Msg}
@@ -73,7 +73,7 @@ takes_keeps : {B : Type 0} (w : World B) (y s : ℕ) (text : List ℕ) → Keeps
 takes_keeps w y s text = cond_both (is_some (w.clients y).opened && (s == (w.clients y).last)) _ w (Keeps w) (λ e. record { hist = refl; log = refl; logs = refl }) (λ e. keeps_refl w)
 
 submits_keeps : {B : Type 0} (c : Config B) (w : World B) (y : ℕ) (text : List ℕ) → Keeps w (submits c w y text)
-submits_keeps c w y text = cond_both (is_client_number y && (is_request c.service (record { client = y; seq = suc (w.clients y).last }) text && (not (is_some (w.clients y).opened) && nat_lt (w.clients y).last 65536))) (opens c.u w y text) w (Keeps w) (λ e. record { hist = refl; log = refl; logs = refl }) (λ e. keeps_refl w)
+submits_keeps c w y text = cond_both (is_client_number y && (is_request c.service.programs (record { client = y; seq = suc (w.clients y).last }) text && (not (is_some (w.clients y).opened) && nat_lt (w.clients y).last 65536))) (opens c.u w y text) w (Keeps w) (λ e. record { hist = refl; log = refl; logs = refl }) (λ e. keeps_refl w)
 
 reopens_keeps : {B : Type 0} (c : Config B) (w : World B) (y : ℕ) (o : Option (List ℕ)) → Keeps w (reopens c w y o)
 reopens_keeps c w y None = keeps_refl w
@@ -90,9 +90,9 @@ client_keeps w y (msgs.Have t n code) = keeps_refl w
 client_keeps w y (msgs.Settle g) = keeps_refl w
 
 node_gets_keeps : {B : Type 0} (c : Config B) (w : World B) (fared : Fared) (from : End) (message : Msg) (t : Tier) (x : ℕ) → Keeps w (node_gets c w fared from message t x)
-node_gets_keeps c w fared from message MidTier x = at_mid_keeps c w x (fate c fared) (λ σ. mids.on_frame c.u c.service x σ from message) no_run
-node_gets_keeps c w fared from message Inv x = at_back_keeps c w Inv x (fate c fared) (λ σ. backs.on_frame c.u c.service Inv x σ from message)
-node_gets_keeps c w fared from message Pay x = at_back_keeps c w Pay x (fate c fared) (λ σ. backs.on_frame c.u c.service Pay x σ from message)
+node_gets_keeps c w fared from message MidTier x = at_mid_keeps c w x (fate c fared) (λ σ. mids.on_frame c.u c.service.programs x σ from message) no_run
+node_gets_keeps c w fared from message Inv x = at_back_keeps c w Inv x (fate c fared) (λ σ. backs.on_frame c.u (c.service.backend Inv) Inv x σ from message)
+node_gets_keeps c w fared from message Pay x = at_back_keeps c w Pay x (fate c fared) (λ σ. backs.on_frame c.u (c.service.backend Pay) Pay x σ from message)
 
 arrives_keeps : {B : Type 0} (c : Config B) (w : World B) (fared : Fared) (from : End) (message : Msg) (to : End) → Keeps w (arrives c w fared from message to)
 arrives_keeps c w fared from message (OfNode n) = node_gets_keeps c w fared from message n.tier n.index
@@ -107,17 +107,17 @@ shortened_keeps c w fared bytes None = keeps_refl w
 shortened_keeps c w fared bytes (Some k) = cond_both (nat_le (c.frame_length k.from k.message) bytes) (arrives c w fared k.from k.message k.to) w (Keeps w) (λ e. arrives_keeps c w fared k.from k.message k.to) (λ e. keeps_refl w)
 
 lead_keeps : {B : Type 0} (c : Config B) (w : World B) (fared : Fared) (t : Tier) (x : ℕ) → Keeps w (leads c w fared t x)
-lead_keeps c w fared MidTier x = at_mid_keeps c w x (fate c fared) (λ σ. mids.leads c.u c.service x σ) no_run
-lead_keeps c w fared Inv x = at_back_keeps c w Inv x (fate c fared) (λ σ. backs.leads c.u c.service Inv x σ)
-lead_keeps c w fared Pay x = at_back_keeps c w Pay x (fate c fared) (λ σ. backs.leads c.u c.service Pay x σ)
+lead_keeps c w fared MidTier x = at_mid_keeps c w x (fate c fared) (λ σ. mids.leads c.u c.service.programs x σ) no_run
+lead_keeps c w fared Inv x = at_back_keeps c w Inv x (fate c fared) (λ σ. backs.leads c.u (c.service.backend Inv) Inv x σ)
+lead_keeps c w fared Pay x = at_back_keeps c w Pay x (fate c fared) (λ σ. backs.leads c.u (c.service.backend Pay) Pay x σ)
 
 offer_keeps : {B : Type 0} (c : Config B) (w : World B) (fared : Fared) (t : Tier) (x : ℕ) → Keeps w (offers c w fared t x)
-offer_keeps c w fared MidTier x = at_mid_keeps c w x (fate c fared) (λ σ. mids.offers c.u c.service x σ) no_run
-offer_keeps c w fared Inv x = at_back_keeps c w Inv x (fate c fared) (λ σ. backs.offers c.u c.service Inv x σ)
-offer_keeps c w fared Pay x = at_back_keeps c w Pay x (fate c fared) (λ σ. backs.offers c.u c.service Pay x σ)
+offer_keeps c w fared MidTier x = at_mid_keeps c w x (fate c fared) (λ σ. mids.offers c.u c.service.programs x σ) no_run
+offer_keeps c w fared Inv x = at_back_keeps c w Inv x (fate c fared) (λ σ. backs.offers c.u (c.service.backend Inv) Inv x σ)
+offer_keeps c w fared Pay x = at_back_keeps c w Pay x (fate c fared) (λ σ. backs.offers c.u (c.service.backend Pay) Pay x σ)
 
 work_keeps : {B : Type 0} (c : Config B) (w : World B) (t : Tier) (x : ℕ) (schedule : List ℕ) → Keeps w (works c w t x schedule)
-work_keeps c w MidTier x schedule = at_mid_keeps c w x unwritten (λ σ. mids.work c.u c.service x σ schedule) (λ σ. mids.work_run c.u c.service x σ schedule)
+work_keeps c w MidTier x schedule = at_mid_keeps c w x unwritten (λ σ. mids.work c.u c.service.programs x σ schedule) (λ σ. mids.work_run c.u c.service.programs x σ schedule)
 work_keeps c w Inv x schedule = keeps_refl w
 work_keeps c w Pay x schedule = keeps_refl w
 
@@ -192,7 +192,7 @@ keeps_longer w z k = record {
 
 mid_longer : {B : Type 0} (c : Config B) (w : World B) (o : Option AnyValue) → Longer w (mid_chosen c w o)
 mid_longer c w None = longer_refl w
-mid_longer c w (Some v) = record { hist = (value_steps c.service c.depth w.log (served_of c w) v, refl); log = (v ∷ [], refl); logs = λ t. front_refl (w.logs t) }
+mid_longer c w (Some v) = record { hist = (value_steps c.service.programs c.depth w.log (served_of c w) v, refl); log = (v ∷ [], refl); logs = λ t. front_refl (w.logs t) }
 
 back_longer : {B : Type 0} (w : World B) (t : Tier) (o : Option AnyValue) → Longer w (back_chosen w t o)
 back_longer w t None = longer_refl w

@@ -57,18 +57,18 @@ job-length A (w ∷ ws) J e =
 
 -- SERIAL
 
-pub serial-push : {B : Type 0} (m : Service B) (J : List Seg) (done : List ℕ) (i : ℕ) (s : Store) → serial m J (done ++ i ∷ []) s ≡ (segment m (slice_get J i) (serial m J done s)).store
+pub serial-push : {B : Type 0} (m : Service B) (J : List Seg) (done : List ℕ) (i : ℕ) (s : Store) → serial m.programs J (done ++ i ∷ []) s ≡ (segment m.programs (slice_get J i) (serial m.programs J done s)).store
 serial-push m J [] i s = refl
-serial-push m J (d ∷ done) i s = serial-push m J done i (segment m (slice_get J d) s).store
+serial-push m J (d ∷ done) i s = serial-push m J done i (segment m.programs (slice_get J d) s).store
 
-pub serial_end-at : {B : Type 0} (m : Service B) (J : List Seg) (done : List ℕ) (i : ℕ) (rest : List ℕ) (s : Store) → times i done ≡ 0 → serial_end m J (done ++ i ∷ rest) s i ≡ (segment m (slice_get J i) (serial m J done s)).ending
-serial_end-at m J [] i rest s e = cond-true (i == i) (segment m (slice_get J i) s).ending _ (eq-eqb i i refl)
-serial_end-at {B} m J (d ∷ done) i rest s e = go (cases_eq d i) (λ f. serial_end-at m J done i rest (segment m (slice_get J d) s).store f)
+pub serial_end-at : {B : Type 0} (m : Service B) (J : List Seg) (done : List ℕ) (i : ℕ) (rest : List ℕ) (s : Store) → times i done ≡ 0 → serial_end m.programs J (done ++ i ∷ rest) s i ≡ (segment m.programs (slice_get J i) (serial m.programs J done s)).ending
+serial_end-at m J [] i rest s e = cond-true (i == i) (segment m.programs (slice_get J i) s).ending _ (eq-eqb i i refl)
+serial_end-at {B} m J (d ∷ done) i rest s e = go (cases_eq d i) (λ f. serial_end-at m J done i rest (segment m.programs (slice_get J d) s).store f)
   where
-    go : (d ≡ i) ⊎ (d ≡ i → ⊥) → (times i done ≡ 0 → serial_end m J (done ++ i ∷ rest) (segment m (slice_get J d) s).store i ≡ (segment m (slice_get J i) (serial m J done (segment m (slice_get J d) s).store)).ending)
-        → serial_end m J (d ∷ done ++ i ∷ rest) s i ≡ (segment m (slice_get J i) (serial m J done (segment m (slice_get J d) s).store)).ending
+    go : (d ≡ i) ⊎ (d ≡ i → ⊥) → (times i done ≡ 0 → serial_end m.programs J (done ++ i ∷ rest) (segment m.programs (slice_get J d) s).store i ≡ (segment m.programs (slice_get J i) (serial m.programs J done (segment m.programs (slice_get J d) s).store)).ending)
+        → serial_end m.programs J (d ∷ done ++ i ∷ rest) s i ≡ (segment m.programs (slice_get J i) (serial m.programs J done (segment m.programs (slice_get J d) s).store)).ending
     go (inl f) r = absurd (omega (arith, e, cond-true {A = ℕ} (d == i) 1 0 (eq-eqb d i f)))
-    go (inr f) r = cond-false (d == i) (segment m (slice_get J d) s).ending _ (ne_eqb d i f) ∙ r (omega (arith, e, cond-false {A = ℕ} (d == i) 1 0 (ne_eqb d i f)))
+    go (inr f) r = cond-false (d == i) (segment m.programs (slice_get J d) s).ending _ (ne_eqb d i f) ∙ r (omega (arith, e, cond-false {A = ℕ} (d == i) 1 0 (ne_eqb d i f)))
 
 -- THE ROUND
 
@@ -82,7 +82,7 @@ pub record Setting {B : Type 0} (m : Service B) (O : Server B) (next : OfTiers �
   pub once : each_once (length J) order ≡ true
 
 abbrev pub ends_of : {B : Type 0} → Service B → List Seg → List ℕ → Store → List Ending
-ends_of m J order s = tabulate (length J) (serial_end m J order s)
+ends_of m J order s = tabulate (length J) (serial_end m.programs J order s)
 
 abbrev pub acts_of : {B : Type 0} → Service B → Server B → OfTiers ℕ → List Want → List Seg → List ℕ → List Act
 acts_of m O next ws J order = acts next ws (ends_of m J order O.store)
@@ -110,7 +110,7 @@ record Here {B : Type 0} (m : Service B) (O : Server B) (next : OfTiers ℕ) (ws
   in_ws : slice_get ws i ≡ Some act.want
   none : times i done ≡ 0
   answer : answered O.served act.want act.want.call ≡ Some seg
-  ending : (run m seg (serial m J done O.store)).ending ≡ act.ending
+  ending : (run m seg (serial m.programs J done O.store)).ending ≡ act.ending
   num : at 0 (numbers next (ends_of m J order O.store)) i ≡ act.num
 
 here : {B : Type 0} (m : Service B) (O : Server B) (next : OfTiers ℕ) (ws : List Want) (J : List Seg) (order done : List ℕ) (i : ℕ) (rest : List ℕ) (P : Server B) → Setting m O next ws J order → order ≡ done ++ i ∷ rest → Here m O next ws J order done i P
@@ -122,7 +122,7 @@ here {B} m O next ws J order done i rest P g e = record {
   in_ws = w.1 ∙ ap Some (sym b.2);
   none = none;
   answer = rw b.2 w.2;
-  ending = ap (λ z. (segment m z (serial m J done O.store)).ending) (sym j.1) ∙ sym (serial_end-at m J done i rest O.store none) ∙ ap (λ z. serial_end m J z O.store i) (sym e) ∙ at_end;
+  ending = ap (λ z. (segment m.programs z (serial m.programs J done O.store)).ending) (sym j.1) ∙ sym (serial_end-at m J done i rest O.store none) ∙ ap (λ z. serial_end m.programs J z O.store i) (sym e) ∙ at_end;
   num = (acts_want next ws (ends_of m J order O.store) i b.0 b.1).2;
 }
   where
@@ -142,10 +142,10 @@ here {B} m O next ws J order done i rest P g e = record {
     w = job_at O.served ws J i j.0 g.job j.1
 
     b : (a : Act) × (slice_get (acts_of m O next ws J order) i ≡ Some a) × (a.want ≡ w.0)
-    b = want_acts next ws (ends_of m J order O.store) i w.0 (omega (arith, job-length O.served ws J g.job, length-tabulate (length J) (serial_end m J order O.store))) w.1
+    b = want_acts next ws (ends_of m J order O.store) i w.0 (omega (arith, job-length O.served ws J g.job, length-tabulate (length J) (serial_end m.programs J order O.store))) w.1
 
-    at_end : serial_end m J order O.store i ≡ b.0.ending
-    at_end = let h : Some (serial_end m J order O.store i) ≡ Some b.0.ending = sym (get-tabulate (length J) (serial_end m J order O.store) i inside) ∙ (acts_want next ws (ends_of m J order O.store) i b.0 b.1).1 in cc
+    at_end : serial_end m.programs J order O.store i ≡ b.0.ending
+    at_end = let h : Some (serial_end m.programs J order O.store i) ≡ Some b.0.ending = sym (get-tabulate (length J) (serial_end m.programs J order O.store) i inside) ∙ (acts_want next ws (ends_of m J order O.store) i b.0 b.1).1 in cc
 
 number_ok : {B : Type 0} (m : Service B) (O P : Server B) (next : OfTiers ℕ) (ws : List Want) (J : List Seg) (order done : List ℕ) (s : Store) (i : ℕ) (e : Ending) (a : Act) → Setting m O next ws J order
     → Partway O (acts_of m O next ws J order) ws done s P → slice_get (acts_of m O next ws J order) i ≡ Some a → times i done ≡ 0 → a.ending ≡ e → NumberOk P e a.num
@@ -176,17 +176,17 @@ number_ok {B} m O P next ws J order done s i (Call t stage text) a g k at none f
 
 pub record RoundDone {B : Type 0} (m : Service B) (O : Server B) (next : OfTiers ℕ) (ws : List Want) (J : List Seg) (order : List ℕ) (P : Server B) (ks : History_) : Type 0 where
   pub legal : LegalFrom m P ks
-  pub there : Partway O (acts_of m O next ws J order) ws order (serial m J order O.store) (server_from m P ks)
+  pub there : Partway O (acts_of m O next ws J order) ws order (serial m.programs J order O.store) (server_from m P ks)
   pub bounded : Bounded (server_from m P ks)
 
 record Stepped {B : Type 0} (m : Service B) (O : Server B) (next : OfTiers ℕ) (ws : List Want) (J : List Seg) (order done : List ℕ) (i : ℕ) (P : Server B) : Type 0 where
   server : Server B
   is_step : step m P (step_of (slice_get ws i) (at 0 (numbers next (ends_of m J order O.store)) i)) ≡ Done server
-  there : Partway O (acts_of m O next ws J order) ws (done ++ i ∷ []) (serial m J (done ++ i ∷ []) O.store) server
+  there : Partway O (acts_of m O next ws J order) ws (done ++ i ∷ []) (serial m.programs J (done ++ i ∷ []) O.store) server
   bounded : Bounded server
 
 one_legal : {B : Type 0} (m : Service B) (O : Server B) (next : OfTiers ℕ) (ws : List Want) (J : List Seg) (order : List ℕ) → Setting m O next ws J order → (done : List ℕ) (i : ℕ) (P : Server B) → Here m O next ws J order done i P
-    → Partway O (acts_of m O next ws J order) ws done (serial m J done O.store) P → Bounded P → Stepped m O next ws J order done i P
+    → Partway O (acts_of m O next ws J order) ws done (serial m.programs J done O.store) P → Bounded P → Stepped m O next ws J order done i P
 one_legal {B} m O next ws J order g done i P h k b = record {
   server = acted P h.act.want h.act.num h.act.ending (run m h.seg P.store).store;
   is_step = ap (λ z. step m P (step_of z (at 0 (numbers next (ends_of m J order O.store)) i))) h.in_ws
@@ -195,7 +195,7 @@ one_legal {B} m O next ws J order g done i P h k b = record {
       ∙ act_done m P h.act.want h.act.want.call h.act.num h.seg ok answer (subst (λ e. NumberOk P e h.act.num) (sym ending) number)
       ∙ ap (λ e. Done (acted P h.act.want h.act.num e (run m h.seg P.store).store)) ending;
   there = subst (λ s. Partway O (acts_of m O next ws J order) ws (done ++ i ∷ []) s (acted P h.act.want h.act.num h.act.ending (run m h.seg P.store).store)) store
-      (act_partway m O P (acts_of m O next ws J order) ws done (serial m J done O.store) (run m h.seg P.store).store i h.act h.act.want.call k b h.is_act h.none h.in_ws alone ok number);
+      (act_partway m O P (acts_of m O next ws J order) ws done (serial m.programs J done O.store) (run m h.seg P.store).store i h.act h.act.want.call k b h.is_act h.none h.in_ws alone ok number);
   bounded = acted-bounded m P h.act.want h.act.want.call h.act.num h.act.ending (run m h.seg P.store).store b ok;
 }
   where
@@ -212,19 +212,19 @@ one_legal {B} m O next ws J order g done i P h k b = record {
     ending = ap (λ s. (run m h.seg s).ending) k.store ∙ h.ending
 
     number : NumberOk P h.act.ending h.act.num
-    number = number_ok m O P next ws J order done (serial m J done O.store) i h.act.ending h.act g k h.is_act h.none refl
+    number = number_ok m O P next ws J order done (serial m.programs J done O.store) i h.act.ending h.act g k h.is_act h.none refl
 
-    store : (run m h.seg P.store).store ≡ serial m J (done ++ i ∷ []) O.store
-    store = ap (λ s. (run m h.seg s).store) k.store ∙ ap (λ z. (segment m z (serial m J done O.store)).store) (sym h.is_seg) ∙ sym (serial-push m J done i O.store)
+    store : (run m h.seg P.store).store ≡ serial m.programs J (done ++ i ∷ []) O.store
+    store = ap (λ s. (run m h.seg s).store) k.store ∙ ap (λ z. (segment m.programs z (serial m.programs J done O.store)).store) (sym h.is_seg) ∙ sym (serial-push m J done i O.store)
 
     alone : (j : ℕ) (c : Act) → slice_get (acts_of m O next ws J order) j ≡ Some c → c.want.client ≡ h.act.want.client → j ≡ i
     alone j c f e = one_client ws j i c.want h.act.want g.distinct (acts_want next ws (ends_of m J order O.store) j c f).0 h.in_ws e
 
 rest_legal : {B : Type 0} (m : Service B) (O : Server B) (next : OfTiers ℕ) (ws : List Want) (J : List Seg) (order : List ℕ) → Setting m O next ws J order → (rest done : List ℕ) (P : Server B) → order ≡ done ++ rest
-    → Partway O (acts_of m O next ws J order) ws done (serial m J done O.store) P → Bounded P → RoundDone m O next ws J order P (steps_by ws (numbers next (ends_of m J order O.store)) rest)
+    → Partway O (acts_of m O next ws J order) ws done (serial m.programs J done O.store) P → Bounded P → RoundDone m O next ws J order P (steps_by ws (numbers next (ends_of m J order O.store)) rest)
 rest_legal m O next ws J order g [] done P e k b =
     let f : order ≡ done = e ∙ append-nil done in
-    record { legal = tt; there = subst (λ z. Partway O (acts_of m O next ws J order) ws z (serial m J z O.store) P) (sym f) k; bounded = b }
+    record { legal = tt; there = subst (λ z. Partway O (acts_of m O next ws J order) ws z (serial m.programs J z O.store) P) (sym f) k; bounded = b }
 rest_legal m O next ws J order g (i ∷ rest) done P e k b =
     let t : Stepped m O next ws J order done i P = one_legal m O next ws J order g done i P (here m O next ws J order done i rest P g e) k b in
     let r : RoundDone m O next ws J order t.server (steps_by ws (numbers next (ends_of m J order O.store)) rest) = rest_legal m O next ws J order g rest (done ++ i ∷ []) t.server (e ∙ sym (append_assoc done (i ∷ []) rest)) t.there t.bounded in

@@ -69,10 +69,10 @@ abbrev pub coded : {B : Type 0} → Server B → Tier → ℕ → Served B → S
 coded O t n b = record O { served = put_number O.served t n (Some b.code); backs = put_tier O.backs t b.state }
 
 abbrev pub serves : {B : Type 0} → Service B → Server B → Tier → ℕ → Option (List ℕ) → Option ℕ → Result (Server B)
-serves m O Mid n text code = Refused 4
-serves m O t n None code = Refused 4
-serves m O t n (Some text) (Some code) = Refused 4
-serves m O t n (Some text) None = Done (coded O t n (m.meaning.serve t (O.backs t) text))
+serves (m.backend O) Mid n text code = Refused 4
+serves (m.backend O) t n None code = Refused 4
+serves (m.backend O) t n (Some text) (Some code) = Refused 4
+serves (m.backend O) t n (Some text) None = Done (coded O t n ((m.backend t).serve (O.backs t) text))
 
 abbrev pub resumes : {B : Type 0} → Service B → Server B → ℕ → ℕ → ℕ → Progress → Option ℕ → Result (Server B)
 resumes m O c s num g None = Refused 6
@@ -88,19 +88,19 @@ start_at m O c s num body =
     if not (nat_lt c 17) then Refused 0
     else if not (s == suc (O.last c)) then Refused 1
     else if is_some (O.progress c) then Refused 2
-    else if not (is_request m (record { client = c; seq = s }) body) then Refused 3
+    else if not (is_request m.programs (record { client = c; seq = s }) body) then Refused 3
     else ran O c s body num (run m (first_seg c s body) O.store).store (run m (first_seg c s body) O.store).ending
 
 abbrev pub step_as : {B : Type 0} → Service B → Server B → Hist → List ℕ → Result (Server B)
 step_as m O (Start who num) body = start_at m O who.client who.seq num body
-step_as m O (Serve t n) body = serves m O t n (O.calls t n) (O.served t n)
+step_as m O (Serve t n) body = serves (m.backend O) t n (O.calls t n) (O.served t n)
 step_as m O (Resume who num) body = resume m O who.client who.seq num (O.progress who.client)
 
 abbrev pub step : {B : Type 0} → Service B → Server B → HistoryStep → Result (Server B)
 step m O k = step_as m O k.0 k.1
 
 abbrev pub empty_server : {B : Type 0} → Service B → Server B
-empty_server m = record { store = empty; last = λ c. 0; progress = λ c. None; calls = λ t n. None; served = λ t n. None; backs = m.meaning.opening; replies = λ c s. None }
+empty_server m = record { store = empty; last = λ c. 0; progress = λ c. None; calls = λ t n. None; served = λ t n. None; backs = (meaning m).opening; replies = λ c s. None }
 
 -- a refused step changes nothing
 abbrev pub result_or : {A : Type 0} → A → Result A → A

@@ -10,7 +10,7 @@ use Rattle.log_model.proofs.Step.{put_each, put_other, put_same, restored, wrote
 use Rattle.log_model.specs.Log.{LogState}
 use Rattle.log_model.specs.Recover.{learned_in, newest, onto, recover}
 use Rattle.log_model.specs.World.{Device, Mode, Node, Packet as LogPacket, put, recorded, stands}
-use Rattle.log_model.specs.World.Mode.{Down, Gone, Up}
+use Rattle.log_model.specs.Nodes.Mode.{Down, Gone, Up}
 use Rattle.log_model.specs.declared.fact.Fact.{Fact as LogFact}
 use Rattle.log_values.specs.declared.fact.Fact.{Fact}
 use Rattle.log_values.specs.declared.any_value.AnyValue.{AnyValue}
@@ -193,11 +193,11 @@ record Caught {B : Type 0} (c : Config B) (P : Past B) (x : ℕ) (s : LogState A
   other : MidOther c P x σ
   same : σ.log ≡ s
 
-catch_up_ok : {B : Type 0} (c : Config B) (P : Past B) (x n : ℕ) (σ : Mid) → Known c P → MidOther c P x σ → MoreLog σ.log.learned P.log → Caught c P x σ.log (catch_up c.service n σ)
+catch_up_ok : {B : Type 0} (c : Config B) (P : Past B) (x n : ℕ) (σ : Mid) → Known c P → MidOther c P x σ → MoreLog σ.log.learned P.log → Caught c P x σ.log (catch_up c.service.programs n σ)
 catch_up_ok c P x zero σ k o pre = record { other = o; same = refl }
-catch_up_ok {B} c P x (suc n) σ k o pre = go (ready c.service σ) refl (λ R e. catch_up_ok c P x n (apply σ R) k (apply_ok c P x σ R k o pre e).0 pre)
+catch_up_ok {B} c P x (suc n) σ k o pre = go (ready c.service.programs σ) refl (λ R e. catch_up_ok c P x n (apply σ R) k (apply_ok c P x σ R k o pre e).0 pre)
   where
-    go : (q : Option Ready) → ready c.service σ ≡ q → ((R : Ready) → ready c.service σ ≡ Some R → Caught c P x σ.log (catch_up c.service n (apply σ R))) → Caught c P x σ.log (elim q [ None ↦ σ | Some R ↦ catch_up c.service n (apply σ R) ])
+    go : (q : Option Ready) → ready c.service.programs σ ≡ q → ((R : Ready) → ready c.service.programs σ ≡ Some R → Caught c P x σ.log (catch_up c.service.programs n (apply σ R))) → Caught c P x σ.log (elim q [ None ↦ σ | Some R ↦ catch_up c.service.programs n (apply σ R) ])
     go None e r = record { other = o; same = refl }
     go (Some R) e r = r R e
 

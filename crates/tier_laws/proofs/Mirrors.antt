@@ -46,52 +46,52 @@ split : {B : Type 0} (m : Service B) (T : Tables) (O : Server B) → Mirrors m T
 split m T O k = split_of T k.one
 
 -- no want's client waits longer
-pub tail_apart_of : {B : Type 0} (m : Service B) (T : Tables) (es : List Entry) (i : ℕ) (w : Want) → Distinct (map resumed (concat T.queue)) → slice_get (wants m T es) i ≡ Some w → NoneOf w.client (map resumed (concat (tail_of T.queue)))
-tail_apart_of {B} m T es i w one e = go (get_cases (map resumed (head_of T.queue)) (map started (fresh_of m T [] es)) i w e)
+pub tail_apart_of : {B : Type 0} (m : Service B) (T : Tables) (es : List Entry) (i : ℕ) (w : Want) → Distinct (map resumed (concat T.queue)) → slice_get (wants m.programs T es) i ≡ Some w → NoneOf w.client (map resumed (concat (tail_of T.queue)))
+tail_apart_of {B} m T es i w one e = go (get_cases (map resumed (head_of T.queue)) (map started (fresh_of m.programs T [] es)) i w e)
   where
-    go : (slice_get (map resumed (head_of T.queue)) i ≡ Some w) ⊎ ((j : ℕ) × (slice_get (map started (fresh_of m T [] es)) j ≡ Some w)) → NoneOf w.client (map resumed (concat (tail_of T.queue)))
+    go : (slice_get (map resumed (head_of T.queue)) i ≡ Some w) ⊎ ((j : ℕ) × (slice_get (map started (fresh_of m.programs T [] es)) j ≡ Some w)) → NoneOf w.client (map resumed (concat (tail_of T.queue)))
     go (inl f) = distinct-apart (map resumed (head_of T.queue)) (map resumed (concat (tail_of T.queue))) i w (split_of T one).one f
     go (inr r) =
-        let a = get_map started (fresh_of m T [] es) r.0 w r.1 in
+        let a = get_map started (fresh_of m.programs T [] es) r.0 w r.1 in
         let f : IsFresh m T a.0 = is_fresh_parts m T a.0 (fresh-at m T [] es r.0 a.0 a.1).0 in
         let n : NoneOf a.0.client (map resumed (concat T.queue)) = none_parked a.0.client (concat T.queue) f.idle in
         let n2 : NoneOf a.0.client (map resumed (head_of T.queue) ++ map resumed (concat (tail_of T.queue))) = subst (NoneOf a.0.client) (ap (map resumed) (concat-head T.queue) ∙ map-append resumed (head_of T.queue) (concat (tail_of T.queue))) n in
         subst (λ (z : Want). NoneOf z.client (map resumed (concat (tail_of T.queue)))) a.2 (none-parts a.0.client (map resumed (head_of T.queue)) (map resumed (concat (tail_of T.queue))) n2).1
 
-pub wants_distinct_of : {B : Type 0} (m : Service B) (T : Tables) (es : List Entry) → Distinct (map resumed (concat T.queue)) → Distinct (wants m T es)
-wants_distinct_of {B} m T es one = distinct-join (map resumed (head_of T.queue)) (map started (fresh_of m T [] es)) (distinct-left (map resumed (head_of T.queue)) (map resumed (concat (tail_of T.queue))) (split_of T one).one) (fresh-distinct m T [] es) (record { at = at })
+pub wants_distinct_of : {B : Type 0} (m : Service B) (T : Tables) (es : List Entry) → Distinct (map resumed (concat T.queue)) → Distinct (wants m.programs T es)
+wants_distinct_of {B} m T es one = distinct-join (map resumed (head_of T.queue)) (map started (fresh_of m.programs T [] es)) (distinct-left (map resumed (head_of T.queue)) (map resumed (concat (tail_of T.queue))) (split_of T one).one) (fresh-distinct m T [] es) (record { at = at })
   where
-    at : (i : ℕ) (w : Want) → slice_get (map resumed (head_of T.queue)) i ≡ Some w → NoneOf w.client (map started (fresh_of m T [] es))
-    at i w e = none_from w.client (map started (fresh_of m T [] es)) (λ j v f g.
-        let a = get_map started (fresh_of m T [] es) j v f in
+    at : (i : ℕ) (w : Want) → slice_get (map resumed (head_of T.queue)) i ≡ Some w → NoneOf w.client (map started (fresh_of m.programs T [] es))
+    at i w e = none_from w.client (map started (fresh_of m.programs T [] es)) (λ j v f g.
+        let a = get_map started (fresh_of m.programs T [] es) j v f in
         let fr : IsFresh m T a.0 = is_fresh_parts m T a.0 (fresh-at m T [] es j a.0 a.1).0 in
         let n : NoneOf a.0.client (map resumed (concat T.queue)) = none_parked a.0.client (concat T.queue) fr.idle in
         let n2 : NoneOf a.0.client (map resumed (head_of T.queue) ++ map resumed (concat (tail_of T.queue))) = subst (NoneOf a.0.client) (ap (map resumed) (concat-head T.queue) ∙ map-append resumed (head_of T.queue) (concat (tail_of T.queue))) n in
         let n3 : NoneOf a.0.client (map resumed (head_of T.queue)) = (none-parts a.0.client (map resumed (head_of T.queue)) (map resumed (concat (tail_of T.queue))) n2).0 in
         none_not a.0.client (map resumed (head_of T.queue)) i w n3 e (sym g ∙ sym (ap (λ (z : Want). z.client) a.2)))
 
-tail_apart : {B : Type 0} (m : Service B) (T : Tables) (O : Server B) (es : List Entry) (i : ℕ) (w : Want) → Mirrors m T O → slice_get (wants m T es) i ≡ Some w → NoneOf w.client (map resumed (concat (tail_of T.queue)))
+tail_apart : {B : Type 0} (m : Service B) (T : Tables) (O : Server B) (es : List Entry) (i : ℕ) (w : Want) → Mirrors m T O → slice_get (wants m.programs T es) i ≡ Some w → NoneOf w.client (map resumed (concat (tail_of T.queue)))
 tail_apart m T O es i w k e = tail_apart_of m T es i w k.one e
 
-wants_distinct : {B : Type 0} (m : Service B) (T : Tables) (O : Server B) (es : List Entry) → Mirrors m T O → Distinct (wants m T es)
+wants_distinct : {B : Type 0} (m : Service B) (T : Tables) (O : Server B) (es : List Entry) → Mirrors m T O → Distinct (wants m.programs T es)
 wants_distinct m T O es k = wants_distinct_of m T es k.one
 
 -- the requests that wait after a round are of different clients
-pub settled_one : {B : Type 0} (m : Service B) (T : Tables) (es : List Entry) (ends : List Ending) → Distinct (map resumed (concat T.queue)) → Distinct (map resumed (concat (tail_of T.queue ++ parks T.next (wants m T es) ends ∷ [])))
-settled_one {B} m T es ends one = subst Distinct (sym (ap (map resumed) (concat-push (tail_of T.queue) new) ∙ map-append resumed tail new)) (distinct-join (map resumed tail) (map resumed new) (distinct-right (map resumed (head_of T.queue)) (map resumed tail) (split_of T one).one) (parks-distinct T.next (wants m T es) ends (wants_distinct_of m T es one))
-    (record { at = λ i w e. let a = get_map resumed tail i w e in subst (λ (z : Want). NoneOf z.client (map resumed new)) a.2 (parks-none T.next (wants m T es) ends a.0.client (away i a.0 a.1)) }))
+pub settled_one : {B : Type 0} (m : Service B) (T : Tables) (es : List Entry) (ends : List Ending) → Distinct (map resumed (concat T.queue)) → Distinct (map resumed (concat (tail_of T.queue ++ parks T.next (wants m.programs T es) ends ∷ [])))
+settled_one {B} m T es ends one = subst Distinct (sym (ap (map resumed) (concat-push (tail_of T.queue) new) ∙ map-append resumed tail new)) (distinct-join (map resumed tail) (map resumed new) (distinct-right (map resumed (head_of T.queue)) (map resumed tail) (split_of T one).one) (parks-distinct T.next (wants m.programs T es) ends (wants_distinct_of m T es one))
+    (record { at = λ i w e. let a = get_map resumed tail i w e in subst (λ (z : Want). NoneOf z.client (map resumed new)) a.2 (parks-none T.next (wants m.programs T es) ends a.0.client (away i a.0 a.1)) }))
   where
     tail : List Parked
     tail = concat (tail_of T.queue)
 
     new : List Parked
-    new = parks T.next (wants m T es) ends
+    new = parks T.next (wants m.programs T es) ends
 
-    away : (i : ℕ) (p : Parked) → slice_get tail i ≡ Some p → NoneOf p.client (wants m T es)
-    away i p e = none_from p.client (wants m T es) (λ j w f h. none_not w.client (map resumed tail) i (resumed p) (tail_apart_of m T es j w one f) (map_get resumed tail i p e) (sym h))
+    away : (i : ℕ) (p : Parked) → slice_get tail i ≡ Some p → NoneOf p.client (wants m.programs T es)
+    away i p e = none_from p.client (wants m.programs T es) (λ j w f h. none_not w.client (map resumed tail) i (resumed p) (tail_apart_of m T es j w one f) (map_get resumed tail i p e) (sym h))
 
-want_ok : {B : Type 0} (m : Service B) (T : Tables) (O : Server B) (es : List Entry) (i : ℕ) (w : Want) → Mirrors m T O → slice_get (wants m T es) i ≡ Some w → WantOk m O w w.call
-want_ok {B} m T O es i w k e = go (get_cases (map resumed (head_of T.queue)) (map started (fresh_of m T [] es)) i w e)
+want_ok : {B : Type 0} (m : Service B) (T : Tables) (O : Server B) (es : List Entry) (i : ℕ) (w : Want) → Mirrors m T O → slice_get (wants m.programs T es) i ≡ Some w → WantOk m O w w.call
+want_ok {B} m T O es i w k e = go (get_cases (map resumed (head_of T.queue)) (map started (fresh_of m.programs T [] es)) i w e)
   where
     in_queue : (i : ℕ) (p : Parked) → slice_get (head_of T.queue) i ≡ Some p → slice_get (concat T.queue) i ≡ Some p
     in_queue i p f = subst (λ z. slice_get z i ≡ Some p) (sym (concat-head T.queue)) (get_left (head_of T.queue) (concat (tail_of T.queue)) i p f)
@@ -106,15 +106,15 @@ want_ok {B} m T O es i w k e = go (get_cases (map resumed (head_of T.queue)) (ma
         let g : slice_get (concat T.queue) i ≡ Some p = in_queue i p f in
         ((k.parked i p g).1 ∙ sym (k.last p.client), k.progress p.client ∙ ap in_progress (parked_at (concat T.queue) i p k.one g))
 
-    go : (slice_get (map resumed (head_of T.queue)) i ≡ Some w) ⊎ ((j : ℕ) × (slice_get (map started (fresh_of m T [] es)) j ≡ Some w)) → WantOk m O w w.call
+    go : (slice_get (map resumed (head_of T.queue)) i ≡ Some w) ⊎ ((j : ℕ) × (slice_get (map started (fresh_of m.programs T [] es)) j ≡ Some w)) → WantOk m O w w.call
     go (inl f) = let a = get_map resumed (head_of T.queue) i w f in subst (λ (z : Want). WantOk m O z z.call) a.2 (old i a.0 a.1)
     go (inr r) =
-        let a = get_map started (fresh_of m T [] es) r.0 w r.1 in
+        let a = get_map started (fresh_of m.programs T [] es) r.0 w r.1 in
         let f : IsFresh m T a.0 = is_fresh_parts m T a.0 (fresh-at m T [] es r.0 a.0 a.1).0 in
         subst (λ (z : Want). WantOk m O z z.call) a.2 (f.seq ∙ ap suc (sym (k.last a.0.client)), k.progress a.0.client ∙ ap in_progress f.idle, f.body, refl, omega (arith, (in_range_parts a.0 f.range).high))
 
-pub setting : {B : Type 0} (m : Service B) (T : Tables) (O : Server B) (es : List Entry) (J : List Seg) (order : List ℕ) → Mirrors m T O → job_of O.served (wants m T es) ≡ Some J → is_order (length J) order ≡ true
-    → Setting m O T.next (wants m T es) J order
+pub setting : {B : Type 0} (m : Service B) (T : Tables) (O : Server B) (es : List Entry) (J : List Seg) (order : List ℕ) → Mirrors m T O → job_of O.served (wants m.programs T es) ≡ Some J → is_order (length J) order ≡ true
+    → Setting m O T.next (wants m.programs T es) J order
 setting m T O es J order k e o =
     let p = and_parts (all_below (length J) order) (each_once (length J) order) o in
     record {
@@ -141,9 +141,9 @@ parked_is w k (Call t stage text) p f =
 told_call : {B : Type 0} (P : Server B) (w : Want) (k : ℕ) (e : Ending) (t : Tier) (stage : ℕ) (text : List ℕ) → ToldOne P w k e → e ≡ Call t stage text → P.calls t k ≡ Some text
 told_call P w k e t stage text o f = subst (ToldOne P w k) f o
 
-pub mirrors_kept : {B : Type 0} (m : Service B) (T : Tables) (O : Server B) (es : List Entry) (J : List Seg) (order : List ℕ) (P : Server B) → Mirrors m T O → Setting m O T.next (wants m T es) J order
-    → Partway O (acts_of m O T.next (wants m T es) J order) (wants m T es) order (serial m J order O.store) P → Bounded P
-    → Mirrors m (settled T (wants m T es) (finish m J order O.store)) P
+pub mirrors_kept : {B : Type 0} (m : Service B) (T : Tables) (O : Server B) (es : List Entry) (J : List Seg) (order : List ℕ) (P : Server B) → Mirrors m T O → Setting m O T.next (wants m.programs T es) J order
+    → Partway O (acts_of m O T.next (wants m.programs T es) J order) (wants m.programs T es) order (serial m.programs J order O.store) P → Bounded P
+    → Mirrors m (settled T (wants m.programs T es) (finish m.programs J order O.store)) P
 mirrors_kept {B} m T O es J order P k g r b = record {
   store = r.store;
   last = λ c. last c (find_client c ws);
@@ -156,7 +156,7 @@ mirrors_kept {B} m T O es J order P k g r b = record {
 }
   where
     ws : List Want
-    ws = wants m T es
+    ws = wants m.programs T es
 
     tail : List Parked
     tail = concat (tail_of T.queue)
@@ -174,7 +174,7 @@ mirrors_kept {B} m T O es J order P k g r b = record {
         r.ended i a e (omega arith)
 
     act : (i : ℕ) (w : Want) → slice_get ws i ≡ Some w → (a : Act) × (slice_get (acts_of m O T.next ws J order) i ≡ Some a) × (a.want ≡ w)
-    act i w e = want_acts T.next ws (ends_of m J order O.store) i w (omega (arith, job-length O.served ws J g.job, length-tabulate (length J) (serial_end m J order O.store))) e
+    act i w e = want_acts T.next ws (ends_of m J order O.store) i w (omega (arith, job-length O.served ws J g.job, length-tabulate (length J) (serial_end m.programs J order O.store))) e
 
     last : (c : ℕ) → ((i : ℕ) × (w : Want) × (slice_get ws i ≡ Some w) × (w.client ≡ c)) ⊎ NoneOf c ws → P.last c ≡ last_of (last_after ws T.last) c
     last c (inl f) =
@@ -195,7 +195,7 @@ mirrors_kept {B} m T O es J order P k g r b = record {
         ∙ ap in_progress (sym (parked-skip a.0.want.client tail new n)) ∙ ap (λ z. in_progress (parked_of a.0.want.client z)) (sym (concat-push (tail_of T.queue) new)))
     progress c (inr n) =
         (r.others c n).1 ∙ k.progress c ∙ ap (λ z. in_progress (parked_of c z)) (concat-head T.queue)
-        ∙ ap in_progress (parked-skip c (head_of T.queue) tail (none-parts c (map resumed (head_of T.queue)) (map started (fresh_of m T [] es)) n).0)
+        ∙ ap in_progress (parked-skip c (head_of T.queue) tail (none-parts c (map resumed (head_of T.queue)) (map started (fresh_of m.programs T [] es)) n).0)
         ∙ ap in_progress (sym (parked-stop c tail new (parks-out T.next ws (ends_of m J order O.store) c n))) ∙ ap (λ z. in_progress (parked_of c z)) (sym (concat-push (tail_of T.queue) new))
 
     calls : (t : Tier) (n : ℕ) (text : List ℕ) → (O.calls t n ≡ Some text) ⊎ ((i : ℕ) × (a : Act) × (slice_get (acts_of m O T.next ws J order) i ≡ Some a) × (0 < times i order) × Numbered a t n) → (0 < n) × (n < of_tier (next_after T.next (ends_of m J order O.store)) t)

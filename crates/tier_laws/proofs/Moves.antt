@@ -148,15 +148,15 @@ state_log σ None = refl
 state_log σ (Some R) = refl
 
 -- the round that is ready is applied
-pub ready_later : {B : Type 0} (c : Config B) (Q : Past B) (x : ℕ) (σ : Mid) (o : Option Ready) → Known c Q → MidOther c Q x σ → MoreLog σ.log.learned Q.log → ((R : Ready) → o ≡ Some R → ready c.service σ ≡ Some R)
+pub ready_later : {B : Type 0} (c : Config B) (Q : Past B) (x : ℕ) (σ : Mid) (o : Option Ready) → Known c Q → MidOther c Q x σ → MoreLog σ.log.learned Q.log → ((R : Ready) → o ≡ Some R → ready c.service.programs σ ≡ Some R)
     → MidOther c Q x (apply_state σ o) × Every (SentOk c Q) (apply_sends c.u x σ o)
 ready_later c Q x σ None k o pre f = (o, tt)
 ready_later c Q x σ (Some R) k o pre f = apply_ok c Q x σ R k o pre (f R refl)
 
-due_ready : {B : Type 0} (m : Service B) (σ : Mid) (s : LogState AnyValue) (R : Ready) → due_round m σ s ≡ Some R → ready m (with_log σ s) ≡ Some R
+due_ready : {B : Type 0} (m : Service B) (σ : Mid) (s : LogState AnyValue) (R : Ready) → due_round m.programs σ s ≡ Some R → ready m.programs (with_log σ s) ≡ Some R
 due_ready m σ s R e = go (is_due σ s) e
   where
-    go : (b : Bool) → cond b (ready m (with_log σ s)) None ≡ Some R → ready m (with_log σ s) ≡ Some R
+    go : (b : Bool) → cond b (ready m.programs (with_log σ s)) None ≡ Some R → ready m.programs (with_log σ s) ≡ Some R
     go true f = f
     go false f = absurd (cc)
 
@@ -164,20 +164,20 @@ log_other : {B : Type 0} (c : Config B) (Q : Past B) (x : ℕ) (σ : Mid) (s : L
 log_other c Q x σ s o = record { is_after = o.is_after; tables = o.tables; pending = o.pending; tally = o.tally; spec = o.spec; held = o.held; noted = o.noted }
 
 pub log_move : {B : Type 0} (c : Config B) (P : Past B) (h : ℕ → List (LogFact AnyValue)) (soup : List Packet) (x : ℕ) (σ : Mid) (t : Turn AnyValue) (own : Option AnyValue) → Here c P h soup x σ → TurnOk c.u h (mid_soup soup) x t → Origins c.u h x own t
-    → ((v : AnyValue) → own ≡ Some v → MidOk c P (length t.state.learned) v) → MoveOk c P h soup x [] (in_log c.u c.service x σ t)
+    → ((v : AnyValue) → own ≡ Some v → MidOk c P (length t.state.learned) v) → MoveOk c P h soup x [] (in_log c.u c.service.programs x σ t)
 log_move {B} c P h soup x σ t own k ok from fine = record {
   turn = t;
   turn_ok = ok;
   good = λ p b w d. good p w (from.from p b w d);
   is_facts = log_facts-map t.facts;
-  is_sends = mid_soup-append (log_packets MidTier x t.sends) (apply_sends c.u x (with_log σ t.state) (due_round c.service σ t.state)) ∙ ap (λ z. mid_soup (log_packets MidTier x t.sends) ++ z) (no_mid _ (none_apply c.u x (with_log σ t.state) (due_round c.service σ t.state))) ∙ append-nil (mid_soup (log_packets MidTier x t.sends)) ∙ mid_soup-log x t.sends;
-  is_log = state_log (with_log σ t.state) (due_round c.service σ t.state);
-  no_back = λ v. back_soup-append v (log_packets MidTier x t.sends) (apply_sends c.u x (with_log σ t.state) (due_round c.service σ t.state)) ∙ ap (λ z. z ++ back_soup v (apply_sends c.u x (with_log σ t.state) (due_round c.service σ t.state))) (back_soup-mid v x t.sends) ∙ no_back _ (none_apply c.u x (with_log σ t.state) (due_round c.service σ t.state)) v;
+  is_sends = mid_soup-append (log_packets MidTier x t.sends) (apply_sends c.u x (with_log σ t.state) (due_round c.service.programs σ t.state)) ∙ ap (λ z. mid_soup (log_packets MidTier x t.sends) ++ z) (no_mid _ (none_apply c.u x (with_log σ t.state) (due_round c.service.programs σ t.state))) ∙ append-nil (mid_soup (log_packets MidTier x t.sends)) ∙ mid_soup-log x t.sends;
+  is_log = state_log (with_log σ t.state) (due_round c.service.programs σ t.state);
+  no_back = λ v. back_soup-append v (log_packets MidTier x t.sends) (apply_sends c.u x (with_log σ t.state) (due_round c.service.programs σ t.state)) ∙ ap (λ z. z ++ back_soup v (apply_sends c.u x (with_log σ t.state) (due_round c.service.programs σ t.state))) (back_soup-mid v x t.sends) ∙ no_back _ (none_apply c.u x (with_log σ t.state) (due_round c.service.programs σ t.state)) v;
   codes = λ i q e. absurd (let f : slice_get [] i ≡ Some q = subst (λ z. slice_get z i ≡ Some q) (helds-map t.facts) e in cc);
   runs = λ i r e. absurd (cc);
   later = λ Q g kn e rs.
       let o : MidOther c Q x σ = other-more c P Q x σ g (e ∙ ap (λ z. P.codes x ++ z) (helds-map t.facts) ∙ append-nil (P.codes x)) k.other in
-      let r = ready_later c Q x (with_log σ t.state) (due_round c.service σ t.state) kn (log_other c Q x σ t.state o) (record { at = λ p v f. g.log.at p v ((state_more c.u h (mid_soup soup) P.log x t ok k.complete).at p v f) }) (λ R f. due_ready c.service σ t.state R f) in
+      let r = ready_later c Q x (with_log σ t.state) (due_round c.service.programs σ t.state) kn (log_other c Q x σ t.state o) (record { at = λ p v f. g.log.at p v ((state_more c.u h (mid_soup soup) P.log x t ok k.complete).at p v f) }) (λ R f. due_ready c.service σ t.state R f) in
       record { other = r.0; sends = every-append (SentOk c Q) (log_packets MidTier x t.sends) _ (every-log c Q MidTier x t.sends) r.1 };
 }
   where

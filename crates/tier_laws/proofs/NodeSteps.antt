@@ -4,8 +4,8 @@ use Rattle.std.specs.Prelude.{slice_get}
 use Rattle.std.proofs.lemmas.Bool.{or_parts}
 use Rattle.log_model.specs.Recover.{newest, onto}
 use Rattle.log_model.specs.World.{Device, Mode, Node, failed, is_fine, recorded, stands}
-use Rattle.log_model.specs.World.Device.{Fine, CutKeep, CutDrop, Fault}
-use Rattle.log_model.specs.World.Mode.{Down, Gone, Up}
+use Rattle.log_model.specs.Nodes.Device.{Fine, CutKeep, CutDrop, Fault}
+use Rattle.log_model.specs.Nodes.Mode.{Down, Gone, Up}
 use Rattle.log_model.specs.declared.fact.Fact.{Fact as LogFact}
 use Rattle.log_model.proofs.History.{newest-push}
 use Rattle.log_values.specs.declared.any_value.AnyValue.{AnyValue}

@@ -48,38 +48,38 @@ use Rattle.tier_model.specs.Moves.{Packet, asks}
 
 -- OWN VALUES
 
-fresh_get : {B : Type 0} (m : Service B) (T : Tables) (o : Option Entry) (i : ℕ) (e : Entry) → slice_get (if_fresh m T o) i ≡ Some e → o ≡ Some e
+fresh_get : {B : Type 0} (m : Service B) (T : Tables) (o : Option Entry) (i : ℕ) (e : Entry) → slice_get (if_fresh m.programs T o) i ≡ Some e → o ≡ Some e
 fresh_get m T None i e f = absurd (cc)
-fresh_get m T (Some d) i e f = go (is_fresh m T d) i f
+fresh_get m T (Some d) i e f = go (is_fresh m.programs T d) i f
   where
     go : (b : Bool) (i : ℕ) → slice_get (cond b (d ∷ []) []) i ≡ Some e → Some d ≡ Some e
     go true zero g = g
     go true (suc i) g = absurd (cc)
     go false i g = absurd (cc)
 
-pending_get : {B : Type 0} (m : Service B) (T : Tables) (pending : List (Option Entry)) (n i : ℕ) (e : Entry) → slice_get (fresh_pending m T pending n) i ≡ Some e → (y : ℕ) × (pending_of pending y ≡ Some e)
+pending_get : {B : Type 0} (m : Service B) (T : Tables) (pending : List (Option Entry)) (n i : ℕ) (e : Entry) → slice_get (fresh_pending m.programs T pending n) i ≡ Some e → (y : ℕ) × (pending_of pending y ≡ Some e)
 pending_get m T pending zero i e f = absurd (cc)
-pending_get {B} m T pending (suc n) i e f = go (get_cases (fresh_pending m T pending n) (if_fresh m T (pending_of pending (suc n))) i e f) (λ i f. pending_get m T pending n i e f)
+pending_get {B} m T pending (suc n) i e f = go (get_cases (fresh_pending m.programs T pending n) (if_fresh m.programs T (pending_of pending (suc n))) i e f) (λ i f. pending_get m T pending n i e f)
   where
-    go : (slice_get (fresh_pending m T pending n) i ≡ Some e) ⊎ ((j : ℕ) × (slice_get (if_fresh m T (pending_of pending (suc n))) j ≡ Some e)) → ((i : ℕ) → slice_get (fresh_pending m T pending n) i ≡ Some e → (y : ℕ) × (pending_of pending y ≡ Some e)) → (y : ℕ) × (pending_of pending y ≡ Some e)
+    go : (slice_get (fresh_pending m.programs T pending n) i ≡ Some e) ⊎ ((j : ℕ) × (slice_get (if_fresh m.programs T (pending_of pending (suc n))) j ≡ Some e)) → ((i : ℕ) → slice_get (fresh_pending m.programs T pending n) i ≡ Some e → (y : ℕ) × (pending_of pending y ≡ Some e)) → (y : ℕ) × (pending_of pending y ≡ Some e)
     go (inl g) r = r i g
     go (inr g) r = (suc n, fresh_get m T (pending_of pending (suc n)) g.0 e g.1)
 
-batch_ok : {B : Type 0} (c : Config B) (P : Past B) (h : ℕ → List (LogFact AnyValue)) (soup : List Packet) (x : ℕ) (σ : Mid) (v : AnyValue) → Here c P h soup x σ → odd (open_at σ.log) ≡ false → own_batch c.service σ (half (open_at σ.log)) ≡ Some v → MidOk c P (open_at σ.log) v
-batch_ok {B} c P h soup x σ v k o e = go (nat_lt σ.applied (half (open_at σ.log))) (is_nil (fresh_pending c.service σ.tables σ.pending 16) && is_nil (concat σ.tables.queue)) e
+batch_ok : {B : Type 0} (c : Config B) (P : Past B) (h : ℕ → List (LogFact AnyValue)) (soup : List Packet) (x : ℕ) (σ : Mid) (v : AnyValue) → Here c P h soup x σ → odd (open_at σ.log) ≡ false → own_batch c.service.programs σ (half (open_at σ.log)) ≡ Some v → MidOk c P (open_at σ.log) v
+batch_ok {B} c P h soup x σ v k o e = go (nat_lt σ.applied (half (open_at σ.log))) (is_nil (fresh_pending c.service.programs σ.tables σ.pending 16) && is_nil (concat σ.tables.queue)) e
   where
-    entries : BatchOk P (take 8 (fresh_pending c.service σ.tables σ.pending 16))
-    entries i d f = let q = pending_get c.service σ.tables σ.pending 16 i d (take_get 8 (fresh_pending c.service σ.tables σ.pending 16) i d f) in k.other.pending q.0 d q.1
+    entries : BatchOk P (take 8 (fresh_pending c.service.programs σ.tables σ.pending 16))
+    entries i d f = let q = pending_get c.service σ.tables σ.pending 16 i d (take_get 8 (fresh_pending c.service.programs σ.tables σ.pending 16) i d f) in k.other.pending q.0 d q.1
 
-    go : (a b : Bool) → cond a None (cond b None (Some (OfMid (Batch (take 8 (fresh_pending c.service σ.tables σ.pending 16)))))) ≡ Some v → MidOk c P (open_at σ.log) v
+    go : (a b : Bool) → cond a None (cond b None (Some (OfMid (Batch (take 8 (fresh_pending c.service.programs σ.tables σ.pending 16)))))) ≡ Some v → MidOk c P (open_at σ.log) v
     go true b f = absurd (cc)
     go false true f = absurd (cc)
-    go false false f = let s : OfMid (Batch (take 8 (fresh_pending c.service σ.tables σ.pending 16))) ≡ v = cc in subst (MidOk c P (open_at σ.log)) s (o, entries)
+    go false false f = let s : OfMid (Batch (take 8 (fresh_pending c.service.programs σ.tables σ.pending 16))) ≡ v = cc in subst (MidOk c P (open_at σ.log)) s (o, entries)
 
-pub own_ok : {B : Type 0} (c : Config B) (P : Past B) (h : ℕ → List (LogFact AnyValue)) (soup : List Packet) (x : ℕ) (σ : Mid) (v : AnyValue) → Here c P h soup x σ → own_value c.u c.service σ ≡ Some v → MidOk c P (open_at σ.log) v
+pub own_ok : {B : Type 0} (c : Config B) (P : Past B) (h : ℕ → List (LogFact AnyValue)) (soup : List Packet) (x : ℕ) (σ : Mid) (v : AnyValue) → Here c P h soup x σ → own_value c.u c.service.programs σ ≡ Some v → MidOk c P (open_at σ.log) v
 own_ok {B} c P h soup x σ v k e = go (odd (open_at σ.log)) refl e
   where
-    go : (b : Bool) → odd (open_at σ.log) ≡ b → cond b (and_then (verdict c.u σ.tally (half (open_at σ.log))) (λ v. Some (OfMid (Decided v)))) (own_batch c.service σ (half (open_at σ.log))) ≡ Some v → MidOk c P (open_at σ.log) v
+    go : (b : Bool) → odd (open_at σ.log) ≡ b → cond b (and_then (verdict c.u σ.tally (half (open_at σ.log))) (λ v. Some (OfMid (Decided v)))) (own_batch c.service.programs σ (half (open_at σ.log))) ≡ Some v → MidOk c P (open_at σ.log) v
     go true o f =
         let p = then_parts (verdict c.u σ.tally (half (open_at σ.log))) (λ v. Some (OfMid (Decided v))) v f in
         let s : OfMid (Decided p.0) ≡ v = let g = p.2 in cc in
@@ -210,21 +210,21 @@ retry_ok {B} c P h soup x σ k = record {
 
 -- LEADING AND OFFERING
 
-pub leads_ok : {B : Type 0} (c : Config B) (P : Past B) (h : ℕ → List (LogFact AnyValue)) (soup : List Packet) (x : ℕ) (σ : Mid) → Here c P h soup x σ → MoveOk c P h soup x [] (leads c.u c.service x σ)
+pub leads_ok : {B : Type 0} (c : Config B) (P : Past B) (h : ℕ → List (LogFact AnyValue)) (soup : List Packet) (x : ℕ) (σ : Mid) → Here c P h soup x σ → MoveOk c P h soup x [] (leads c.u c.service.programs x σ)
 leads_ok c P h soup x σ k = log_move c P h soup x σ (lead c.u x σ.log) None k (lead_ok c.u h (mid_soup soup) x σ.log (knows c P h soup x σ k)) (lead_from c.u h x σ.log k.inside) (λ v e. absurd (cc))
 
-pub offers_ok : {B : Type 0} (c : Config B) (P : Past B) (h : ℕ → List (LogFact AnyValue)) (soup : List Packet) (x : ℕ) (σ : Mid) → Here c P h soup x σ → MoveOk c P h soup x [] (offers c.u c.service x σ)
+pub offers_ok : {B : Type 0} (c : Config B) (P : Past B) (h : ℕ → List (LogFact AnyValue)) (soup : List Packet) (x : ℕ) (σ : Mid) → Here c P h soup x σ → MoveOk c P h soup x [] (offers c.u c.service.programs x σ)
 offers_ok {B} c P h soup x σ k = go (log_wants c.u σ.log)
   where
-    offered : MoveOk c P h soup x [] (in_log c.u c.service x σ (offer c.u x σ.log (own_value c.u c.service σ)))
-    offered = log_move c P h soup x σ (offer c.u x σ.log (own_value c.u c.service σ)) (own_value c.u c.service σ) k (offer_ok c.u h (mid_soup soup) x σ.log σ.log.leader (own_value c.u c.service σ) (knows c P h soup x σ k) k.log.leader)
-        (offer_from c.u h x σ.log σ.log.leader (own_value c.u c.service σ) k.inside k.log.leader)
-        (λ v e. subst (λ z. MidOk c P (length z) v) (sym (offer_learned c.u x σ.log σ.log.leader (own_value c.u c.service σ))) (own_ok c P h soup x σ v k e))
+    offered : MoveOk c P h soup x [] (in_log c.u c.service.programs x σ (offer c.u x σ.log (own_value c.u c.service.programs σ)))
+    offered = log_move c P h soup x σ (offer c.u x σ.log (own_value c.u c.service.programs σ)) (own_value c.u c.service.programs σ) k (offer_ok c.u h (mid_soup soup) x σ.log σ.log.leader (own_value c.u c.service.programs σ) (knows c P h soup x σ k) k.log.leader)
+        (offer_from c.u h x σ.log σ.log.leader (own_value c.u c.service.programs σ) k.inside k.log.leader)
+        (λ v e. subst (λ z. MidOk c P (length z) v) (sym (offer_learned c.u x σ.log σ.log.leader (own_value c.u c.service.programs σ))) (own_ok c P h soup x σ v k e))
 
-    go : (o : Offering) → MoveOk c P h soup x [] (offers_as c.u c.service x σ o)
+    go : (o : Offering) → MoveOk c P h soup x [] (offers_as c.u c.service.programs x σ o)
     go NotLeader = stays_ok c P h soup x σ k
     go (NoPromises have) = stays_ok c P h soup x σ k
     go (InFlight p) = stays_ok c P h soup x σ k
     go LogFull = stays_ok c P h soup x σ k
     go Taken = offered
-    go (Free p) = cond_both (is_some (own_value c.u c.service σ)) (in_log c.u c.service x σ (offer c.u x σ.log (own_value c.u c.service σ))) (idles σ (own_cause c.u σ)) (MoveOk c P h soup x []) (λ e. offered) (λ e. stays_ok c P h soup x σ k)
+    go (Free p) = cond_both (is_some (own_value c.u c.service.programs σ)) (in_log c.u c.service.programs x σ (offer c.u x σ.log (own_value c.u c.service.programs σ))) (idles σ (own_cause c.u σ)) (MoveOk c P h soup x []) (λ e. offered) (λ e. stays_ok c P h soup x σ k)

@@ -61,7 +61,7 @@ floor-more c P Q t f g k = record {
 pub job_held-more : {B : Type 0} (c : Config B) (P Q : Past B) (ws : List Want) → Grows P Q → JobHeld c P ws → JobHeld c Q ws
 job_held-more c P Q ws g k = record { at = λ i w q e f. many-more c P Q q.tier q.num g (k.at i w q e f) }
 
-pub is_round-more : {B : Type 0} (c : Config B) (P Q : Past B) (r : ℕ) (R : Round) → Grows P Q → round c.service c.depth P.log P.server.served r ≡ Some R → round c.service c.depth Q.log Q.server.served r ≡ Some R
+pub is_round-more : {B : Type 0} (c : Config B) (P Q : Past B) (r : ℕ) (R : Round) → Grows P Q → round c.service.programs c.depth P.log P.server.served r ≡ Some R → round c.service.programs c.depth Q.log Q.server.served r ≡ Some R
 is_round-more c P Q r R g e = round-more c.service c.depth P.log Q.log P.server.served Q.server.served r R g.log (answers-kept P.server Q.server g.kept) e
 
 pub run_ok-more : {B : Type 0} (c : Config B) (P Q : Past B) (v : Vote) → Grows P Q → RunOk c P v → RunOk c Q v

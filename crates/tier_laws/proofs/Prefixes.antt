@@ -117,7 +117,7 @@ many_holders c es k t n many = ((λ x. is_some (code_of (k.inv.codes x) t n)), m
 pub round_holders : {B : Type 0} (c : Config B) (es : List TraceEvent) (e : TraceEvent) (r : ℕ) (v : Verdict) → c.u < 128 → Laws c.service → length (world c es).log ≤ 2 * r + 1 → slice_get (world c (es ++ e ∷ [])).log (2 * r + 1) ≡ Some (OfMid (Decided v)) → HeldBefore c es r
 round_holders {B} c es e r v few laws l f = record {
   made = o.made;
-  is_round = subst (λ A. round c.service c.depth (world c es).log A r ≡ Some o.made) (sym (served_same c (world c es) k.inv.codes k.inv.h k.inv.k k.inv.core)) o.is_round;
+  is_round = subst (λ A. round c.service.programs c.depth (world c es).log A r ≡ Some o.made) (sym (served_same c (world c es) k.inv.codes k.inv.h k.inv.k k.inv.core)) o.is_round;
   held = λ j q n g h. many_holders c es k n.tier n.num (o.held.at j q n g h);
 }
   where

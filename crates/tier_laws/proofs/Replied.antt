@@ -123,10 +123,10 @@ reply_step {B} m (x ∷ h) s j who text e = go (reply_step m h next j who text e
     go (inl f) = here ((step_told m s x.0 x.1).at j who text f)
     go (inr k) = inr (suc k.0, record { is = k.1.is; is_step = k.1.is_step; tells = k.1.tells })
 
-first_step : {B : Type 0} (c : Config B) (w : World B) (who : ReqId) (text : List ℕ) → HasReply c w who text → (k : ℕ) × ReplyStep c.service.meaning (real.opening_server c.service.meaning) w.hist k who text
-first_step {B} c w who text r = go (reply_step c.service.meaning w.hist (real.opening_server c.service.meaning) r.0 who text r.1)
+first_step : {B : Type 0} (c : Config B) (w : World B) (who : ReqId) (text : List ℕ) → HasReply c w who text → (k : ℕ) × ReplyStep (meaning c.service) (real.opening_server (meaning c.service)) w.hist k who text
+first_step {B} c w who text r = go (reply_step (meaning c.service) w.hist (real.opening_server (meaning c.service)) r.0 who text r.1)
   where
-    go : (slice_get {X = ReqId × List ℕ} [] r.0 ≡ Some (who, text)) ⊎ ((k : ℕ) × ReplyStep c.service.meaning (real.opening_server c.service.meaning) w.hist k who text) → (k : ℕ) × ReplyStep c.service.meaning (real.opening_server c.service.meaning) w.hist k who text
+    go : (slice_get {X = ReqId × List ℕ} [] r.0 ≡ Some (who, text)) ⊎ ((k : ℕ) × ReplyStep (meaning c.service) (real.opening_server (meaning c.service)) w.hist k who text) → (k : ℕ) × ReplyStep (meaning c.service) (real.opening_server (meaning c.service)) w.hist k who text
     go (inl f) = absurd (cc)
     go (inr k) = k
 
@@ -134,7 +134,7 @@ first_step {B} c w who text r = go (reply_step c.service.meaning w.hist (real.op
 replies_later : {B : Type 0} (c : Config B) (w z : World B) (who : ReqId) (text : List ℕ) → IsFront w.hist z.hist → HasReply c w who text → (j : ℕ) × RepliesAt c z j who text × (j < length w.hist)
 replies_later {B} c w z who text f r = (k.0, record { step = k.1.is; is_step = ap (λ h. slice_get h k.0) f.1 ∙ get_left w.hist f.0 k.0 k.1.is k.1.is_step; tells = tells }, below)
   where
-    k : (j : ℕ) × ReplyStep c.service.meaning (real.opening_server c.service.meaning) w.hist j who text
+    k : (j : ℕ) × ReplyStep (meaning c.service) (real.opening_server (meaning c.service)) w.hist j who text
     k = first_step c w who text r
 
     below : k.0 < length w.hist
@@ -143,8 +143,8 @@ replies_later {B} c w z who text f r = (k.0, record { step = k.1.is; is_step = a
     same : take k.0 z.hist ≡ take k.0 w.hist
     same = ap (take k.0) f.1 ∙ take-append-le k.0 w.hist f.0 (omega (arith, below))
 
-    tells : history.told_by (real.step c.service.meaning (history.server_after c.service.meaning (take k.0 z.hist)) k.1.is.0 k.1.is.1) ≡ Replied who text ∷ []
-    tells = ap (λ h. history.told_by (real.step c.service.meaning (history.server_after c.service.meaning h) k.1.is.0 k.1.is.1)) same ∙ k.1.tells
+    tells : history.told_by (real.step (meaning c.service) (history.server_after (meaning c.service) (take k.0 z.hist)) k.1.is.0 k.1.is.1) ≡ Replied who text ∷ []
+    tells = ap (λ h. history.told_by (real.step (meaning c.service) (history.server_after (meaning c.service) h) k.1.is.0 k.1.is.1)) same ∙ k.1.tells
 
 -- NO STEP OF THE REQUEST STANDS BEHIND ITS REPLY
 
@@ -208,14 +208,14 @@ ran_leaves {B} O P d s body num store (Call t stage text) c n newer e =
     let q = not_refused (is_some (O.calls t num)) 8 (Done (called O d s body num store t stage text)) P p.1 in
     subst (λ z. Leaves O z c n) (same_done (called O d s body num store t stage text) P q.1) (record { over = λ k. called_over O d s body num store t stage text c n (newer k) k; new = λ u f. inl (u, f) })
 
-serve_leaves : {B : Type 0} (m : Service B) (O P : Server B) (t : Tier) (num : ℕ) (a : Option (List ℕ)) (b : Option ℕ) (c n : ℕ) → serves m O t num a b ≡ Done P → Leaves O P c n
+serve_leaves : {B : Type 0} (m : Service B) (O P : Server B) (t : Tier) (num : ℕ) (a : Option (List ℕ)) (b : Option ℕ) (c n : ℕ) → serves (m.backend O) t num a b ≡ Done P → Leaves O P c n
 serve_leaves m O P Mid num a b c n e = absurd (cc)
 serve_leaves m O P Inv num None b c n e = absurd (cc)
 serve_leaves m O P Inv num (Some text) (Some code) c n e = absurd (cc)
-serve_leaves m O P Inv num (Some text) None c n e = subst (λ z. Leaves O z c n) (same_done (coded O Inv num (m.meaning.serve Inv (O.backs Inv) text)) P e) (record { over = λ k. record { last = k.last; next = k.next }; new = λ u f. inl (u, f) })
+serve_leaves m O P Inv num (Some text) None c n e = subst (λ z. Leaves O z c n) (same_done (coded O Inv num ((m.backend Inv).serve (O.backs Inv) text)) P e) (record { over = λ k. record { last = k.last; next = k.next }; new = λ u f. inl (u, f) })
 serve_leaves m O P Pay num None b c n e = absurd (cc)
 serve_leaves m O P Pay num (Some text) (Some code) c n e = absurd (cc)
-serve_leaves m O P Pay num (Some text) None c n e = subst (λ z. Leaves O z c n) (same_done (coded O Pay num (m.meaning.serve Pay (O.backs Pay) text)) P e) (record { over = λ k. record { last = k.last; next = k.next }; new = λ u f. inl (u, f) })
+serve_leaves m O P Pay num (Some text) None c n e = subst (λ z. Leaves O z c n) (same_done (coded O Pay num ((m.backend Pay).serve (O.backs Pay) text)) P e) (record { over = λ k. record { last = k.last; next = k.next }; new = λ u f. inl (u, f) })
 
 -- a step that is made starts or goes on with a request that isn't over
 record Made {B : Type 0} (O P : Server B) (h : Hist) (c n : ℕ) : Type 0 where
@@ -233,7 +233,7 @@ start_made {B} m O P asked num body c n e = made O P (Start asked num) asked c n
     last_row = ran O asked.client asked.seq body num (run m (first_seg asked.client asked.seq body) O.store).store (run m (first_seg asked.client asked.seq body) O.store).ending
 
     row3 : Result (Server B)
-    row3 = cond (not (is_request m (record { client = asked.client; seq = asked.seq }) body)) (Refused 3) last_row
+    row3 = cond (not (is_request m.programs (record { client = asked.client; seq = asked.seq }) body)) (Refused 3) last_row
 
     row2 : Result (Server B)
     row2 = cond (is_some (O.progress asked.client)) (Refused 2) row3
@@ -250,8 +250,8 @@ start_made {B} m O P asked num body c n e = made O P (Start asked num) asked c n
     three : (is_some (O.progress asked.client) ≡ false) × (row3 ≡ Done P)
     three = not_refused (is_some (O.progress asked.client)) 2 row3 P two.1
 
-    four : (not (is_request m (record { client = asked.client; seq = asked.seq }) body) ≡ false) × (last_row ≡ Done P)
-    four = not_refused (not (is_request m (record { client = asked.client; seq = asked.seq }) body)) 3 last_row P three.1
+    four : (not (is_request m.programs (record { client = asked.client; seq = asked.seq }) body) ≡ false) × (last_row ≡ Done P)
+    four = not_refused (not (is_request m.programs (record { client = asked.client; seq = asked.seq }) body)) 3 last_row P three.1
 
     negated : (b : Bool) → not b ≡ false → b ≡ true
     negated true f = refl

@@ -27,7 +27,7 @@ step_for w (Some c) k = (Resume (record { client = w.client; seq = w.seq }) k, [
 
 -- the want can run at the server
 abbrev pub WantOk : {B : Type 0} → Service B → Server B → Want → Option Number → Type 0
-WantOk m O w None = (w.seq ≡ suc (O.last w.client)) × (O.progress w.client ≡ None) × (is_request m (record { client = w.client; seq = w.seq }) w.body ≡ true) × (w.stage ≡ 0) × (w.client < 17)
+WantOk m O w None = (w.seq ≡ suc (O.last w.client)) × (O.progress w.client ≡ None) × (is_request m.programs (record { client = w.client; seq = w.seq }) w.body ≡ true) × (w.stage ≡ 0) × (w.client < 17)
 WantOk m O w (Some k) = (w.seq ≡ O.last w.client) × (O.progress w.client ≡ Some (record { seq = w.seq; body = w.body; stage = w.stage; tier = k.tier; num = k.num }))
 
 -- the number is 0 where the segment replies, and new where it calls
@@ -44,7 +44,7 @@ ran_done : {B : Type 0} (O : Server B) (w : Want) (k : ℕ) (store : Store) (e :
 ran_done O w k store (Reply text) n = rw n refl
 ran_done O w k store (Call t stage text) n = rw (ne_eqb k 0 (omega arith), n.1) refl
 
-start_done : {B : Type 0} (m : Service B) (O : Server B) (c s : ℕ) (body : List ℕ) (k : ℕ) → s ≡ suc (O.last c) → O.progress c ≡ None → is_request m (record { client = c; seq = s }) body ≡ true → c < 17
+start_done : {B : Type 0} (m : Service B) (O : Server B) (c s : ℕ) (body : List ℕ) (k : ℕ) → s ≡ suc (O.last c) → O.progress c ≡ None → is_request m.programs (record { client = c; seq = s }) body ≡ true → c < 17
     → step m O (Start (record { client = c; seq = s }) k, body) ≡ ran O c s body k (run m (first_seg c s body) O.store).store (run m (first_seg c s body) O.store).ending
 start_done m O c s body k e f g l = rw (lt-ltb c 17 l, eq-eqb s (suc (O.last c)) e, f, g) refl
 

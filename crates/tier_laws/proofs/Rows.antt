@@ -137,34 +137,34 @@ runs_ok {B} c P h soup x σ r k from ok = plain c P h soup x σ (r.vote ∷ []) 
           sends = every-each (SentOk c Q) (2 * c.u + 1) (is x) (token_to x r.vote) (λ y. subst (λ z. DidRun Q (record { round = r.vote.round; from = z; token = r.vote.token; order = r.vote.order })) from mine);
         }
 
-ran_from : {B : Type 0} (u : ℕ) (m : Service B) (x : ℕ) (σ : Mid) (schedule : List ℕ) (r : Running) → to_run u m x σ schedule ≡ Some r → r.vote.from ≡ x
+ran_from : {B : Type 0} (u : ℕ) (m : Service B) (x : ℕ) (σ : Mid) (schedule : List ℕ) (r : Running) → to_run u m.programs x σ schedule ≡ Some r → r.vote.from ≡ x
 ran_from {B} u m x σ schedule r e = go (is_some σ.spec) e
   where
-    some : and_then (batch_at σ.log.learned σ.applied) (λ es. and_then (job_of (usable_here u x σ) (wants m σ.tables es)) (λ J. Some (running m x σ (run_job m.begins J σ.tables.store schedule)))) ≡ Some r → r.vote.from ≡ x
+    some : and_then (batch_at σ.log.learned σ.applied) (λ es. and_then (job_of (usable_here u x σ) (wants m.programs σ.tables es)) (λ J. Some (running m.programs x σ (run_job m.programs.begins J σ.tables.store schedule)))) ≡ Some r → r.vote.from ≡ x
     some f =
-        let p = then_parts (batch_at σ.log.learned σ.applied) (λ es. and_then (job_of (usable_here u x σ) (wants m σ.tables es)) (λ J. Some (running m x σ (run_job m.begins J σ.tables.store schedule)))) r f in
-        let q = then_parts (job_of (usable_here u x σ) (wants m σ.tables p.0)) (λ J. Some (running m x σ (run_job m.begins J σ.tables.store schedule))) r p.2 in
-        let s : running m x σ (run_job m.begins q.0 σ.tables.store schedule) ≡ r = let h = q.2 in cc in sym (ap (λ (z : Running). z.vote.from) s)
+        let p = then_parts (batch_at σ.log.learned σ.applied) (λ es. and_then (job_of (usable_here u x σ) (wants m.programs σ.tables es)) (λ J. Some (running m.programs x σ (run_job m.programs.begins J σ.tables.store schedule)))) r f in
+        let q = then_parts (job_of (usable_here u x σ) (wants m.programs σ.tables p.0)) (λ J. Some (running m.programs x σ (run_job m.programs.begins J σ.tables.store schedule))) r p.2 in
+        let s : running m.programs x σ (run_job m.programs.begins q.0 σ.tables.store schedule) ≡ r = let h = q.2 in cc in sym (ap (λ (z : Running). z.vote.from) s)
 
-    go : (b : Bool) → cond b None (and_then (batch_at σ.log.learned σ.applied) (λ es. and_then (job_of (usable_here u x σ) (wants m σ.tables es)) (λ J. Some (running m x σ (run_job m.begins J σ.tables.store schedule))))) ≡ Some r → r.vote.from ≡ x
+    go : (b : Bool) → cond b None (and_then (batch_at σ.log.learned σ.applied) (λ es. and_then (job_of (usable_here u x σ) (wants m.programs σ.tables es)) (λ J. Some (running m.programs x σ (run_job m.programs.begins J σ.tables.store schedule))))) ≡ Some r → r.vote.from ≡ x
     go true f = absurd (cc)
     go false f = some f
 
-ready_state : {B : Type 0} (c : Config B) (P : Past B) (h : ℕ → List (LogFact AnyValue)) (soup : List Packet) (x : ℕ) (σ : Mid) (o : Option Ready) → Here c P h soup x σ → ready c.service σ ≡ o → MoveOk c P h soup x [] (applies c.u c.service x σ o)
+ready_state : {B : Type 0} (c : Config B) (P : Past B) (h : ℕ → List (LogFact AnyValue)) (soup : List Packet) (x : ℕ) (σ : Mid) (o : Option Ready) → Here c P h soup x σ → ready c.service.programs σ ≡ o → MoveOk c P h soup x [] (applies c.u c.service.programs x σ o)
 ready_state c P h soup x σ None k f = stays_ok c P h soup x σ k
-ready_state {B} c P h soup x σ (Some R) k f = plain c P h soup x σ [] (applies c.u c.service x σ (Some R)) k refl refl (none_apply c.u x σ (Some R)) (λ i q e. absurd (cc)) (λ i r e. absurd (cc))
+ready_state {B} c P h soup x σ (Some R) k f = plain c P h soup x σ [] (applies c.u c.service.programs x σ (Some R)) k refl refl (none_apply c.u x σ (Some R)) (λ i q e. absurd (cc)) (λ i r e. absurd (cc))
     (λ Q g kn e rs.
     let o : MidOther c Q x σ = other-more c P Q x σ g (e ∙ append-nil (P.codes x)) k.other in
     let r = ready_later c Q x σ (Some R) kn o (record { at = λ p v f. g.log.at p v ((prefix c P h soup x σ k).at p v f) }) (λ S g. f ∙ g) in
     record { other = r.0; sends = r.1 })
 
-run_or_not_ok : {B : Type 0} (c : Config B) (P : Past B) (h : ℕ → List (LogFact AnyValue)) (soup : List Packet) (x : ℕ) (σ : Mid) (schedule : List ℕ) (o : Option Running) → Here c P h soup x σ → to_run c.u c.service x σ schedule ≡ o → MoveOk c P h soup x (the_run o) (runs_or_not c.u c.service x σ o)
+run_or_not_ok : {B : Type 0} (c : Config B) (P : Past B) (h : ℕ → List (LogFact AnyValue)) (soup : List Packet) (x : ℕ) (σ : Mid) (schedule : List ℕ) (o : Option Running) → Here c P h soup x σ → to_run c.u c.service.programs x σ schedule ≡ o → MoveOk c P h soup x (the_run o) (runs_or_not c.u c.service.programs x σ o)
 run_or_not_ok c P h soup x σ schedule None k e = stays_ok c P h soup x σ k
 run_or_not_ok c P h soup x σ schedule (Some r) k e = runs_ok c P h soup x σ r k (ran_from c.u c.service x σ schedule r e) (run_right c P x σ schedule r k.inside k.laws k.known k.other (prefix c P h soup x σ k) e)
 
-pub work_ok : {B : Type 0} (c : Config B) (P : Past B) (h : ℕ → List (LogFact AnyValue)) (soup : List Packet) (x : ℕ) (σ : Mid) (schedule : List ℕ) → Here c P h soup x σ → MoveOk c P h soup x (the_run (work_run c.u c.service x σ schedule)) (work c.u c.service x σ schedule)
+pub work_ok : {B : Type 0} (c : Config B) (P : Past B) (h : ℕ → List (LogFact AnyValue)) (soup : List Packet) (x : ℕ) (σ : Mid) (schedule : List ℕ) → Here c P h soup x σ → MoveOk c P h soup x (the_run (work_run c.u c.service.programs x σ schedule)) (work c.u c.service.programs x σ schedule)
 work_ok {B} c P h soup x σ schedule k = go (is_some (verdict_at σ.log.learned σ.applied))
   where
-    go : (b : Bool) → MoveOk c P h soup x (the_run (cond b None (to_run c.u c.service x σ schedule))) (cond b (applies c.u c.service x σ (ready c.service σ)) (runs_or_not c.u c.service x σ (to_run c.u c.service x σ schedule)))
-    go true = ready_state c P h soup x σ (ready c.service σ) k refl
-    go false = run_or_not_ok c P h soup x σ schedule (to_run c.u c.service x σ schedule) k refl
+    go : (b : Bool) → MoveOk c P h soup x (the_run (cond b None (to_run c.u c.service.programs x σ schedule))) (cond b (applies c.u c.service.programs x σ (ready c.service.programs σ)) (runs_or_not c.u c.service.programs x σ (to_run c.u c.service.programs x σ schedule)))
+    go true = ready_state c P h soup x σ (ready c.service.programs σ) k refl
+    go false = run_or_not_ok c P h soup x σ schedule (to_run c.u c.service.programs x σ schedule) k refl

@@ -44,7 +44,7 @@ pub record Shows {B : Type 0} (m : Service B) (O : Server B) (s : real.Server B)
   pub payment : s.payment ≡ O.backs Pay
   pub replies : (c n : ℕ) (text : List ℕ) → O.replies c n ≡ Some text → (i : ℕ) × (slice_get s.replies i ≡ Some (record { client = c; seq = n }, text))
   -- each request in progress has the stage at which it goes on
-  pub staged : (c : ℕ) (g : Progress) → O.progress c ≡ Some g → is_some (m.meaning.table (record { client = c; seq = g.seq }) g.body g.stage) ≡ true
+  pub staged : (c : ℕ) (g : Progress) → O.progress c ≡ Some g → is_some (m.programs.table (record { client = c; seq = g.seq }) g.body g.stage) ≡ true
   pub lasts : length s.last ≡ 17
   pub progresses : length s.progress ≡ 17
 
@@ -135,7 +135,7 @@ replied_shows {B} m O s who store text l k = record {
   progresses = length-set s.progress who.client None ∙ k.progresses;
 }
   where
-    staged : (c : ℕ) (g : Progress) → put O.progress who.client None c ≡ Some g → (c ≡ who.client) ⊎ (c ≡ who.client → ⊥) → is_some (m.meaning.table (record { client = c; seq = g.seq }) g.body g.stage) ≡ true
+    staged : (c : ℕ) (g : Progress) → put O.progress who.client None c ≡ Some g → (c ≡ who.client) ⊎ (c ≡ who.client → ⊥) → is_some (m.programs.table (record { client = c; seq = g.seq }) g.body g.stage) ≡ true
     staged c g e (inl f) = absurd (let h : None ≡ Some g = sym (ap (put O.progress who.client None) f ∙ put_here O.progress who.client None) ∙ e in cc)
     staged c g e (inr f) = k.staged c g (sym (put_there O.progress who.client None c f) ∙ e)
 
@@ -151,7 +151,7 @@ replied_shows {B} m O s who store text l k = record {
         old c n t (subst (λ z. O.replies z n ≡ Some t) (sym f) (sym (put_there (O.replies who.client) who.seq (Some text) n g) ∙ sym (ap (λ (h : ℕ → Option (List ℕ)). h n) (put_here O.replies who.client (put (O.replies who.client) who.seq (Some text)))) ∙ sym (ap (λ z. put O.replies who.client (put (O.replies who.client) who.seq (Some text)) z n) f) ∙ e))
     replies c n t e (inr f) g = old c n t (sym (ap (λ (h : ℕ → Option (List ℕ)). h n) (put_there O.replies who.client (put (O.replies who.client) who.seq (Some text)) c f)) ∙ e)
 
-called_shows : {B : Type 0} (m : Service B) (O : Server B) (s : real.Server B) (who : ReqId) (body : List ℕ) (num : ℕ) (store : Store) (t : Tier) (stage : ℕ) (text : List ℕ) → who.client < 17 → O.calls t num ≡ None → is_some (m.meaning.table who body stage) ≡ true → Shows m O s → Shows m (called O who.client who.seq body num store t stage text) (real.called s who body num store t stage text)
+called_shows : {B : Type 0} (m : Service B) (O : Server B) (s : real.Server B) (who : ReqId) (body : List ℕ) (num : ℕ) (store : Store) (t : Tier) (stage : ℕ) (text : List ℕ) → who.client < 17 → O.calls t num ≡ None → is_some (m.programs.table who body stage) ≡ true → Shows m O s → Shows m (called O who.client who.seq body num store t stage text) (real.called s who body num store t stage text)
 called_shows {B} m O s who body num store t stage text l none st k = record {
   store = refl;
   last = λ c h. set-shows s.last 0 O.last (λ z. z) who.client who.seq k.lasts l k.last c h;
@@ -170,11 +170,11 @@ called_shows {B} m O s who body num store t stage text l none st k = record {
     new : Progress
     new = record { seq = who.seq; body = body; stage = stage; tier = t; num = num }
 
-    staged : (c : ℕ) (g : Progress) → put O.progress who.client (Some (record { seq = who.seq; body = body; stage = stage; tier = t; num = num })) c ≡ Some g → (c ≡ who.client) ⊎ (c ≡ who.client → ⊥) → is_some (m.meaning.table (record { client = c; seq = g.seq }) g.body g.stage) ≡ true
+    staged : (c : ℕ) (g : Progress) → put O.progress who.client (Some (record { seq = who.seq; body = body; stage = stage; tier = t; num = num })) c ≡ Some g → (c ≡ who.client) ⊎ (c ≡ who.client → ⊥) → is_some (m.programs.table (record { client = c; seq = g.seq }) g.body g.stage) ≡ true
     staged c g e (inl f) =
         let h : Some new ≡ Some g = sym (ap (put O.progress who.client (Some new)) f ∙ put_here O.progress who.client (Some new)) ∙ e in
         let same : new ≡ g = cc in
-        subst (λ (z : Progress). is_some (m.meaning.table (record { client = c; seq = z.seq }) z.body z.stage) ≡ true) same (subst (λ z. is_some (m.meaning.table (record { client = z; seq = who.seq }) body stage) ≡ true) (sym f) st)
+        subst (λ (z : Progress). is_some (m.programs.table (record { client = c; seq = z.seq }) z.body z.stage) ≡ true) same (subst (λ z. is_some (m.programs.table (record { client = z; seq = who.seq }) body stage) ≡ true) (sym f) st)
     staged c g e (inr f) = k.staged c g (sym (put_there O.progress who.client (Some new) c f) ∙ e)
 
 not_some : {A : Type 0} (o : Option A) → is_some o ≡ false → o ≡ None
@@ -185,7 +185,7 @@ has_some : {A : Type 0} (o : Option A) → IsSome o → is_some o ≡ true
 has_some None h = absurd (cc)
 has_some (Some a) h = refl
 
-ended_shows : {B : Type 0} (m : Service B) (O P : Server B) (s : real.Server B) (who : ReqId) (body : List ℕ) (num : ℕ) (store : Store) (e : Ending) → who.client < 17 → HasStage (m.meaning.table who body) e → Shows m O s → ran O who.client who.seq body num store e ≡ Done P → Stepped m P (real.ended s who body num store e)
+ended_shows : {B : Type 0} (m : Service B) (O P : Server B) (s : real.Server B) (who : ReqId) (body : List ℕ) (num : ℕ) (store : Store) (e : Ending) → who.client < 17 → HasStage (m.programs.table who body) e → Shows m O s → ran O who.client who.seq body num store e ≡ Done P → Stepped m P (real.ended s who body num store e)
 ended_shows {B} m O P s who body num store (Reply text) l st k f = go (num == 0) refl f
   where
     go : (b : Bool) → (num == 0) ≡ b → cond b (Done (replied O who.client who.seq store text)) (Refused 7) ≡ Done P → Stepped m P (real.ended s who body num store (Reply text))
@@ -208,17 +208,17 @@ ended_shows {B} m O P s who body num store (Call t stage text) l st k f = go (nu
           new = real.called s who body num store t stage text;
           told = Called t num text;
           goes = cond-false (num == 0) (real.Refused 7) (real.calls_with s who body num store t stage text (found_in s.calls t num)) g ∙ ap (real.calls_with s who body num store t stage text) (k.calls t num ∙ none);
-          shows = subst (λ z. Shows m z (real.called s who body num store t stage text)) same (called_shows m O s who body num store t stage text l none (has_some (m.meaning.table who body stage) st) k);
+          shows = subst (λ z. Shows m z (real.called s who body num store t stage text)) same (called_shows m O s who body num store t stage text l none (has_some (m.programs.table who body stage) st) k);
         }
 
 no_more : (a b : ℕ) → a ≡ suc b → a ≡ b + 1
 no_more a b e = omega arith
 
-start_shows : {B : Type 0} (m : Service B) (O P : Server B) (s : real.Server B) (who : ReqId) (num : ℕ) (body : List ℕ) → GoesOn (m.meaning.table who body 0) (m.meaning.table who body) → Shows m O s → start_at m O who.client who.seq num body ≡ Done P → Stepped m P (real.step m.meaning s (Start who num) body)
-start_shows {B} m O P s who num body again k f = go (nat_lt who.client 17) refl (who.seq == suc (O.last who.client)) refl (is_some (O.progress who.client)) refl (m.meaning.table who body 0) refl again f
+start_shows : {B : Type 0} (m : Service B) (O P : Server B) (s : real.Server B) (who : ReqId) (num : ℕ) (body : List ℕ) → GoesOn (m.programs.table who body 0) (m.programs.table who body) → Shows m O s → start_at m O who.client who.seq num body ≡ Done P → Stepped m P (real.step (meaning m) s (Start who num) body)
+start_shows {B} m O P s who num body again k f = go (nat_lt who.client 17) refl (who.seq == suc (O.last who.client)) refl (is_some (O.progress who.client)) refl (m.programs.table who body 0) refl again f
   where
-    go : (a : Bool) → nat_lt who.client 17 ≡ a → (b : Bool) → (who.seq == suc (O.last who.client)) ≡ b → (d : Bool) → is_some (O.progress who.client) ≡ d → (q : Option (Option ℕ → Store → Segment)) → m.meaning.table who body 0 ≡ q → GoesOn q (m.meaning.table who body)
-        → cond (not a) (Refused 0) (cond (not b) (Refused 1) (cond d (Refused 2) (cond (not (is_some q)) (Refused 3) (ran O who.client who.seq body num (row_of q None O.store).store (row_of q None O.store).ending)))) ≡ Done P → Stepped m P (real.step m.meaning s (Start who num) body)
+    go : (a : Bool) → nat_lt who.client 17 ≡ a → (b : Bool) → (who.seq == suc (O.last who.client)) ≡ b → (d : Bool) → is_some (O.progress who.client) ≡ d → (q : Option (Option ℕ → Store → Segment)) → m.programs.table who body 0 ≡ q → GoesOn q (m.programs.table who body)
+        → cond (not a) (Refused 0) (cond (not b) (Refused 1) (cond d (Refused 2) (cond (not (is_some q)) (Refused 3) (ran O who.client who.seq body num (row_of q None O.store).store (row_of q None O.store).ending)))) ≡ Done P → Stepped m P (real.step (meaning m) s (Start who num) body)
     go false e1 b e2 d e3 q e4 st h = absurd (cc)
     go true e1 false e2 d e3 q e4 st h = absurd (cc)
     go true e1 true e2 true e3 q e4 st h = absurd (cc)
@@ -231,8 +231,8 @@ start_shows {B} m O P s who num body again k f = go (nat_lt who.client 17) refl 
         record {
           new = r.new;
           told = r.told;
-          goes = cond-true (who.seq == slice_index s.last who.client + 1) (real.start m.meaning s who num body (slice_index_or s.progress who.client None)) (real.Refused 1) seq
-              ∙ ap (real.start m.meaning s who num body) idle ∙ ap (real.starts s who body num) e4 ∙ ap (λ z. real.ended s who body num (row None z).store (row None z).ending) k.store ∙ r.goes;
+          goes = cond-true (who.seq == slice_index s.last who.client + 1) (real.start (meaning m) s who num body (slice_index_or s.progress who.client None)) (real.Refused 1) seq
+              ∙ ap (real.start (meaning m) s who num body) idle ∙ ap (real.starts s who body num) e4 ∙ ap (λ z. real.ended s who body num (row None z).store (row None z).ending) k.store ∙ r.goes;
           shows = r.shows;
         }
 
@@ -243,42 +243,42 @@ inside m O s c g k e = go (cases_lt c 17)
     go (inl l) = l
     go (inr l) = absurd (let h = k.outside c l in cc)
 
-resumed_shows : {B : Type 0} (m : Service B) (O P : Server B) (s : real.Server B) (who : ReqId) (num : ℕ) (g : Progress) (code : ℕ) → ((body : List ℕ) (stage : ℕ) → GoesOn (m.meaning.table who body stage) (m.meaning.table who body)) → Shows m O s → O.progress who.client ≡ Some g → g.seq ≡ who.seq → O.served g.tier g.num ≡ Some code
-    → ran O who.client who.seq g.body num (run m (next_seg who.client g code) O.store).store (run m (next_seg who.client g code) O.store).ending ≡ Done P → Stepped m P (real.step m.meaning s (Resume who num) [])
-resumed_shows {B} m O P s who num g code again k e q v f = go (m.meaning.table who g.body g.stage) refl (again g.body g.stage) staged ran_here
+resumed_shows : {B : Type 0} (m : Service B) (O P : Server B) (s : real.Server B) (who : ReqId) (num : ℕ) (g : Progress) (code : ℕ) → ((body : List ℕ) (stage : ℕ) → GoesOn (m.programs.table who body stage) (m.programs.table who body)) → Shows m O s → O.progress who.client ≡ Some g → g.seq ≡ who.seq → O.served g.tier g.num ≡ Some code
+    → ran O who.client who.seq g.body num (run m (next_seg who.client g code) O.store).store (run m (next_seg who.client g code) O.store).ending ≡ Done P → Stepped m P (real.step (meaning m) s (Resume who num) [])
+resumed_shows {B} m O P s who num g code again k e q v f = go (m.programs.table who g.body g.stage) refl (again g.body g.stage) staged ran_here
   where
     l : who.client < 17
     l = inside m O s who.client g k e
 
-    staged : is_some (m.meaning.table who g.body g.stage) ≡ true
-    staged = subst (λ z. is_some (m.meaning.table (record { client = who.client; seq = z }) g.body g.stage) ≡ true) q (k.staged who.client g e)
+    staged : is_some (m.programs.table who g.body g.stage) ≡ true
+    staged = subst (λ z. is_some (m.programs.table (record { client = who.client; seq = z }) g.body g.stage) ≡ true) q (k.staged who.client g e)
 
-    ran_here : ran O who.client who.seq g.body num (row_of (m.meaning.table who g.body g.stage) (Some code) O.store).store (row_of (m.meaning.table who g.body g.stage) (Some code) O.store).ending ≡ Done P
-    ran_here = subst (λ z. ran O who.client who.seq g.body num (row_of (m.meaning.table (record { client = who.client; seq = z }) g.body g.stage) (Some code) O.store).store (row_of (m.meaning.table (record { client = who.client; seq = z }) g.body g.stage) (Some code) O.store).ending ≡ Done P) q f
+    ran_here : ran O who.client who.seq g.body num (row_of (m.programs.table who g.body g.stage) (Some code) O.store).store (row_of (m.programs.table who g.body g.stage) (Some code) O.store).ending ≡ Done P
+    ran_here = subst (λ z. ran O who.client who.seq g.body num (row_of (m.programs.table (record { client = who.client; seq = z }) g.body g.stage) (Some code) O.store).store (row_of (m.programs.table (record { client = who.client; seq = z }) g.body g.stage) (Some code) O.store).ending ≡ Done P) q f
 
-    go : (t : Option (Option ℕ → Store → Segment)) → m.meaning.table who g.body g.stage ≡ t → GoesOn t (m.meaning.table who g.body) → is_some t ≡ true → ran O who.client who.seq g.body num (row_of t (Some code) O.store).store (row_of t (Some code) O.store).ending ≡ Done P → Stepped m P (real.step m.meaning s (Resume who num) [])
+    go : (t : Option (Option ℕ → Store → Segment)) → m.programs.table who g.body g.stage ≡ t → GoesOn t (m.programs.table who g.body) → is_some t ≡ true → ran O who.client who.seq g.body num (row_of t (Some code) O.store).store (row_of t (Some code) O.store).ending ≡ Done P → Stepped m P (real.step (meaning m) s (Resume who num) [])
     go None e1 st h r = absurd (cc)
     go (Some row) e1 st h r =
         let z : Stepped m P (real.ended s who g.body num (row (Some code) O.store).store (row (Some code) O.store).ending) = ended_shows m O P s who g.body num (row (Some code) O.store).store (row (Some code) O.store).ending l (st (Some code) O.store) k r in
         record {
           new = z.new;
           told = z.told;
-          goes = ap (real.resume m.meaning s who num) (k.progress who.client l ∙ ap as_progress e)
-              ∙ cond-true (g.seq == who.seq) (real.resumes m.meaning s who num (record { seq = g.seq; body = g.body; stage = g.stage; tier = g.tier; number = g.num }) (found_in s.served g.tier g.num)) (real.Refused 5) (eq-eqb g.seq who.seq q)
-              ∙ ap (real.resumes m.meaning s who num (record { seq = g.seq; body = g.body; stage = g.stage; tier = g.tier; number = g.num })) (k.served g.tier g.num ∙ v)
+          goes = ap (real.resume (meaning m) s who num) (k.progress who.client l ∙ ap as_progress e)
+              ∙ cond-true (g.seq == who.seq) (real.resumes (meaning m) s who num (record { seq = g.seq; body = g.body; stage = g.stage; tier = g.tier; number = g.num }) (found_in s.served g.tier g.num)) (real.Refused 5) (eq-eqb g.seq who.seq q)
+              ∙ ap (real.resumes (meaning m) s who num (record { seq = g.seq; body = g.body; stage = g.stage; tier = g.tier; number = g.num })) (k.served g.tier g.num ∙ v)
               ∙ ap (real.goes_on s who g.body num code) e1 ∙ ap (λ y. real.ended s who g.body num (row (Some code) y).store (row (Some code) y).ending) k.store ∙ z.goes;
           shows = z.shows;
         }
 
-resume_shows : {B : Type 0} (m : Service B) (O P : Server B) (s : real.Server B) (who : ReqId) (num : ℕ) (body : List ℕ) → ((body : List ℕ) (stage : ℕ) → GoesOn (m.meaning.table who body stage) (m.meaning.table who body)) → Shows m O s → resume m O who.client who.seq num (O.progress who.client) ≡ Done P → Stepped m P (real.step m.meaning s (Resume who num) body)
+resume_shows : {B : Type 0} (m : Service B) (O P : Server B) (s : real.Server B) (who : ReqId) (num : ℕ) (body : List ℕ) → ((body : List ℕ) (stage : ℕ) → GoesOn (m.programs.table who body stage) (m.programs.table who body)) → Shows m O s → resume m O who.client who.seq num (O.progress who.client) ≡ Done P → Stepped m P (real.step (meaning m) s (Resume who num) body)
 resume_shows {B} m O P s who num body again k f = go (O.progress who.client) refl f
   where
-    seen : (g : Progress) → O.progress who.client ≡ Some g → (b : Bool) → (g.seq == who.seq) ≡ b → (v : Option ℕ) → O.served g.tier g.num ≡ v → cond b (resumes m O who.client who.seq num g v) (Refused 5) ≡ Done P → Stepped m P (real.step m.meaning s (Resume who num) body)
+    seen : (g : Progress) → O.progress who.client ≡ Some g → (b : Bool) → (g.seq == who.seq) ≡ b → (v : Option ℕ) → O.served g.tier g.num ≡ v → cond b (resumes m O who.client who.seq num g v) (Refused 5) ≡ Done P → Stepped m P (real.step (meaning m) s (Resume who num) body)
     seen g e false q v r h = absurd (cc)
     seen g e true q None r h = absurd (cc)
     seen g e true q (Some code) r h = resumed_shows m O P s who num g code again k e (eqb-true g.seq who.seq q) r h
 
-    go : (o : Option Progress) → O.progress who.client ≡ o → resume m O who.client who.seq num o ≡ Done P → Stepped m P (real.step m.meaning s (Resume who num) body)
+    go : (o : Option Progress) → O.progress who.client ≡ o → resume m O who.client who.seq num o ≡ Done P → Stepped m P (real.step (meaning m) s (Resume who num) body)
     go None e h = absurd (cc)
     go (Some g) e h = seen g e (g.seq == who.seq) refl (O.served g.tier g.num) refl h
 
@@ -288,39 +288,39 @@ serve_inv m O s n b none k = record { store = k.store; last = k.last; progress =
 serve_pay : {B : Type 0} (m : Service B) (O : Server B) (s : real.Server B) (n : ℕ) (b : Served B) → O.served Pay n ≡ None → Shows m O s → Shows m (coded O Pay n b) (real.with_backend s Pay n b)
 serve_pay m O s n b none k = record { store = k.store; last = k.last; progress = k.progress; outside = k.outside; calls = k.calls; served = found-put s.served O.served Pay n b.code k.served none; inventory = k.inventory; payment = refl; replies = k.replies; staged = k.staged; lasts = k.lasts; progresses = k.progresses }
 
-served_shows : {B : Type 0} (m : Service B) (O P : Server B) (s : real.Server B) (t : Tier) (n : ℕ) (body text : List ℕ) → Shows m O s → O.calls t n ≡ Some text → O.served t n ≡ None → coded O t n (m.meaning.serve t (O.backs t) text) ≡ P → real.backend_of s t ≡ O.backs t
-    → Shows m (coded O t n (m.meaning.serve t (real.backend_of s t) text)) (real.with_backend s t n (m.meaning.serve t (real.backend_of s t) text)) → Stepped m P (real.step m.meaning s (Serve t n) body)
+served_shows : {B : Type 0} (m : Service B) (O P : Server B) (s : real.Server B) (t : Tier) (n : ℕ) (body text : List ℕ) → Shows m O s → O.calls t n ≡ Some text → O.served t n ≡ None → coded O t n ((m.backend t).serve (O.backs t) text) ≡ P → real.backend_of s t ≡ O.backs t
+    → Shows m (coded O t n ((m.backend t).serve (real.backend_of s t) text)) (real.with_backend s t n ((m.backend t).serve (real.backend_of s t) text)) → Stepped m P (real.step (meaning m) s (Serve t n) body)
 served_shows m O P s t n body text k e g same state shows = record {
-  new = real.with_backend s t n (m.meaning.serve t (real.backend_of s t) text);
-  told = Answered t n (m.meaning.serve t (real.backend_of s t) text).code;
-  goes = ap (λ z. real.serves m.meaning s t n z (found_in s.served t n)) (k.calls t n ∙ e) ∙ ap (real.serves m.meaning s t n (Some text)) (k.served t n ∙ g);
-  shows = subst (λ z. Shows m z (real.with_backend s t n (m.meaning.serve t (real.backend_of s t) text))) same
-      (subst (λ y. Shows m (coded O t n (m.meaning.serve t y text)) (real.with_backend s t n (m.meaning.serve t (real.backend_of s t) text))) state shows);
+  new = real.with_backend s t n ((m.backend t).serve (real.backend_of s t) text);
+  told = Answered t n ((m.backend t).serve (real.backend_of s t) text).code;
+  goes = ap (λ z. real.serves (meaning m) s t n z (found_in s.served t n)) (k.calls t n ∙ e) ∙ ap (real.serves (meaning m) s t n (Some text)) (k.served t n ∙ g);
+  shows = subst (λ z. Shows m z (real.with_backend s t n ((m.backend t).serve (real.backend_of s t) text))) same
+      (subst (λ y. Shows m (coded O t n ((m.backend t).serve y text)) (real.with_backend s t n ((m.backend t).serve (real.backend_of s t) text))) state shows);
 }
 
-serve_shows : {B : Type 0} (m : Service B) (O P : Server B) (s : real.Server B) (t : Tier) (n : ℕ) (body : List ℕ) → Shows m O s → serves m O t n (O.calls t n) (O.served t n) ≡ Done P → Stepped m P (real.step m.meaning s (Serve t n) body)
+serve_shows : {B : Type 0} (m : Service B) (O P : Server B) (s : real.Server B) (t : Tier) (n : ℕ) (body : List ℕ) → Shows m O s → serves (m.backend O) t n (O.calls t n) (O.served t n) ≡ Done P → Stepped m P (real.step (meaning m) s (Serve t n) body)
 serve_shows m O P s Mid n body k f = absurd (cc)
 serve_shows {B} m O P s Inv n body k f = go (O.calls Inv n) refl (O.served Inv n) refl f
   where
-    go : (a : Option (List ℕ)) → O.calls Inv n ≡ a → (b : Option ℕ) → O.served Inv n ≡ b → serves m O Inv n a b ≡ Done P → Stepped m P (real.step m.meaning s (Serve Inv n) body)
+    go : (a : Option (List ℕ)) → O.calls Inv n ≡ a → (b : Option ℕ) → O.served Inv n ≡ b → serves (m.backend O) Inv n a b ≡ Done P → Stepped m P (real.step (meaning m) s (Serve Inv n) body)
     go None e b g h = absurd (cc)
     go (Some text) e (Some code) g h = absurd (cc)
-    go (Some text) e None g h = served_shows m O P s Inv n body text k e g (cc) k.inventory (serve_inv m O s n (m.meaning.serve Inv s.inventory text) g k)
+    go (Some text) e None g h = served_shows m O P s Inv n body text k e g (cc) k.inventory (serve_inv m O s n ((m.backend Inv).serve s.inventory text) g k)
 serve_shows {B} m O P s Pay n body k f = go (O.calls Pay n) refl (O.served Pay n) refl f
   where
-    go : (a : Option (List ℕ)) → O.calls Pay n ≡ a → (b : Option ℕ) → O.served Pay n ≡ b → serves m O Pay n a b ≡ Done P → Stepped m P (real.step m.meaning s (Serve Pay n) body)
+    go : (a : Option (List ℕ)) → O.calls Pay n ≡ a → (b : Option ℕ) → O.served Pay n ≡ b → serves (m.backend O) Pay n a b ≡ Done P → Stepped m P (real.step (meaning m) s (Serve Pay n) body)
     go None e b g h = absurd (cc)
     go (Some text) e (Some code) g h = absurd (cc)
-    go (Some text) e None g h = served_shows m O P s Pay n body text k e g (cc) k.payment (serve_pay m O s n (m.meaning.serve Pay s.payment text) g k)
+    go (Some text) e None g h = served_shows m O P s Pay n body text k e g (cc) k.payment (serve_pay m O s n ((m.backend Pay).serve s.payment text) g k)
 
 -- the law that each call names a stage of its request
 abbrev pub Again : {B : Type 0} → Service B → Type 0
-Again m = (who : ReqId) (body : List ℕ) (stage : ℕ) → GoesOn (m.meaning.table who body stage) (m.meaning.table who body)
+Again m = (who : ReqId) (body : List ℕ) (stage : ℕ) → GoesOn (m.programs.table who body stage) (m.programs.table who body)
 
-step_shows : {B : Type 0} (m : Service B) (O P : Server B) (s : real.Server B) (k : HistoryStep) → Again m → Shows m O s → step m O k ≡ Done P → Stepped m P (real.step m.meaning s k.0 k.1)
+step_shows : {B : Type 0} (m : Service B) (O P : Server B) (s : real.Server B) (k : HistoryStep) → Again m → Shows m O s → step m O k ≡ Done P → Stepped m P (real.step (meaning m) s k.0 k.1)
 step_shows {B} m O P s k again sh f = go k.0 k.1 f
   where
-    go : (h : Hist) (body : List ℕ) → step_as m O h body ≡ Done P → Stepped m P (real.step m.meaning s h body)
+    go : (h : Hist) (body : List ℕ) → step_as m O h body ≡ Done P → Stepped m P (real.step (meaning m) s h body)
     go (Start who num) body f = start_shows m O P s who num body (again who body 0) sh f
     go (Serve t n) body f = serve_shows m O P s t n body sh f
     go (Resume who num) body f = resume_shows m O P s who num body (again who) sh f
@@ -332,21 +332,21 @@ done_of (Refused row) d = absurd d
 done_of (Done a) d = (a, refl)
 
 pub record Shown {B : Type 0} (m : Service B) (O : Server B) (h : History) (s : real.Server B) : Type 0 where
-  pub legal : RealFrom m.meaning h s
-  pub shows : Shows m (server_from m O h) (real_from m.meaning h s)
+  pub legal : RealFrom (meaning m) h s
+  pub shows : Shows m (server_from m O h) (real_from (meaning m) h s)
 
 shown_from : {B : Type 0} (m : Service B) (O : Server B) (h : History) (s : real.Server B) → Again m → LegalFrom m O h → Shows m O s → Shown m O h s
 shown_from m O [] s again l k = record { legal = tt; shows = k }
 shown_from m O (x ∷ h) s again l k =
     let d = done_of (step m O x) l.0 in
-    let t : Stepped m d.0 (real.step m.meaning s x.0 x.1) = step_shows m O d.0 s x again k d.1 in
+    let t : Stepped m d.0 (real.step (meaning m) s x.0 x.1) = step_shows m O d.0 s x again k d.1 in
     let r : Shown m d.0 h t.new = shown_from m d.0 h t.new again (subst (λ z. LegalFrom m (result_or O z) h) d.1 l.1) t.shows in
     record {
-      legal = subst (λ z. IsMade z × RealFrom m.meaning h (server_or s z)) (sym t.goes) (tt, r.legal);
-      shows = subst (λ z. Shows m (server_from m (result_or O z) h) (real_from m.meaning h (server_or s (real.step m.meaning s x.0 x.1)))) (sym d.1) (subst (λ z. Shows m (server_from m d.0 h) (real_from m.meaning h (server_or s z))) (sym t.goes) r.shows);
+      legal = subst (λ z. IsMade z × RealFrom (meaning m) h (server_or s z)) (sym t.goes) (tt, r.legal);
+      shows = subst (λ z. Shows m (server_from m (result_or O z) h) (real_from (meaning m) h (server_or s (real.step (meaning m) s x.0 x.1)))) (sym d.1) (subst (λ z. Shows m (server_from m d.0 h) (real_from (meaning m) h (server_or s z))) (sym t.goes) r.shows);
     }
 
-opening_shows : {B : Type 0} (m : Service B) → Shows m (empty_server m) (real.opening_server m.meaning)
+opening_shows : {B : Type 0} (m : Service B) → Shows m (empty_server m) (real.opening_server (meaning m))
 opening_shows m = record {
   store = refl;
   last = λ c l. get_or-replicate 17 c 0 0 l;
@@ -363,5 +363,5 @@ opening_shows m = record {
 }
 
 -- a history that the look-up functions take is legal, and the server after it shows what they have
-pub shown : {B : Type 0} (m : Service B) (h : History) → Again m → Legal m h → Shown m (empty_server m) h (real.opening_server m.meaning)
-shown m h again l = shown_from m (empty_server m) h (real.opening_server m.meaning) again l (opening_shows m)
+pub shown : {B : Type 0} (m : Service B) (h : History) → Again m → Legal m h → Shown m (empty_server m) h (real.opening_server (meaning m))
+shown m h again l = shown_from m (empty_server m) h (real.opening_server (meaning m)) again l (opening_shows m)

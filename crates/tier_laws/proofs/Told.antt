@@ -15,7 +15,7 @@ use Rattle.log_model.specs.declared.message.PaxMsg.TheVariants.{Learn}
 use Rattle.log_model.specs.Chosen.{Meets}
 use Rattle.log_model.specs.Recover.{newest, learned_in}
 use Rattle.log_model.specs.World.{Packet as LogPacket, Mode}
-use Rattle.log_model.specs.World.Mode.{Down, Gone, Up}
+use Rattle.log_model.specs.Nodes.Mode.{Down, Gone, Up}
 use Rattle.log_values.specs.declared.fact.Fact.{Fact}
 use Rattle.log_values.specs.declared.any_value.AnyValue.{AnyValue}
 use Rattle.log_values.specs.declared.any_value.AnyValue.TheVariants.{Back as OfBack, Mid as OfMid}
@@ -56,10 +56,10 @@ use Rattle.server_model.specs.Server.{same_tier}
 
 -- THE HISTORY
 
-pub shown_now : {B : Type 0} (c : Config B) (w : World B) → WorldOk c w → Shown c.service (empty_server c.service) w.hist (real.opening_server c.service.meaning)
+pub shown_now : {B : Type 0} (c : Config B) (w : World B) → WorldOk c w → Shown c.service (empty_server c.service) w.hist (real.opening_server (meaning c.service))
 shown_now c w i = shown c.service w.hist i.core.laws.again i.core.ledger.legal
 
-pub legal : {B : Type 0} (c : Config B) (w : World B) → WorldOk c w → history.Legal c.service.meaning w.hist
+pub legal : {B : Type 0} (c : Config B) (w : World B) → WorldOk c w → history.Legal (meaning c.service) w.hist
 legal c w i = (shown_now c w i).legal
 
 pub has_reply : {B : Type 0} (c : Config B) (w : World B) (who : ReqId) (text : List ℕ) → WorldOk c w → (server c.service w.hist).replies who.client who.seq ≡ Some text → HasReply c w who text
@@ -156,7 +156,7 @@ served_now : {B : Type 0} (c : Config B) (w : World B) (i : WorldOk c w) → ser
 served_now c w i = served_same c w i.codes i.h i.k i.core
 
 mid_applied : {B : Type 0} (c : Config B) (w : World B) (i : WorldOk c w) (x : ℕ) (m : Mode Mid) → MidMode c (past c w i.codes) i.h (mid_soup w.soup) x (w.mids x) m → MidApplied c w m
-mid_applied c w i x (Up σ) k = subst (λ A. after c.service c.depth w.log A σ.applied ≡ Some σ.tables) (sym (served_now c w i)) k.other.is_after
+mid_applied c w i x (Up σ) k = subst (λ A. after c.service.programs c.depth w.log A σ.applied ≡ Some σ.tables) (sym (served_now c w i)) k.other.is_after
 mid_applied c w i x Down k = tt
 mid_applied c w i x Gone k = tt
 
@@ -205,7 +205,7 @@ caused c w r v i e =
 pub is_run : {B : Type 0} (c : Config B) (w : World B) (v : Vote) → WorldOk c w → DidRun w v → IsRun c w v
 is_run {B} c w v i d =
     let k : RunOk c (past c w i.codes) v = i.core.runs d.0 v d.1 in
-    record { inside = k.inside; made = k.made; is_round = subst (λ A. round c.service c.depth w.log A v.round ≡ Some k.made) (sym (served_now c w i)) k.is_round; is_ordered = k.is_ordered; is_token = k.is_token }
+    record { inside = k.inside; made = k.made; is_round = subst (λ A. round c.service.programs c.depth w.log A v.round ≡ Some k.made) (sym (served_now c w i)) k.is_round; is_ordered = k.is_ordered; is_token = k.is_token }
 
 -- DURABILITY
 
@@ -248,11 +248,11 @@ pub settled_durable : {B : Type 0} (c : Config B) (w : World B) (t : Tier) (p g 
 settled_durable c w t p g n i e a b few = durable c w t n i ((settled_floor c w t p g i e).many n a b) few
 
 -- each call whose answer a decided round used is durable
-pub used_durable : {B : Type 0} (c : Config B) (w : World B) (r : ℕ) (v : Verdict) (R : Round) (j : ℕ) (q : Want) (k : Number) → WorldOk c w → slice_get w.log (2 * r + 1) ≡ Some (OfMid (Decided v)) → round c.service c.depth w.log (served_of c w) r ≡ Some R
+pub used_durable : {B : Type 0} (c : Config B) (w : World B) (r : ℕ) (v : Verdict) (R : Round) (j : ℕ) (q : Want) (k : Number) → WorldOk c w → slice_get w.log (2 * r + 1) ≡ Some (OfMid (Decided v)) → round c.service.programs c.depth w.log (served_of c w) r ≡ Some R
     → slice_get R.wants j ≡ Some q → q.call ≡ Some k → FewGone c w → Durable c w k.tier k.num
 used_durable {B} c w r v R j q k i e f g h few =
     let o : VerdictOk c (past c w i.codes) r v = at_round c (past c w i.codes) r v (values c w i.codes i.h i.k i.core (2 * r + 1) (OfMid (Decided v)) e) in
     let is = o.is_round in
-    let there : round c.service c.depth w.log (server c.service w.hist).served r ≡ Some R = subst (λ A. round c.service c.depth w.log A r ≡ Some R) (served_now c w i) f in
+    let there : round c.service.programs c.depth w.log (server c.service w.hist).served r ≡ Some R = subst (λ A. round c.service.programs c.depth w.log A r ≡ Some R) (served_now c w i) f in
     let same : o.made ≡ R = cc in
     durable c w k.tier k.num i (o.held.at j q k (subst (λ (z : Round). slice_get z.wants j ≡ Some q) (sym same) g) h) few

@@ -110,7 +110,7 @@ verdict_ok {B} c P vs r v k t e = go (lowest (2 * c.u + 1) (λ y. is_backed c.u 
         let is : Commit a.0.token a.0.order ≡ v = let g = sym (ap (λ z. and_then z (λ (w : Vote). Some (Commit w.token w.order))) a.1) ∙ f in cc in
         subst (VerdictOk c P r) is (record {
           made = ok.made;
-          is_round = subst (λ z. round c.service c.depth P.log P.server.served z ≡ Some ok.made) q.1 ok.is_round;
+          is_round = subst (λ z. round c.service.programs c.depth P.log P.server.served z ≡ Some ok.made) q.1 ok.is_round;
           held = ok.held;
           by = (
             ok.is_ordered,
@@ -137,7 +137,7 @@ verdict_ok {B} c P vs r v k t e = go (lowest (2 * c.u + 1) (λ y. is_backed c.u 
         let ok : RunOk c P a.0 = k.runs q.0.0 a.0 q.0.1 in
         record {
           made = ok.made;
-          is_round = subst (λ z. round c.service c.depth P.log P.server.served z ≡ Some ok.made) q.1 ok.is_round;
+          is_round = subst (λ z. round c.service.programs c.depth P.log P.server.served z ≡ Some ok.made) q.1 ok.is_round;
           held = ok.held;
           by = (
             b.0,
@@ -202,25 +202,25 @@ job_answers A (v ∷ ws) J i w k e f g = go i f (λ i f. job_answers A ws q.0 i 
     go zero f r = let s : v ≡ w = cc in answered_some A v v.call p.0 k p.1 (ap (λ (z : Want). z.call) s ∙ g)
     go (suc i) f r = r i f
 
-pub run_right : {B : Type 0} (c : Config B) (P : Past B) (x : ℕ) (σ : Mid) (schedule : List ℕ) (v : Running) → x < 2 * c.u + 1 → Laws c.service → Known c P → MidOther c P x σ → MoreLog σ.log.learned P.log → to_run c.u c.service x σ schedule ≡ Some v → RunOk c P v.vote
+pub run_right : {B : Type 0} (c : Config B) (P : Past B) (x : ℕ) (σ : Mid) (schedule : List ℕ) (v : Running) → x < 2 * c.u + 1 → Laws c.service → Known c P → MidOther c P x σ → MoreLog σ.log.learned P.log → to_run c.u c.service.programs x σ schedule ≡ Some v → RunOk c P v.vote
 run_right {B} c P x σ schedule v inside laws k o pre e = go (is_some σ.spec) e
   where
-    made : and_then (batch_at σ.log.learned σ.applied) (λ es. and_then (job_of (usable_here c.u x σ) (wants c.service σ.tables es)) (λ J. Some (running c.service x σ (run_job c.service.begins J σ.tables.store schedule)))) ≡ Some v → RunOk c P v.vote
+    made : and_then (batch_at σ.log.learned σ.applied) (λ es. and_then (job_of (usable_here c.u x σ) (wants c.service.programs σ.tables es)) (λ J. Some (running c.service.programs x σ (run_job c.service.programs.begins J σ.tables.store schedule)))) ≡ Some v → RunOk c P v.vote
     made f =
-        let p = then_parts (batch_at σ.log.learned σ.applied) (λ es. and_then (job_of (usable_here c.u x σ) (wants c.service σ.tables es)) (λ J. Some (running c.service x σ (run_job c.service.begins J σ.tables.store schedule)))) v f in
-        let q = then_parts (job_of (usable_here c.u x σ) (wants c.service σ.tables p.0)) (λ J. Some (running c.service x σ (run_job c.service.begins J σ.tables.store schedule))) v p.2 in
-        let is : running c.service x σ (run_job c.service.begins q.0 σ.tables.store schedule) ≡ v = let h = q.2 in cc in
+        let p = then_parts (batch_at σ.log.learned σ.applied) (λ es. and_then (job_of (usable_here c.u x σ) (wants c.service.programs σ.tables es)) (λ J. Some (running c.service.programs x σ (run_job c.service.programs.begins J σ.tables.store schedule)))) v f in
+        let q = then_parts (job_of (usable_here c.u x σ) (wants c.service.programs σ.tables p.0)) (λ J. Some (running c.service.programs x σ (run_job c.service.programs.begins J σ.tables.store schedule))) v p.2 in
+        let is : running c.service.programs x σ (run_job c.service.programs.begins q.0 σ.tables.store schedule) ≡ v = let h = q.2 in cc in
         let more : MoreAnswers (usable_here c.u x σ) P.server.served = record { at = λ t n code u. (usable_ok c P x σ t n code k o u).0 } in
         subst (λ (z : Running). RunOk c P z.vote) is (record {
           inside = inside;
-          made = record { tables = σ.tables; wants = wants c.service σ.tables p.0; job = q.0 };
-          is_round = then_some (after c.service c.depth P.log P.server.served σ.applied) (round_at c.service P.log P.server.served σ.applied) σ.tables _ o.is_after
-              (round_made c.service P.log P.server.served σ.applied σ.tables p.0 q.0 (batch-more σ.log.learned P.log σ.applied p.0 pre p.1) (job-more (usable_here c.u x σ) P.server.served (wants c.service σ.tables p.0) q.0 more q.1));
-          held = record { at = λ i w l f g. let a = job_answers (usable_here c.u x σ) (wants c.service σ.tables p.0) q.0 i w l q.1 f g in (usable_ok c P x σ l.tier l.num a.0 k o a.1).1 };
+          made = record { tables = σ.tables; wants = wants c.service.programs σ.tables p.0; job = q.0 };
+          is_round = then_some (after c.service.programs c.depth P.log P.server.served σ.applied) (round_at c.service.programs P.log P.server.served σ.applied) σ.tables _ o.is_after
+              (round_made c.service P.log P.server.served σ.applied σ.tables p.0 q.0 (batch-more σ.log.learned P.log σ.applied p.0 pre p.1) (job-more (usable_here c.u x σ) P.server.served (wants c.service.programs σ.tables p.0) q.0 more q.1));
+          held = record { at = λ i w l f g. let a = job_answers (usable_here c.u x σ) (wants c.service.programs σ.tables p.0) q.0 i w l q.1 f g in (usable_ok c P x σ l.tier l.num a.0 k o a.1).1 };
           is_ordered = laws.orders q.0 σ.tables.store schedule;
-          is_token = λ i. c.service.spell (changes.outcome σ.tables.store (laws.store q.0 σ.tables.store schedule i) (laws.ends q.0 σ.tables.store schedule i));
+          is_token = λ i. c.service.programs.spell (changes.outcome σ.tables.store (laws.store q.0 σ.tables.store schedule i) (laws.ends q.0 σ.tables.store schedule i));
         })
 
-    go : (b : Bool) → cond b None (and_then (batch_at σ.log.learned σ.applied) (λ es. and_then (job_of (usable_here c.u x σ) (wants c.service σ.tables es)) (λ J. Some (running c.service x σ (run_job c.service.begins J σ.tables.store schedule))))) ≡ Some v → RunOk c P v.vote
+    go : (b : Bool) → cond b None (and_then (batch_at σ.log.learned σ.applied) (λ es. and_then (job_of (usable_here c.u x σ) (wants c.service.programs σ.tables es)) (λ J. Some (running c.service.programs x σ (run_job c.service.programs.begins J σ.tables.store schedule))))) ≡ Some v → RunOk c P v.vote
     go true f = absurd (cc)
     go false f = made f

@@ -115,47 +115,47 @@ concat-push (h ∷ q) g = ap (λ z. h ++ z) (concat-push q g) ∙ sym (append_as
 
 -- FRESH
 
-fresh-none : {B : Type 0} (m : Service B) (T : Tables) (seen : List ℕ) (es : List Entry) (c : ℕ) → mem c seen ≡ true → NoneOf c (map started (fresh_of m T seen es))
+fresh-none : {B : Type 0} (m : Service B) (T : Tables) (seen : List ℕ) (es : List Entry) (c : ℕ) → mem c seen ≡ true → NoneOf c (map started (fresh_of m.programs T seen es))
 fresh-none m T seen [] c e = tt
-fresh-none m T seen (x ∷ es) c e = go (mem x.client seen) refl (fresh-none m T seen es c e) (is_fresh m T x) (fresh-none m T (x.client ∷ seen) es c (or_right (x.client == c) (mem c seen) e))
+fresh-none m T seen (x ∷ es) c e = go (mem x.client seen) refl (fresh-none m T seen es c e) (is_fresh m.programs T x) (fresh-none m T (x.client ∷ seen) es c (or_right (x.client == c) (mem c seen) e))
   where
-    go : (b : Bool) → mem x.client seen ≡ b → NoneOf c (map started (fresh_of m T seen es)) → (f : Bool) → NoneOf c (map started (fresh_of m T (x.client ∷ seen) es))
-        → NoneOf c (map started (cond b (fresh_of m T seen es) (cond f (x ∷ fresh_of m T (x.client ∷ seen) es) (fresh_of m T (x.client ∷ seen) es))))
+    go : (b : Bool) → mem x.client seen ≡ b → NoneOf c (map started (fresh_of m.programs T seen es)) → (f : Bool) → NoneOf c (map started (fresh_of m.programs T (x.client ∷ seen) es))
+        → NoneOf c (map started (cond b (fresh_of m.programs T seen es) (cond f (x ∷ fresh_of m.programs T (x.client ∷ seen) es) (fresh_of m.programs T (x.client ∷ seen) es))))
     go true s r f q = r
     go false s r true q = ((λ g. absurd (let h : mem x.client seen ≡ true = ap (λ z. mem z seen) g ∙ e in cc)), q)
     go false s r false q = q
 
-pub fresh-distinct : {B : Type 0} (m : Service B) (T : Tables) (seen : List ℕ) (es : List Entry) → Distinct (map started (fresh_of m T seen es))
+pub fresh-distinct : {B : Type 0} (m : Service B) (T : Tables) (seen : List ℕ) (es : List Entry) → Distinct (map started (fresh_of m.programs T seen es))
 fresh-distinct m T seen [] = tt
-fresh-distinct m T seen (x ∷ es) = go (mem x.client seen) (fresh-distinct m T seen es) (is_fresh m T x) (fresh-distinct m T (x.client ∷ seen) es)
+fresh-distinct m T seen (x ∷ es) = go (mem x.client seen) (fresh-distinct m T seen es) (is_fresh m.programs T x) (fresh-distinct m T (x.client ∷ seen) es)
   where
     here : mem x.client (x.client ∷ seen) ≡ true
     here = let g = eq-eqb x.client x.client refl in rw g refl
 
-    go : (b : Bool) → Distinct (map started (fresh_of m T seen es)) → (f : Bool) → Distinct (map started (fresh_of m T (x.client ∷ seen) es))
-        → Distinct (map started (cond b (fresh_of m T seen es) (cond f (x ∷ fresh_of m T (x.client ∷ seen) es) (fresh_of m T (x.client ∷ seen) es))))
+    go : (b : Bool) → Distinct (map started (fresh_of m.programs T seen es)) → (f : Bool) → Distinct (map started (fresh_of m.programs T (x.client ∷ seen) es))
+        → Distinct (map started (cond b (fresh_of m.programs T seen es) (cond f (x ∷ fresh_of m.programs T (x.client ∷ seen) es) (fresh_of m.programs T (x.client ∷ seen) es))))
     go true r f q = r
     go false r true q = (fresh-none m T (x.client ∷ seen) es x.client here, q)
     go false r false q = q
 
 -- each fresh entry is fresh, and stands in the batch
-pub fresh-at : {B : Type 0} (m : Service B) (T : Tables) (seen : List ℕ) (es : List Entry) (i : ℕ) (e : Entry) → slice_get (fresh_of m T seen es) i ≡ Some e → (is_fresh m T e ≡ true) × ((j : ℕ) × (slice_get es j ≡ Some e))
+pub fresh-at : {B : Type 0} (m : Service B) (T : Tables) (seen : List ℕ) (es : List Entry) (i : ℕ) (e : Entry) → slice_get (fresh_of m.programs T seen es) i ≡ Some e → (is_fresh m.programs T e ≡ true) × ((j : ℕ) × (slice_get es j ≡ Some e))
 fresh-at m T seen [] i e f = absurd (cc)
-fresh-at m T seen (x ∷ es) i e f = go (mem x.client seen) (is_fresh m T x) refl i f (λ i f. fresh-at m T seen es i e f) (λ i f. fresh-at m T (x.client ∷ seen) es i e f)
+fresh-at m T seen (x ∷ es) i e f = go (mem x.client seen) (is_fresh m.programs T x) refl i f (λ i f. fresh-at m T seen es i e f) (λ i f. fresh-at m T (x.client ∷ seen) es i e f)
   where
-    later : (is_fresh m T e ≡ true) × ((j : ℕ) × (slice_get es j ≡ Some e)) → (is_fresh m T e ≡ true) × ((j : ℕ) × (slice_get (x ∷ es) j ≡ Some e))
+    later : (is_fresh m.programs T e ≡ true) × ((j : ℕ) × (slice_get es j ≡ Some e)) → (is_fresh m.programs T e ≡ true) × ((j : ℕ) × (slice_get (x ∷ es) j ≡ Some e))
     later r = (r.0, (suc r.1.0, r.1.1))
 
-    go : (b f : Bool) → is_fresh m T x ≡ f → (i : ℕ) → slice_get (cond b (fresh_of m T seen es) (cond f (x ∷ fresh_of m T (x.client ∷ seen) es) (fresh_of m T (x.client ∷ seen) es))) i ≡ Some e
-        → ((i : ℕ) → slice_get (fresh_of m T seen es) i ≡ Some e → (is_fresh m T e ≡ true) × ((j : ℕ) × (slice_get es j ≡ Some e)))
-        → ((i : ℕ) → slice_get (fresh_of m T (x.client ∷ seen) es) i ≡ Some e → (is_fresh m T e ≡ true) × ((j : ℕ) × (slice_get es j ≡ Some e))) → (is_fresh m T e ≡ true) × ((j : ℕ) × (slice_get (x ∷ es) j ≡ Some e))
+    go : (b f : Bool) → is_fresh m.programs T x ≡ f → (i : ℕ) → slice_get (cond b (fresh_of m.programs T seen es) (cond f (x ∷ fresh_of m.programs T (x.client ∷ seen) es) (fresh_of m.programs T (x.client ∷ seen) es))) i ≡ Some e
+        → ((i : ℕ) → slice_get (fresh_of m.programs T seen es) i ≡ Some e → (is_fresh m.programs T e ≡ true) × ((j : ℕ) × (slice_get es j ≡ Some e)))
+        → ((i : ℕ) → slice_get (fresh_of m.programs T (x.client ∷ seen) es) i ≡ Some e → (is_fresh m.programs T e ≡ true) × ((j : ℕ) × (slice_get es j ≡ Some e))) → (is_fresh m.programs T e ≡ true) × ((j : ℕ) × (slice_get (x ∷ es) j ≡ Some e))
     go true f k i g r q = later (r i g)
-    go false true k zero g r q = let s : x ≡ e = cc in (subst (λ z. is_fresh m T z ≡ true) s k, (0, ap Some s))
+    go false true k zero g r q = let s : x ≡ e = cc in (subst (λ z. is_fresh m.programs T z ≡ true) s k, (0, ap Some s))
     go false true k (suc i) g r q = later (q i g)
     go false false k i g r q = later (q i g)
 
 pub record IsFresh {B : Type 0} (m : Service B) (T : Tables) (e : Entry) : Type 0 where
-  pub body : is_request m (who_of e) e.body ≡ true
+  pub body : is_request m.programs (who_of e) e.body ≡ true
   pub seq : e.seq ≡ suc (last_of T.last e.client)
   pub range : in_range e ≡ true
   pub idle : parked_of e.client (concat T.queue) ≡ None
@@ -164,10 +164,10 @@ none_some : {A : Type 0} (o : Option A) → not (is_some o) ≡ true → o ≡ N
 none_some None e = refl
 none_some (Some a) e = absurd (cc)
 
-pub is_fresh_parts : {B : Type 0} (m : Service B) (T : Tables) (e : Entry) → is_fresh m T e ≡ true → IsFresh m T e
+pub is_fresh_parts : {B : Type 0} (m : Service B) (T : Tables) (e : Entry) → is_fresh m.programs T e ≡ true → IsFresh m T e
 is_fresh_parts m T e f =
-    let r = and_parts (in_range e) (is_request m (who_of e) e.body && ((e.seq == suc (last_of T.last e.client)) && not (is_busy T e.client))) f in
-    let p = and_parts (is_request m (who_of e) e.body) ((e.seq == suc (last_of T.last e.client)) && not (is_busy T e.client)) r.1 in
+    let r = and_parts (in_range e) (is_request m.programs (who_of e) e.body && ((e.seq == suc (last_of T.last e.client)) && not (is_busy T e.client))) f in
+    let p = and_parts (is_request m.programs (who_of e) e.body) ((e.seq == suc (last_of T.last e.client)) && not (is_busy T e.client)) r.1 in
     let q = and_parts (e.seq == suc (last_of T.last e.client)) (not (is_busy T e.client)) p.1 in
     record { body = p.0; seq = eqb-true e.seq (suc (last_of T.last e.client)) q.0; idle = none_some (parked_of e.client (concat T.queue)) q.1; range = r.0 }
 

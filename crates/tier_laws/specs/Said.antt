@@ -20,7 +20,7 @@ use Rattle.server_model.specs.declared.history.Told.TheVariants.{Replied}
 use Rattle.log_model.specs.Log.{count_below}
 use Rattle.log_model.specs.Recover.{newest, recover}
 use Rattle.log_model.specs.World.{Mode, Node}
-use Rattle.log_model.specs.World.Mode.{Up, Down, Gone}
+use Rattle.log_model.specs.Nodes.Mode.{Up, Down, Gone}
 use Rattle.log_values.specs.declared.any_value.AnyValue.{AnyValue}
 use Rattle.log_values.specs.declared.mid_value.Verdict.{Verdict}
 use Rattle.log_values.specs.declared.mid_value.Verdict.TheVariants.{Commit, Serial}
@@ -55,26 +55,26 @@ pub record IsJob (J : List Seg) : Type 0 where
 -- in that order. Stores stay stores, and a token is read as the outcome that it spells. A request whose segment calls has
 -- the stage that the call names.
 pub record Laws {B : Type 0} (m : Service B) : Type 0 where
-  pub orders : (J : List Seg) (s : Store) (schedule : List ℕ) → is_order (length J) (run_job m.begins J s schedule).order ≡ true
-  pub store : (J : List Seg) (s : Store) (schedule : List ℕ) → (run_job m.begins J s schedule).store ≡ serial m J (run_job m.begins J s schedule).order s
-  pub ends : (J : List Seg) (s : Store) (schedule : List ℕ) → (run_job m.begins J s schedule).ends ≡ tabulate (length J) (serial_end m J (run_job m.begins J s schedule).order s)
-  pub stores : (J : List Seg) (order : List ℕ) (s : Store) → IsJob J → is_order (length J) order ≡ true → IsStore s → IsStore (serial m J order s)
-  pub reads : (J : List Seg) (order : List ℕ) (s : Store) → IsJob J → is_order (length J) order ≡ true → IsStore s → m.read (token_of m s (finish m J order s)) ≡ Some (changes.outcome s (finish m J order s).store (finish m J order s).ends)
-  pub again : (who : ReqId) (body : List ℕ) (stage : ℕ) → GoesOn (m.meaning.table who body stage) (m.meaning.table who body)
+  pub orders : (J : List Seg) (s : Store) (schedule : List ℕ) → is_order (length J) (run_job m.programs.begins J s schedule).order ≡ true
+  pub store : (J : List Seg) (s : Store) (schedule : List ℕ) → (run_job m.programs.begins J s schedule).store ≡ serial m.programs J (run_job m.programs.begins J s schedule).order s
+  pub ends : (J : List Seg) (s : Store) (schedule : List ℕ) → (run_job m.programs.begins J s schedule).ends ≡ tabulate (length J) (serial_end m.programs J (run_job m.programs.begins J s schedule).order s)
+  pub stores : (J : List Seg) (order : List ℕ) (s : Store) → IsJob J → is_order (length J) order ≡ true → IsStore s → IsStore (serial m.programs J order s)
+  pub reads : (J : List Seg) (order : List ℕ) (s : Store) → IsJob J → is_order (length J) order ≡ true → IsStore s → m.programs.read (token_of m.programs s (finish m.programs J order s)) ≡ Some (changes.outcome s (finish m.programs J order s).store (finish m.programs J order s).ends)
+  pub again : (who : ReqId) (body : List ℕ) (stage : ℕ) → GoesOn (m.programs.table who body stage) (m.programs.table who body)
 
 -- THE HISTORY
 
 -- the history has this reply to the request
 abbrev pub HasReply : {B : Type 0} → Config B → World B → ReqId → List ℕ → Type 0
-HasReply c w who text = (j : ℕ) × (slice_get (replies c.service.meaning w.hist) j ≡ Some (who, text))
+HasReply c w who text = (j : ℕ) × (slice_get (replies (meaning c.service) w.hist) j ≡ Some (who, text))
 
 -- it makes this call
 abbrev pub HasCall : {B : Type 0} → Config B → World B → Tier → ℕ → List ℕ → Type 0
-HasCall c w t n text = found_in (calls c.service.meaning w.hist) t n ≡ Some text
+HasCall c w t n text = found_in (calls (meaning c.service) w.hist) t n ≡ Some text
 
 -- it serves the call with this code
 abbrev pub HasAnswer : {B : Type 0} → Config B → World B → Tier → ℕ → ℕ → Type 0
-HasAnswer c w t n code = found_in (served c.service.meaning w.hist) t n ≡ Some code
+HasAnswer c w t n code = found_in (served (meaning c.service) w.hist) t n ≡ Some code
 
 -- the request was submitted with this text
 abbrev pub WasSubmitted : {B : Type 0} → World B → ReqId → List ℕ → Type 0
@@ -84,7 +84,7 @@ WasSubmitted w who body = (j : ℕ) × (slice_get w.submitted j ≡ Some (record
 pub record RepliesAt {B : Type 0} (c : Config B) (w : World B) (place : ℕ) (who : ReqId) (text : List ℕ) : Type 0 where
   pub step : HistoryStep
   pub is_step : slice_get w.hist place ≡ Some step
-  pub tells : told_by (step_at c.service.meaning (server_after c.service.meaning (take place w.hist)) step.0 step.1) ≡ Replied who text ∷ []
+  pub tells : told_by (step_at (meaning c.service) (server_after (meaning c.service) (take place w.hist)) step.0 step.1) ≡ Replied who text ∷ []
 
 -- the step is one of the request
 abbrev pub IsOf : ReqId → Hist → Type 0
@@ -138,18 +138,18 @@ learned_from u records = (recover u (log_facts (newest records))).learned
 
 -- a middle node that is up has the store and tables of its applied rounds
 abbrev pub MidApplied : {B : Type 0} → Config B → World B → Mode Mid → Type 0
-MidApplied c w (Up σ) = after c.service c.depth w.log (served_of c w) σ.applied ≡ Some σ.tables
+MidApplied c w (Up σ) = after c.service.programs c.depth w.log (served_of c w) σ.applied ≡ Some σ.tables
 MidApplied c w Down = Unit {0}
 MidApplied c w Gone = Unit {0}
 
 -- A backend node has the backend of its learned calls, the first of each number. A code of these is kept or below the
 -- floor, a kept code is one of these and not below the floor, and the floor is the greatest that was settled.
 pub record BackApplied {B : Type 0} (m : Service B) (t : Tier) (σ : Back B) : Type 0 where
-  pub state : σ.state ≡ (back_run m t σ.log.learned).state
-  pub codes : (n code : ℕ) → (back_run m t σ.log.learned).code n ≡ Some code → (n < σ.floor) ⊎ (code_of σ.kept t n ≡ Some code)
-  pub kept : (n code : ℕ) → code_of σ.kept t n ≡ Some code → (back_run m t σ.log.learned).code n ≡ Some code
+  pub state : σ.state ≡ (back_run (m.backend t) σ.log.learned).state
+  pub codes : (n code : ℕ) → (back_run (m.backend t) σ.log.learned).code n ≡ Some code → (n < σ.floor) ⊎ (code_of σ.kept t n ≡ Some code)
+  pub kept : (n code : ℕ) → code_of σ.kept t n ≡ Some code → (back_run (m.backend t) σ.log.learned).code n ≡ Some code
   pub above : (n code : ℕ) → code_of σ.kept t n ≡ Some code → σ.floor ≤ n
-  pub below : (n : ℕ) → 0 < n → n < σ.floor → (code : ℕ) × ((back_run m t σ.log.learned).code n ≡ Some code)
+  pub below : (n : ℕ) → 0 < n → n < σ.floor → (code : ℕ) × ((back_run (m.backend t) σ.log.learned).code n ≡ Some code)
   pub floor : σ.floor ≡ floor_of σ.log.learned
 
 abbrev pub BackServes : {B : Type 0} → Config B → Tier → Mode (Back B) → Type 0
@@ -167,9 +167,9 @@ DidRun w v = (i : ℕ) × (slice_get w.runs i ≡ Some v)
 pub record IsRun {B : Type 0} (c : Config B) (w : World B) (v : Vote) : Type 0 where
   pub inside : v.from < 2 * c.u + 1
   pub made : Round
-  pub is_round : round c.service c.depth w.log (served_of c w) v.round ≡ Some made
+  pub is_round : round c.service.programs c.depth w.log (served_of c w) v.round ≡ Some made
   pub is_ordered : is_order (length made.job) v.order ≡ true
-  pub is_token : v.token ≡ token_of c.service made.tables.store (finish c.service made.job v.order made.tables.store)
+  pub is_token : v.token ≡ token_of c.service.programs made.tables.store (finish c.service.programs made.job v.order made.tables.store)
 
 -- The node y ran the round to this token.
 abbrev pub RanTo : {B : Type 0} → World B → ℕ → List ℕ → ℕ → Type 0
@@ -203,7 +203,7 @@ pub record Durable {B : Type 0} (c : Config B) (w : World B) (t : Tier) (n : ℕ
 -- the round stands at the world, and each call that it waits for is durable there
 pub record UsedBefore {B : Type 0} (c : Config B) (w : World B) (r : ℕ) : Type 0 where
   pub made : Round
-  pub is_round : round c.service c.depth w.log (served_of c w) r ≡ Some made
+  pub is_round : round c.service.programs c.depth w.log (served_of c w) r ≡ Some made
   pub held : (j : ℕ) (q : Want) (k : Number) → slice_get made.wants j ≡ Some q → q.call ≡ Some k → Durable c w k.tier k.num
 
 -- HOLDERS
@@ -223,5 +223,5 @@ ManyHolders c es t n = (xs : ℕ → Bool) × (c.u < count_below (2 * c.u + 1) x
 -- the round stands after the events, and each call that it waits for has many holders by then
 pub record HeldBefore {B : Type 0} (c : Config B) (es : List TraceEvent) (r : ℕ) : Type 0 where
   pub made : Round
-  pub is_round : round c.service c.depth (world c es).log (served_of c (world c es)) r ≡ Some made
+  pub is_round : round c.service.programs c.depth (world c es).log (served_of c (world c es)) r ≡ Some made
   pub held : (j : ℕ) (q : Want) (k : Number) → slice_get made.wants j ≡ Some q → q.call ≡ Some k → ManyHolders c es k.tier k.num

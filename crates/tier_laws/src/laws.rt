@@ -29,7 +29,7 @@ ghost use Rattle.tier_laws.specs.Said.{Laws, HasReply, HasCall, HasAnswer, WasSu
 /// The history is legal on one server. Each reply, call and answer that was sent is one of this history, a reply goes to
 /// its own client, and so is each reply that a client took. What starts in it was submitted with that text.
 pub fn headline<B>()
-    ensures legal { (c : Config B) (es : List TraceEvent) → c.u ≤ 2 → Laws c.service → Legal c.service.meaning (world c es).hist }
+    ensures legal { (c : Config B) (es : List TraceEvent) → c.u ≤ 2 → Laws c.service → Legal (meaning c.service) (world c es).hist }
     ensures replies { (c : Config B) (es : List TraceEvent) (i : ℕ) (k : Packet) (who : ReqId) (text : List ℕ) → c.u ≤ 2 → Laws c.service → slice_get (world c es).soup i ≡ Some k → k.message ≡ messages.Reply who text → (k.to ≡ Client who.client) × HasReply c (world c es) who text }
     ensures calls { (c : Config B) (es : List TraceEvent) (i n : ℕ) (k : Packet) (text : List ℕ) → c.u ≤ 2 → Laws c.service → slice_get (world c es).soup i ≡ Some k → k.message ≡ messages.Call n text → HasCall c (world c es) (tier_of k.to) n text }
     ensures answers { (c : Config B) (es : List TraceEvent) (i n code : ℕ) (k : Packet) → c.u ≤ 2 → Laws c.service → slice_get (world c es).soup i ≡ Some k → k.message ≡ messages.Answer n code → HasAnswer c (world c es) (tier_of k.from) n code }
@@ -87,7 +87,7 @@ pub fn causes<B>()
 /// that its disk stands for. For a round's calls this holds before the event that chooses its verdict.
 pub fn durability<B>()
     ensures used { (c : Config B) (es : List TraceEvent) (r j : ℕ) (v : Verdict) (made : Round) (q : Want) (k : Number) → c.u ≤ 2 → Laws c.service → slice_get (world c es).log (2 * r + 1) ≡ Some (Mid (values.Verdict v))
-        → round c.service c.depth (world c es).log (served_of c (world c es)) r ≡ Some made → slice_get made.wants j ≡ Some q → q.call ≡ Some k → FewGone c (world c es) → Durable c (world c es) k.tier k.num }
+        → round c.service.programs c.depth (world c es).log (served_of c (world c es)) r ≡ Some made → slice_get made.wants j ≡ Some q → q.call ≡ Some k → FewGone c (world c es) → Durable c (world c es) k.tier k.num }
     ensures before { (c : Config B) (es : List TraceEvent) (e : TraceEvent) (r : ℕ) (v : Verdict) → c.u ≤ 2 → Laws c.service → length (world c es).log ≤ 2 * r + 1 → slice_get (world c (es ++ e ∷ [])).log (2 * r + 1) ≡ Some (Mid (values.Verdict v)) → FewGone c (world c es) → UsedBefore c (world c es) r }
     ensures floors { (c : Config B) (es : List TraceEvent) (i g n : ℕ) (k : Packet) → c.u ≤ 2 → Laws c.service → slice_get (world c es).soup i ≡ Some k → k.message ≡ messages.Settle g → 0 < n → n < g → FewGone c (world c es) → Durable c (world c es) (tier_of k.to) n }
     ensures settled { (c : Config B) (es : List TraceEvent) (t : Tier) (p g n : ℕ) → c.u ≤ 2 → Laws c.service → slice_get ((world c es).logs t) p ≡ Some (Back (Settle g)) → 0 < n → n < g → FewGone c (world c es) → Durable c (world c es) t n }

@@ -13,7 +13,7 @@ use Rattle.log_model.proofs.History.{DidVote}
 use Rattle.log_model.proofs.Invariant.{StateOk, TurnOk}
 use Rattle.log_model.specs.Recover.{newest, onto}
 use Rattle.log_model.specs.World.{Mode, Node, Packet as LogPacket}
-use Rattle.log_model.specs.World.Mode.{Down, Gone, Up}
+use Rattle.log_model.specs.Nodes.Mode.{Down, Gone, Up}
 use Rattle.log_model.specs.declared.fact.Fact.{Fact as LogFact}
 use Rattle.log_values.specs.declared.fact.Fact.{Fact}
 use Rattle.tier_model.specs.Back.{Back}
@@ -25,10 +25,10 @@ use Rattle.tier_laws.proofs.Invariant.ValuesAreGood.{BackOk}
 
 -- the backend's state, its kept codes and its floor are those of what is learned
 pub record Tied {B : Type 0} (m : Service B) (t : Tier) (vs : List AnyValue) (σ : Back B) : Type 0 where
-  pub state : σ.state ≡ (back_run m t vs).state
-  pub codes : (n code : ℕ) → (back_run m t vs).code n ≡ Some code → (n < σ.floor) ⊎ (code_of σ.kept t n ≡ Some code)
-  pub kept : (n code : ℕ) → code_of σ.kept t n ≡ Some code → (back_run m t vs).code n ≡ Some code
-  pub floor : (n : ℕ) → 0 < n → n < σ.floor → (code : ℕ) × ((back_run m t vs).code n ≡ Some code)
+  pub state : σ.state ≡ (back_run (m.backend t) vs).state
+  pub codes : (n code : ℕ) → (back_run (m.backend t) vs).code n ≡ Some code → (n < σ.floor) ⊎ (code_of σ.kept t n ≡ Some code)
+  pub kept : (n code : ℕ) → code_of σ.kept t n ≡ Some code → (back_run (m.backend t) vs).code n ≡ Some code
+  pub floor : (n : ℕ) → 0 < n → n < σ.floor → (code : ℕ) × ((back_run (m.backend t) vs).code n ≡ Some code)
   pub greatest : σ.floor ≡ floor_of vs
   pub above : (n code : ℕ) → code_of σ.kept t n ≡ Some code → σ.floor ≤ n
 

@@ -29,12 +29,12 @@ abbrev pub ordered : Round → Verdict → List ℕ
 ordered R v = order_in (length R.job) v
 
 abbrev pub finish_in : {B : Type 0} → Service B → Round → Verdict → Finish
-finish_in m R v = finish m R.job (ordered R v) R.tables.store
+finish_in m R v = finish m.programs R.job (ordered R v) R.tables.store
 
 pub record Decision {B : Type 0} (m : Service B) (D : ℕ) (L : List AnyValue) (O : Server B) (r : ℕ) : Type 0 where
   pub made : Round
   pub verdict : Verdict
-  pub is_round : round m D L O.served r ≡ Some made
+  pub is_round : round m.programs D L O.served r ≡ Some made
   pub is_verdict : verdict_at L r ≡ Some verdict
   pub is_ordered : is_order (length made.job) (ordered made verdict) ≡ true
   pub told : ToldAll O (acts made.tables.next made.wants (finish_in m made verdict).ends)
@@ -43,10 +43,10 @@ pub record Decision {B : Type 0} (m : Service B) (D : ℕ) (L : List AnyValue) (
 pub record Ledger {B : Type 0} (m : Service B) (D : ℕ) (L : List AnyValue) (K : Tier → List AnyValue) (h : History_) : Type 0 where
   pub legal : Legal m h
   pub tables : Tables
-  pub is_after : after m D L (server m h).served (half (length L)) ≡ Some tables
+  pub is_after : after m.programs D L (server m h).served (half (length L)) ≡ Some tables
   pub mirrors : Mirrors m tables (server m h)
   pub tables_ok : TablesOk (server m h) tables
   pub decided : (r : ℕ) → r < half (length L) → Decision m D L (server m h) r
-  pub served : (t : Tier) (n : ℕ) → (server m h).served t n ≡ (back_run m t (K t)).code n
-  pub backs : (t : Tier) → (server m h).backs t ≡ (back_run m t (K t)).state
-  pub settles : (t : Tier) (i g n : ℕ) → slice_get (K t) i ≡ Some (OfBack (Settled g)) → 0 < n → n < g → (code : ℕ) × ((back_run m t (take i (K t))).code n ≡ Some code)
+  pub served : (t : Tier) (n : ℕ) → (server m h).served t n ≡ (back_run (m.backend t) (K t)).code n
+  pub backs : (t : Tier) → (server m h).backs t ≡ (back_run (m.backend t) (K t)).state
+  pub settles : (t : Tier) (i g n : ℕ) → slice_get (K t) i ≡ Some (OfBack (Settled g)) → 0 < n → n < g → (code : ℕ) × ((back_run (m.backend t) (take i (K t))).code n ≡ Some code)

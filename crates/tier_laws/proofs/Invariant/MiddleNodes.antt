@@ -17,7 +17,7 @@ use Rattle.log_model.proofs.History.{DidVote}
 use Rattle.log_model.proofs.Invariant.{StateOk, TurnOk}
 use Rattle.log_model.specs.Recover.{newest, onto}
 use Rattle.log_model.specs.World.{Mode, Node, Packet as LogPacket}
-use Rattle.log_model.specs.World.Mode.{Down, Gone, Up}
+use Rattle.log_model.specs.Nodes.Mode.{Down, Gone, Up}
 use Rattle.log_model.specs.declared.fact.Fact.{Fact as LogFact}
 use Rattle.log_values.specs.declared.fact.Fact.{Fact}
 use Rattle.tier_laws.proofs.Invariant.Past.{Past, holds}
@@ -25,7 +25,7 @@ use Rattle.tier_laws.proofs.Invariant.VerdictsHaveCauses.{DidRun}
 use Rattle.tier_laws.proofs.Invariant.ValuesAreGood.{Submitted, MidOk}
 
 pub record MidOther {B : Type 0} (c : Config B) (P : Past B) (x : ℕ) (σ : Mid) : Type 0 where
-  pub is_after : after c.service c.depth P.log P.server.served σ.applied ≡ Some σ.tables
+  pub is_after : after c.service.programs c.depth P.log P.server.served σ.applied ≡ Some σ.tables
   pub tables : TablesOk P.server σ.tables
   pub pending : (y : ℕ) (e : Entry) → pending_of σ.pending y ≡ Some e → Submitted P e
   pub tally : (i : ℕ) (v : Vote) → slice_get σ.tally i ≡ Some v → DidRun P v

@@ -1,6 +1,6 @@
 use Rattle.std.proofs.Common.{◌≡◌, true}
 use Rattle.node_journal.specs.Append.{IsReady}
-use Rattle.public_calls.proofs.journal_records.fill.Given as goal
+use Rattle.base_calls.proofs.journal_records.fill.Given as goal
 
 abbrev pub invariant-loop : goal.invariant-loop
 invariant-loop g l = (g.D.Disk.state l.disk).tells ≡ true → IsReady (g.D.Disk.state l.disk) l.journal

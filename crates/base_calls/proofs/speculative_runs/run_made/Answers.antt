@@ -1,5 +1,5 @@
 use Rattle.rollback.specs.Runs.{WasRun}
-use Rattle.public_calls.proofs.speculative_runs.run_made.Goals as goal
+use Rattle.base_calls.proofs.speculative_runs.run_made.Goals as goal
 
 pub returns-clause-was : goal.returns-clause-was
 returns-clause-was g c = record {

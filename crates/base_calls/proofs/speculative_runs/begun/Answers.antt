@@ -1,7 +1,7 @@
 use Rattle.rollback.proofs.Commits.{reads_of}
 use Rattle.rollback.proofs.Fits.{run_fits}
 use Rattle.rollback.specs.Views.{token_of}
-use Rattle.public_calls.proofs.speculative_runs.begun.Goals as goal
+use Rattle.base_calls.proofs.speculative_runs.begun.Goals as goal
 
 -- the run's own token reads as its outcome
 pub returns-in-Ok-clause-reads : goal.returns-in-Ok-clause-reads

@@ -1,7 +1,7 @@
 use Rattle.std.proofs.Common.{◌≡◌, true, ℕ, Err, ap, sym, subst}
 use Rattle.aeg_disk.specs.Disk.{DiskState}
 use Rattle.node_journal.specs.Append.{IsReady}
-use Rattle.public_calls.proofs.journal_records.refused_at.Goals as goal
+use Rattle.base_calls.proofs.journal_records.refused_at.Goals as goal
 
 pub returns-in-Full : goal.returns-in-Full
 returns-in-Full g c =

@@ -1,4 +1,4 @@
-use Rattle.public_calls.proofs.in_turn.run_in_turn.Given as goal
+use Rattle.base_calls.proofs.in_turn.run_in_turn.Given as goal
 
 -- the task is this call's
 abbrev pub ghosts-run_task : goal.ghosts-run_task

@@ -1,7 +1,7 @@
 use Rattle.std.proofs.Common.{subst, sym}
 use Rattle.rollback.specs.Runs.{AreNumbers}
 use Rattle.rollback.proofs.Bounded.{numbers_after}
-use Rattle.public_calls.proofs.booking_jobs.run_asks.Goals as goal
+use Rattle.base_calls.proofs.booking_jobs.run_asks.Goals as goal
 
 pub returns : goal.returns
 returns g c =
