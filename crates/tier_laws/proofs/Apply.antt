@@ -13,7 +13,7 @@ use Rattle.log_values.specs.declared.mid_value.MidValue.TheVariants.{Batch, Verd
 use Rattle.log_values.specs.declared.mid_value.Verdict.{Verdict}
 use Rattle.log_values.specs.declared.mid_value.Verdict.TheVariants.{Commit, Serial}
 use Rattle.round_model.specs.After.{Round, after, batch_at, round_at, verdict_at, verdict_in}
-use Rattle.round_model.specs.Answers.{code_of}
+use Rattle.tier_laws.proofs.Codes.{code_of}
 use Rattle.round_model.specs.Lists.{OfTiers, of_tier, and_then, below, each, half, odd}
 use Rattle.round_model.specs.Service.{Finish, finish_by, Service, finish, is_order}
 use Rattle.round_model.specs.Tables.{last_of, pending_of, drop_done, Tables, Want, bump, job_of, not_done, settled, wants}

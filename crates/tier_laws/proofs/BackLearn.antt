@@ -9,7 +9,7 @@ use Rattle.log_model.specs.Log.{nobody}
 use Rattle.log_values.specs.declared.any_value.AnyValue.{AnyValue}
 use Rattle.log_values.specs.declared.any_value.AnyValue.TheVariants.{Back as OfBack, Mid as OfMid}
 use Rattle.log_values.specs.declared.back_value.BackValue.TheVariants.{Call as Called, Settle as Settled}
-use Rattle.round_model.specs.Answers.{Code, code_of}
+use Rattle.tier_laws.proofs.Codes.{Code, code_of}
 use Rattle.round_model.specs.Copies.{Copy, codes_from, copies_but, copies_from}
 use Rattle.round_model.specs.Lists.{each, is_some}
 use Rattle.round_model.specs.Service.{Service}

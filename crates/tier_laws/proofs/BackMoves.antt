@@ -17,7 +17,7 @@ use Rattle.log_model.specs.declared.message.PaxMsg.{PaxMsg}
 use Rattle.log_values.specs.declared.any_value.AnyValue.{AnyValue}
 use Rattle.log_values.specs.declared.any_value.AnyValue.TheVariants.{Back as OfBack, Mid as OfMid}
 use Rattle.log_values.specs.declared.back_value.BackValue.TheVariants.{Call as Called, Settle as Settled}
-use Rattle.round_model.specs.Answers.{Code}
+use Rattle.tier_laws.proofs.Codes.{Code}
 use Rattle.round_model.specs.Copies.{Copy, due, due_among, greater, is_ready, least_ready, lesser, many_at_least}
 use Rattle.round_model.specs.Lists.{each, is_some}
 use Rattle.round_model.specs.Service.{Service}
@@ -31,7 +31,9 @@ use Rattle.tier_laws.proofs.Past.{BackOk, FloorOk, SentOk, Past}
 use Rattle.tier_laws.proofs.Stable.{MoreLog}
 use Rattle.aeg_base.specs.declared.names.Tier.TheVariants.{Mid as MidTier, Inv, Pay}
 use Rattle.frames.specs.declared.turn.Idle.TheVariants as why
-use Rattle.tier_laws.proofs.Soups.{mid_soup, back_soup, mid_soup-append, back_soup-append, NoLog, no_mid, no_back, none_nil, none_append, none_each, back_soup-own, mid_soup-back, back_soup-other, every-log}
+use Rattle.tier_laws.proofs.Soups.{NoLog, no_log, none_nil, none_append, none_each, log_soup-own, log_soup-other, every-log}
+use Rattle.run_model.specs.Runs.{log_soup}
+use Rattle.run_model.proofs.Soups.{log_soup-append}
 use Rattle.tier_model.specs.Back.{Back, after_value, in_log, new_value, passes, value_sends, value_state, value_tells, with_log}
 use Rattle.log_model.specs.declared.fact.Fact.TheVariants.{Promised, Accepted as Voted, Learned}
 use Rattle.log_model.specs.declared.message.PaxMsg.TheVariants.{Ask}
@@ -44,7 +46,7 @@ use Rattle.log_model.proofs.Votes.{offer_ok}
 use Rattle.log_model.proofs.Origin.{lead_from, offer_from}
 use Rattle.log_model.proofs.Invariant.{SendOk}
 use Rattle.log_values.specs.declared.fact.Fact.{Fact}
-use Rattle.round_model.specs.Answers.{highest}
+use Rattle.tier_laws.proofs.Codes.{highest}
 use Rattle.round_model.specs.Copies.{floor_at}
 use Rattle.tier_laws.proofs.BackRows.{back_stays}
 use Rattle.tier_laws.proofs.Lists.{at-replicate, get_end, get_left, length_push}
@@ -127,17 +129,17 @@ turn_learnt {B} c P t x vs σ s known tied other more (inr r) =
     subst (λ o. Learnt c P t x s.learned (value_state (c.service.backend t) (with_log σ s) o) (value_tells c.u (c.service.backend t) t x (with_log σ s) o)) (sym some)
     (subst (λ z. Learnt c P t x z (after_value (c.service.backend t) (with_log σ s) r.0) (value_sends c.u (c.service.backend t) t x (with_log σ s) r.0)) (sym r.1) l)
 
-pub back_move : {B : Type 0} (c : Config B) (P : Past B) (t : Tier) (vs : List AnyValue) (h : ℕ → List (LogFact AnyValue)) (soup : List Packet) (x : ℕ) (σ : Back B) (a : Turn AnyValue) (own : Option AnyValue) → BackHere c P t vs h soup x σ → TurnOk c.u h (back_soup t soup) x a → Origins c.u h x own a
+pub back_move : {B : Type 0} (c : Config B) (P : Past B) (t : Tier) (vs : List AnyValue) (h : ℕ → List (LogFact AnyValue)) (soup : List Packet) (x : ℕ) (σ : Back B) (a : Turn AnyValue) (own : Option AnyValue) → BackHere c P t vs h soup x σ → TurnOk c.u h (log_soup t soup) x a → Origins c.u h x own a
     → length a.facts ≤ 1 → ((p : ℕ) (v : AnyValue) → own ≡ Some v → BackOk c P t p v) → BackMoveOk c P t h soup x (in_log c.u (c.service.backend t) t x σ a)
 back_move {B} c P t vs h soup x σ a own k ok from one fine = record {
   turn = a;
   turn_ok = ok;
   good = λ p b w d. good p w (from.from p b w d);
   is_facts = log_facts-map a.facts;
-  is_sends = back_soup-append t (log_packets t x a.sends) told ∙ ap (λ z. back_soup t (log_packets t x a.sends) ++ z) (no_back told none t) ∙ append-nil (back_soup t (log_packets t x a.sends)) ∙ back_soup-own t x a.sends k.backend;
+  is_sends = log_soup-append t (log_packets t x a.sends) told ∙ ap (λ z. log_soup t (log_packets t x a.sends) ++ z) (no_back told none t) ∙ append-nil (log_soup t (log_packets t x a.sends)) ∙ log_soup-own t x a.sends k.backend;
   is_log = state_log c.service t (with_log σ a.state) (new_value σ.log a.state);
-  no_mid = mid_soup-append (log_packets t x a.sends) told ∙ ap (λ z. z ++ mid_soup told) (mid_soup-back t x a.sends k.backend) ∙ no_mid told none;
-  no_back = λ w e. back_soup-append w (log_packets t x a.sends) told ∙ ap (λ z. z ++ back_soup w told) (back_soup-other w t x a.sends (tier_sym w t e)) ∙ no_back told none w;
+  no_mid = log_soup-append MidTier (log_packets t x a.sends) told ∙ ap (λ z. z ++ log_soup MidTier told) (log_soup-other MidTier t x a.sends k.backend) ∙ no_mid told none;
+  no_back = λ w e. log_soup-append w (log_packets t x a.sends) told ∙ ap (λ z. z ++ log_soup w told) (log_soup-other w t x a.sends (tier_sym w t e)) ∙ no_back told none w;
   other = l.other;
   tied = subst (λ (z : LogState AnyValue). Tied c.service t z.learned (value_state (c.service.backend t) (with_log σ a.state) (new_value σ.log a.state))) (sym (state_log c.service t (with_log σ a.state) (new_value σ.log a.state))) l.tied;
   sends = every-append (SentOk c P) (log_packets t x a.sends) told (every-log c P t x a.sends) l.sends;
@@ -153,11 +155,11 @@ back_move {B} c P t vs h soup x σ a own k ok from one fine = record {
     good p w (inl s) = k.good s.0 s.2 p s.1 w s.3
     good p w (inr s) = fine p w s.0
 
-    r : Rest c.u (wrote h x a) (onto a.facts (h x)) (back_soup t soup) x a
-    r = turn_rest c.u h (back_soup t soup) x a ok
+    r : Rest c.u (wrote h x a) (onto a.facts (h x)) (log_soup t soup) x a
+    r = turn_rest c.u h (log_soup t soup) x a ok
 
     more : MoreLog a.state.learned vs
-    more = state_more c.u h (back_soup t soup) vs x a ok k.complete
+    more = state_more c.u h (log_soup t soup) vs x a ok k.complete
 
     steps : (learned_in (onto a.facts (h x)) ≡ learned_in (h x)) ⊎ ((v : AnyValue) × (learned_in (onto a.facts (h x)) ≡ learned_in (h x) ++ v ∷ [])) → (a.state.learned ≡ σ.log.learned) ⊎ ((v : AnyValue) × (a.state.learned ≡ σ.log.learned ++ v ∷ []))
     steps (inl e) = inl (r.state.learned ∙ e ∙ sym k.log.learned)
@@ -225,13 +227,13 @@ answers_none u t x (k ∷ ks) = none_append (each (2 * u + 1) nobody (answer_to 
 pub back_retry_ok : {B : Type 0} (c : Config B) (P : Past B) (t : Tier) (vs : List AnyValue) (h : ℕ → List (LogFact AnyValue)) (soup : List Packet) (x : ℕ) (σ : Back B) → BackHere c P t vs h soup x σ → BackMoveOk c P t h soup x (retry c.u t x σ)
 back_retry_ok {B} c P t vs h soup x σ k = record {
   turn = log_says σ.log (asks c.u x (open_at σ.log));
-  turn_ok = still c.u h (back_soup t soup) x σ.log σ.log (asks c.u x (open_at σ.log)) None (back_knows c P t vs h soup x σ k) k.log (λ g same m. every-each (SendOk c.u g (back_soup t soup) x) (2 * c.u + 1) (is x) (λ y. (y, Ask (open_at σ.log))) (λ y. tt));
+  turn_ok = still c.u h (log_soup t soup) x σ.log σ.log (asks c.u x (open_at σ.log)) None (back_knows c P t vs h soup x σ k) k.log (λ g same m. every-each (SendOk c.u g (log_soup t soup) x) (2 * c.u + 1) (is x) (λ y. (y, Ask (open_at σ.log))) (λ y. tt));
   good = λ p b w d. k.good x k.inside p b w d;
   is_facts = refl;
-  is_sends = back_soup-append t (log_packets t x (asks c.u x (open_at σ.log))) told ∙ ap (λ z. back_soup t (log_packets t x (asks c.u x (open_at σ.log))) ++ z) (no_back told none t) ∙ append-nil (back_soup t (log_packets t x (asks c.u x (open_at σ.log)))) ∙ back_soup-own t x (asks c.u x (open_at σ.log)) k.backend;
+  is_sends = log_soup-append t (log_packets t x (asks c.u x (open_at σ.log))) told ∙ ap (λ z. log_soup t (log_packets t x (asks c.u x (open_at σ.log))) ++ z) (no_back told none t) ∙ append-nil (log_soup t (log_packets t x (asks c.u x (open_at σ.log)))) ∙ log_soup-own t x (asks c.u x (open_at σ.log)) k.backend;
   is_log = refl;
-  no_mid = mid_soup-append (log_packets t x (asks c.u x (open_at σ.log))) told ∙ ap (λ z. z ++ mid_soup told) (mid_soup-back t x (asks c.u x (open_at σ.log)) k.backend) ∙ no_mid told none;
-  no_back = λ w e. back_soup-append w (log_packets t x (asks c.u x (open_at σ.log))) told ∙ ap (λ z. z ++ back_soup w told) (back_soup-other w t x (asks c.u x (open_at σ.log)) (tier_sym w t e)) ∙ no_back told none w;
+  no_mid = log_soup-append MidTier (log_packets t x (asks c.u x (open_at σ.log))) told ∙ ap (λ z. z ++ log_soup MidTier told) (log_soup-other MidTier t x (asks c.u x (open_at σ.log)) k.backend) ∙ no_mid told none;
+  no_back = λ w e. log_soup-append w (log_packets t x (asks c.u x (open_at σ.log))) told ∙ ap (λ z. z ++ log_soup w told) (log_soup-other w t x (asks c.u x (open_at σ.log)) (tier_sym w t e)) ∙ no_back told none w;
   other = k.other;
   tied = k.tied;
   sends = every-append (SentOk c P) (log_packets t x (asks c.u x (open_at σ.log))) told (every-log c P t x (asks c.u x (open_at σ.log)))
@@ -250,13 +252,13 @@ back_retry_ok {B} c P t vs h soup x σ k = record {
 -- LEADING AND OFFERING
 
 pub back_leads_ok : {B : Type 0} (c : Config B) (P : Past B) (t : Tier) (vs : List AnyValue) (h : ℕ → List (LogFact AnyValue)) (soup : List Packet) (x : ℕ) (σ : Back B) → BackHere c P t vs h soup x σ → BackMoveOk c P t h soup x (leads c.u (c.service.backend t) t x σ)
-back_leads_ok c P t vs h soup x σ k = back_move c P t vs h soup x σ (lead c.u x σ.log) None k (lead_ok c.u h (back_soup t soup) x σ.log (back_knows c P t vs h soup x σ k)) (lead_from c.u h x σ.log k.inside) (one_lead c.u x σ.log) (λ p v e. absurd (cc))
+back_leads_ok c P t vs h soup x σ k = back_move c P t vs h soup x σ (lead c.u x σ.log) None k (lead_ok c.u h (log_soup t soup) x σ.log (back_knows c P t vs h soup x σ k)) (lead_from c.u h x σ.log k.inside) (one_lead c.u x σ.log) (λ p v e. absurd (cc))
 
 pub back_offers_ok : {B : Type 0} (c : Config B) (P : Past B) (t : Tier) (vs : List AnyValue) (h : ℕ → List (LogFact AnyValue)) (soup : List Packet) (x : ℕ) (σ : Back B) → BackHere c P t vs h soup x σ → BackMoveOk c P t h soup x (offers c.u (c.service.backend t) t x σ)
 back_offers_ok {B} c P t vs h soup x σ k = go (log_wants c.u σ.log)
   where
     offered : BackMoveOk c P t h soup x (in_log c.u (c.service.backend t) t x σ (offer c.u x σ.log (own_value c.u σ)))
-    offered = back_move c P t vs h soup x σ (offer c.u x σ.log (own_value c.u σ)) (own_value c.u σ) k (offer_ok c.u h (back_soup t soup) x σ.log σ.log.leader (own_value c.u σ) (back_knows c P t vs h soup x σ k) k.log.leader)
+    offered = back_move c P t vs h soup x σ (offer c.u x σ.log (own_value c.u σ)) (own_value c.u σ) k (offer_ok c.u h (log_soup t soup) x σ.log σ.log.leader (own_value c.u σ) (back_knows c P t vs h soup x σ k) k.log.leader)
         (offer_from c.u h x σ.log σ.log.leader (own_value c.u σ) k.inside k.log.leader) (one_offer c.u x σ.log σ.log.leader (own_value c.u σ))
         (λ p v e. back_own_ok c P t σ p v k.other e)
 

@@ -15,7 +15,7 @@ use Rattle.log_model.specs.declared.fact.Fact.{Fact as LogFact}
 use Rattle.log_values.specs.declared.any_value.AnyValue.{AnyValue}
 use Rattle.log_values.specs.declared.any_value.AnyValue.TheVariants.{Back as OfBack}
 use Rattle.log_values.specs.declared.back_value.BackValue.TheVariants.{Call as Called, Settle as Settled}
-use Rattle.round_model.specs.Answers.{code_of}
+use Rattle.tier_laws.proofs.Codes.{code_of}
 use Rattle.round_model.specs.Copies.{floor_at, Copy, copy_of}
 use Rattle.round_model.specs.Lists.{put_at, is_some}
 use Rattle.run_model.specs.Histories.{back_run}
@@ -26,7 +26,8 @@ use Rattle.tier_laws.proofs.Past.{BackOk, FloorOk, Grows, SentOk, Past, floor-mo
 use Rattle.aeg_base.specs.declared.names.Tier.TheVariants.{Mid as MidTier}
 use Rattle.frames.specs.declared.turn.Turn.{Turn as Answer}
 use Rattle.frames.specs.declared.turn.Idle.TheVariants as why
-use Rattle.tier_laws.proofs.Soups.{mid_soup, back_soup, NoLog, no_mid, no_back, none_nil}
+use Rattle.tier_laws.proofs.Soups.{NoLog, no_log, none_nil}
+use Rattle.run_model.specs.Runs.{log_soup}
 use Rattle.tier_model.specs.Back.{Back}
 use Rattle.log_model.specs.declared.turn.LogIdle.TheVariants.{Nothing}
 use Rattle.log_model.specs.World.{packets_of}
@@ -53,13 +54,13 @@ pub record BackKnown {B : Type 0} (c : Config B) (P : Past B) (t : Tier) (vs : L
 
 pub record BackMoveOk {B : Type 0} (c : Config B) (P : Past B) (t : Tier) (h : ℕ → List (LogFact AnyValue)) (soup : List Packet) (x : ℕ) (v : Move (Back B)) : Type 0 where
   pub turn : Turn AnyValue
-  pub turn_ok : TurnOk c.u h (back_soup t soup) x turn
+  pub turn_ok : TurnOk c.u h (log_soup t soup) x turn
   pub good : (p : ℕ) (b : Ballot) (w : AnyValue) → DidVote (onto turn.facts (h x)) p b w → BackOk c P t p w
   pub is_facts : log_facts v.facts ≡ turn.facts
-  pub is_sends : back_soup t v.sends ≡ packets_of x turn.sends
+  pub is_sends : log_soup t v.sends ≡ packets_of x turn.sends
   pub is_log : v.state.log ≡ turn.state
-  pub no_mid : mid_soup v.sends ≡ []
-  pub no_back : (w : Tier) → same_tier w t ≡ false → back_soup w v.sends ≡ []
+  pub no_mid : log_soup MidTier v.sends ≡ []
+  pub no_back : (w : Tier) → same_tier w t ≡ false → log_soup w v.sends ≡ []
   pub other : BackOther c P t v.state
   pub tied : Tied c.service t v.state.log.learned v.state
   pub sends : Every (SentOk c P) v.sends
@@ -68,15 +69,15 @@ pub record BackHere {B : Type 0} (c : Config B) (P : Past B) (t : Tier) (vs : Li
   pub few : c.u < 128
   pub backend : same_tier t MidTier ≡ false
   pub inside : x < 2 * c.u + 1
-  pub history : History c.u h (back_soup t soup)
-  pub log : StateOk c.u h (h x) (back_soup t soup) x σ.log
+  pub history : History c.u h (log_soup t soup)
+  pub log : StateOk c.u h (h x) (log_soup t soup) x σ.log
   pub good : (y : ℕ) → y < 2 * c.u + 1 → (p : ℕ) (b : Ballot) (v : AnyValue) → DidVote (h y) p b v → BackOk c P t p v
-  pub complete : Complete c.u (back_soup t soup) vs
+  pub complete : Complete c.u (log_soup t soup) vs
   pub other : BackOther c P t σ
   pub tied : Tied c.service t σ.log.learned σ
   pub known : BackKnown c P t vs
 
-pub back_knows : {B : Type 0} (c : Config B) (P : Past B) (t : Tier) (vs : List AnyValue) (h : ℕ → List (LogFact AnyValue)) (soup : List Packet) (x : ℕ) (σ : Back B) → BackHere c P t vs h soup x σ → Knows c.u h (back_soup t soup) x σ.log
+pub back_knows : {B : Type 0} (c : Config B) (P : Past B) (t : Tier) (vs : List AnyValue) (h : ℕ → List (LogFact AnyValue)) (soup : List Packet) (x : ℕ) (σ : Back B) → BackHere c P t vs h soup x σ → Knows c.u h (log_soup t soup) x σ.log
 back_knows c P t vs h soup x σ k = record { few = k.few; inside = k.inside; history = k.history; state = k.log }
 
 -- a move beside the log
@@ -84,7 +85,7 @@ back_plain : {B : Type 0} {a : Answer} (c : Config B) (P : Past B) (t : Tier) (v
     → BackMoveOk c P t h soup x (record { state = τ; facts = []; sends = ks; answer = a })
 back_plain c P t vs h soup x σ τ ks k l n o e s = record {
   turn = log_idles σ.log Nothing;
-  turn_ok = idle_ok c.u h (back_soup t soup) x σ.log Nothing (back_knows c P t vs h soup x σ k);
+  turn_ok = idle_ok c.u h (log_soup t soup) x σ.log Nothing (back_knows c P t vs h soup x σ k);
   good = λ p b w d. k.good x k.inside p b w d;
   is_facts = refl;
   is_sends = no_back ks n t;

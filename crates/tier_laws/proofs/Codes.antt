@@ -1,13 +1,52 @@
--- Codes by tier and number.
-use Rattle.std.proofs.Common.{◌≡◌, ℕ, Bool, true, false, cond, List, [], ◌∷◌, ◌++◌, refl, ap, subst, inl, inr, Option, Some, None, zero, suc}
-use Rattle.std.specs.Prelude.{slice_get, ◌⊎◌, ◌==◌, ◌&&◌}
+-- The codes of the Held facts that a node wrote, the oldest first.
+use Rattle.std.proofs.Common.{◌≡◌, ℕ, Bool, true, false, cond, List, [], ◌∷◌, ◌++◌, refl, sym, ap, ◌∙◌, subst, inl, inr, Option, Some, None, zero, suc}
+use Rattle.std.specs.Prelude.{slice_get, ◌⊎◌, ◌==◌, ◌&&◌, if◌then◌else◌}
 use Rattle.std.proofs.lemmas.Bool.{and_from, and_parts, cond-true, eq-eqb, eqb-true}
+use Rattle.std.proofs.lemmas.List.{append-nil, append_assoc}
 use Rattle.std.proofs.lemmas.Option.{cond_some}
 use Rattle.aeg_base.specs.declared.names.Tier.{Tier}
 use Rattle.server_model.specs.Server.{same_tier}
-use Rattle.round_model.specs.Answers.{Code, code_of}
+use Rattle.log_values.specs.declared.fact.Fact.{Fact}
+use Rattle.log_values.specs.declared.fact.Fact.TheVariants.{Promised, Accepted, Learned, Held}
+use Rattle.log_model.specs.Recover.{onto}
 use Rattle.round_model.specs.Lists.{is_some}
 use Rattle.tier_laws.proofs.Lists.{some_of, tier_eq, tier_same}
+
+-- the code of a call
+pub record Code : Type 0 where
+  pub tier : Tier
+  pub num : ℕ
+  pub code : ℕ
+
+-- the first code of the call
+abbrev pub code_of : List Code → Tier → ℕ → Option ℕ
+code_of [] t n = None
+code_of (c ∷ cs) t n = if same_tier c.tier t && (c.num == n) then Some c.code else code_of cs t n
+
+-- those of facts that have the oldest in front
+abbrev pub helds : List Fact → List Code
+helds [] = []
+helds (Promised b ∷ fs) = helds fs
+helds (Accepted p b v ∷ fs) = helds fs
+helds (Learned p v ∷ fs) = helds fs
+helds (Held t n code ∷ fs) = record { tier = t; num = n; code = code } ∷ helds fs
+
+-- those of facts that have the newest in front
+abbrev pub codes_in : List Fact → List Code
+codes_in [] = []
+codes_in (Promised b ∷ fs) = codes_in fs
+codes_in (Accepted p b v ∷ fs) = codes_in fs
+codes_in (Learned p v ∷ fs) = codes_in fs
+codes_in (Held t n code ∷ fs) = codes_in fs ++ record { tier = t; num = n; code = code } ∷ []
+
+pub codes_in-onto : (fs F : List Fact) → codes_in (onto fs F) ≡ codes_in F ++ helds fs
+codes_in-onto [] F = sym (append-nil (codes_in F))
+codes_in-onto (Promised b ∷ fs) F = codes_in-onto fs (Promised b ∷ F)
+codes_in-onto (Accepted p b v ∷ fs) F = codes_in-onto fs (Accepted p b v ∷ F)
+codes_in-onto (Learned p v ∷ fs) F = codes_in-onto fs (Learned p v ∷ F)
+codes_in-onto (Held t n code ∷ fs) F = codes_in-onto fs (Held t n code ∷ F) ∙ append_assoc (codes_in F) _ (helds fs)
+
+-- CODES BY TIER AND NUMBER
 
 pub same_number : (t : Tier) (n : ℕ) → (same_tier t t && (n == n)) ≡ true
 same_number t n = and_from (same_tier t t) (n == n) (tier_same t) (eq-eqb n n refl)

@@ -1,5 +1,6 @@
 -- The invariant of the world, and what a change of one node keeps of it.
 pub use Rattle.tier_laws.proofs.Invariant.Whole.{past, Core, Done, NearlyDone, Inv, Mid_event}
+use Rattle.aeg_base.specs.declared.names.Tier.TheVariants.{Mid as MidTier}
 pub use Rattle.tier_laws.proofs.Invariant.MiddleNodes.{MidPending, MidUp, MidDown, MidMode}
 pub use Rattle.tier_laws.proofs.Invariant.BackendNodes.{BackPending, BackUp, BackDown, BackMode}
 use Rattle.std.proofs.Common.{◌≡◌, ℕ, List, [], ◌++◌, refl, sym, ap, ◌∙◌, subst, Some}
@@ -14,14 +15,15 @@ use Rattle.log_model.specs.Nodes.Mode.{Down, Gone, Up}
 use Rattle.log_model.specs.declared.fact.Fact.{Fact as LogFact}
 use Rattle.log_values.specs.declared.fact.Fact.{Fact}
 use Rattle.log_values.specs.declared.any_value.AnyValue.{AnyValue}
-use Rattle.round_model.specs.Answers.{Code}
+use Rattle.tier_laws.proofs.Codes.{Code}
 use Rattle.run_model.specs.World.{Config, World}
 use Rattle.tier_laws.proofs.BackRows.{back_other-more}
 use Rattle.tier_laws.proofs.Logs.{nearly}
 use Rattle.tier_laws.proofs.Past.{Grows, Known, MidOk, Past, back_ok-more, mid_ok-more, other-more}
 use Rattle.tier_model.specs.Back.{Back}
 use Rattle.tier_model.specs.Mid.{Mid}
-use Rattle.tier_laws.proofs.Soups.{mid_soup, back_soup, mid_soup-append, back_soup-append}
+use Rattle.run_model.specs.Runs.{log_soup}
+use Rattle.run_model.proofs.Soups.{log_soup-append}
 use Rattle.tier_model.specs.Moves.{Packet}
 
 -- THE NODES
@@ -64,24 +66,24 @@ back_mode-more c P Q t h g xs ys x node Gone w a s e k = tt
 -- THE INVARIANT
 
 pub nearly_done : {B : Type 0} (c : Config B) (w : World B) → Done c w → NearlyDone c w
-nearly_done c w k = record { mid = nearly c.u (mid_soup w.soup) w.log k.mid; back = λ t. nearly c.u (back_soup t w.soup) (w.logs t) (k.back t) }
+nearly_done c w k = record { mid = nearly c.u (log_soup MidTier w.soup) (w.logs MidTier) k.mid; back = λ t. nearly c.u (log_soup t w.soup) (w.logs t) (k.back t) }
 
 pub unchanged : {B : Type 0} (c : Config B) (w : World B) → (i : Inv c w) → Mid_event c (past c w i.codes) w
 unchanged c w i = record { codes = i.codes; h = i.h; k = i.k; core = i.core; near = nearly_done c w i.done; before = i.core.mid_log; gone_codes = λ y g. refl }
 
-pub known : {B : Type 0} (c : Config B) (w : World B) (codes : ℕ → List Code) (h : ℕ → List (LogFact AnyValue)) (k : Tier → ℕ → List (LogFact AnyValue)) → Core c w codes h k → ((p : ℕ) (v : AnyValue) → slice_get w.log p ≡ Some v → MidOk c (past c w codes) p v) → Known c (past c w codes)
+pub known : {B : Type 0} (c : Config B) (w : World B) (codes : ℕ → List Code) (h : ℕ → List (LogFact AnyValue)) (k : Tier → ℕ → List (LogFact AnyValue)) → Core c w codes h k → ((p : ℕ) (v : AnyValue) → slice_get (w.logs MidTier) p ≡ Some v → MidOk c (past c w codes) p v) → Known c (past c w codes)
 known c w codes h k i v = record { laws = i.laws; values = v; decided = i.ledger.decided; runs = i.runs; codes = i.right }
 
 -- THE PACKETS
 
-pub soup_mid : (u : ℕ) (soup ks : List Packet) → SoupGrew u (mid_soup soup) (mid_soup (soup ++ ks))
-soup_mid u soup ks = subst (SoupGrew u (mid_soup soup)) (sym (mid_soup-append soup ks)) (soup-append u (mid_soup soup) (mid_soup ks))
+pub soup_mid : (u : ℕ) (soup ks : List Packet) → SoupGrew u (log_soup MidTier soup) (log_soup MidTier (soup ++ ks))
+soup_mid u soup ks = subst (SoupGrew u (log_soup MidTier soup)) (sym (log_soup-append MidTier soup ks)) (soup-append u (log_soup MidTier soup) (log_soup MidTier ks))
 
-pub soup_back : (u : ℕ) (t : Tier) (soup ks : List Packet) → SoupGrew u (back_soup t soup) (back_soup t (soup ++ ks))
-soup_back u t soup ks = subst (SoupGrew u (back_soup t soup)) (sym (back_soup-append t soup ks)) (soup-append u (back_soup t soup) (back_soup t ks))
+pub soup_back : (u : ℕ) (t : Tier) (soup ks : List Packet) → SoupGrew u (log_soup t soup) (log_soup t (soup ++ ks))
+soup_back u t soup ks = subst (SoupGrew u (log_soup t soup)) (sym (log_soup-append t soup ks)) (soup-append u (log_soup t soup) (log_soup t ks))
 
-pub same_back : (t : Tier) (soup ks : List Packet) → back_soup t ks ≡ [] → back_soup t (soup ++ ks) ≡ back_soup t soup
-same_back t soup ks e = back_soup-append t soup ks ∙ ap (λ z. back_soup t soup ++ z) e ∙ append-nil (back_soup t soup)
+pub same_back : (t : Tier) (soup ks : List Packet) → log_soup t ks ≡ [] → log_soup t (soup ++ ks) ≡ log_soup t soup
+same_back t soup ks e = log_soup-append t soup ks ∙ ap (λ z. log_soup t soup ++ z) e ∙ append-nil (log_soup t soup)
 
-pub same_mid : (soup ks : List Packet) → mid_soup ks ≡ [] → mid_soup (soup ++ ks) ≡ mid_soup soup
-same_mid soup ks e = mid_soup-append soup ks ∙ ap (λ z. mid_soup soup ++ z) e ∙ append-nil (mid_soup soup)
+pub same_mid : (soup ks : List Packet) → log_soup MidTier ks ≡ [] → log_soup MidTier (soup ++ ks) ≡ log_soup MidTier soup
+same_mid soup ks e = log_soup-append MidTier soup ks ∙ ap (λ z. log_soup MidTier soup ++ z) e ∙ append-nil (log_soup MidTier soup)

@@ -52,7 +52,8 @@ use Rattle.tier_laws.proofs.Moves.{Here, MoveOk, knows, log_move, stays_ok}
 use Rattle.tier_laws.proofs.Offers.{retry_ok, leads_ok, offers_ok}
 use Rattle.tier_laws.proofs.Past.{BackOk, Grows, MidOk, SentBy, SentOk, Past, Submitted, back_ok-more, mid_ok-more, more-refl, parcels-more, run_ok-more, submitted-more}
 use Rattle.tier_laws.proofs.Rows.{answer_ok, have_ok, request_ok, token_ok, work_ok}
-use Rattle.tier_laws.proofs.Soups.{mid_soup, back_soup, back_nil, NoLog, no_mid, no_back, none_each}
+use Rattle.tier_laws.proofs.Soups.{NoLog, no_log, none_each}
+use Rattle.run_model.specs.Runs.{log_soup}
 use Rattle.tier_laws.proofs.Stable.{MoreLog}
 use Rattle.tier_laws.proofs.Maps.{empty_server, server}
 use Rattle.tier_laws.proofs.Rounds.{kept-refl}
@@ -70,23 +71,23 @@ client_changed {B} c w cl ks sub td i none more sends clients told = record {
   k = i.k;
   core = record {
     laws = i.core.laws;
-    mid_log = subst (λ z. LogPart c.u i.h z w.log (MidOk c Q)) (sym (same_mid w.soup ks (no_mid ks none))) (log_weaker c.u i.h (mid_soup w.soup) w.log (MidOk c P) (MidOk c Q) (λ p v o. mid_ok-more c P Q p v gr o) i.core.mid_log);
-    back_log = λ t. subst (λ z. LogPart c.u (i.k t) z (w.logs t) (BackOk c Q t)) (sym (same_back t w.soup ks (no_back ks none t))) (log_weaker c.u (i.k t) (back_soup t w.soup) (w.logs t) (BackOk c P t) (BackOk c Q t) (λ p v o. back_ok-more c P Q t p v gr o) (i.core.back_log t));
+    mid_log = subst (λ z. LogPart c.u i.h z (w.logs MidTier) (MidOk c Q)) (sym (same_mid w.soup ks (no_mid ks none))) (log_weaker c.u i.h (log_soup MidTier w.soup) (w.logs MidTier) (MidOk c P) (MidOk c Q) (λ p v o. mid_ok-more c P Q p v gr o) i.core.mid_log);
+    back_log = λ t. subst (λ z. LogPart c.u (i.k t) z (w.logs t) (BackOk c Q t)) (sym (same_back t w.soup ks (no_back ks none t))) (log_weaker c.u (i.k t) (log_soup t w.soup) (w.logs t) (BackOk c P t) (BackOk c Q t) (λ p v o. back_ok-more c P Q t p v gr o) (i.core.back_log t));
     ledger = i.core.ledger;
     runs = λ j v e. run_ok-more c P Q v gr (i.core.runs j v e);
     right = i.core.right;
     packets = every-append (SentOk c Q) w.soup ks (parcels-more c P Q w.soup gr i.core.packets) sends;
-    mids = λ x l. mid_mode-more c P Q i.h i.h (mid_soup w.soup) (mid_soup (w.soup ++ ks)) x (w.mids x) (w.mids x).mode gr (all_same i.h) (soup_mid c.u w.soup ks) refl refl (i.core.mids x l);
-    backs = λ t x l. back_mode-more c P Q t (i.k t) (i.k t) (back_soup t w.soup) (back_soup t (w.soup ++ ks)) x (w.backs t x) (w.backs t x).mode gr (all_same (i.k t)) (soup_back c.u t w.soup ks) refl (i.core.backs t x l);
+    mids = λ x l. mid_mode-more c P Q i.h i.h (log_soup MidTier w.soup) (log_soup MidTier (w.soup ++ ks)) x (w.nodes MidTier x) (w.nodes MidTier x).mode gr (all_same i.h) (soup_mid c.u w.soup ks) refl refl (i.core.mids x l);
+    backs = λ t x l. back_mode-more c P Q t (i.k t) (i.k t) (log_soup t w.soup) (log_soup t (w.soup ++ ks)) x (w.nodes t x) (w.nodes t x).mode gr (all_same (i.k t)) (soup_back c.u t w.soup ks) refl (i.core.backs t x l);
     clients = clients;
     starts = λ j n who body e. submitted-more P Q _ gr (i.core.starts j n who body e);
     told = told;
   };
-  before = subst (λ z. LogPart c.u i.h z w.log (MidOk c P)) (sym (same_mid w.soup ks (no_mid ks none))) i.core.mid_log;
+  before = subst (λ z. LogPart c.u i.h z (w.logs MidTier) (MidOk c P)) (sym (same_mid w.soup ks (no_mid ks none))) i.core.mid_log;
   gone_codes = λ y g. refl;
   near = record {
-    mid = nearly c.u (mid_soup (w.soup ++ ks)) w.log (subst (λ z. Complete c.u z w.log) (sym (same_mid w.soup ks (no_mid ks none))) i.done.mid);
-    back = λ t. nearly c.u (back_soup t (w.soup ++ ks)) (w.logs t) (subst (λ z. Complete c.u z (w.logs t)) (sym (same_back t w.soup ks (no_back ks none t))) (i.done.back t));
+    mid = nearly c.u (log_soup MidTier (w.soup ++ ks)) (w.logs MidTier) (subst (λ z. Complete c.u z (w.logs MidTier)) (sym (same_mid w.soup ks (no_mid ks none))) i.done.mid);
+    back = λ t. nearly c.u (log_soup t (w.soup ++ ks)) (w.logs t) (subst (λ z. Complete c.u z (w.logs t)) (sym (same_back t w.soup ks (no_back ks none t))) (i.done.back t));
   };
 }
   where
@@ -97,7 +98,7 @@ client_changed {B} c w cl ks sub td i none more sends clients told = record {
     Q = past c (at_clients w cl ks sub td) i.codes
 
     gr : Grows P Q
-    gr = record { held = λ y t n e. e; log = more-refl w.log; kept = kept-refl (server c.service w.hist); runs = more-refl w.runs; submitted = more }
+    gr = record { held = λ y t n e. e; log = more-refl (w.logs MidTier); kept = kept-refl (server c.service w.hist); runs = more-refl w.runs; submitted = more }
 
 request_none : (u y s : ℕ) (text : List ℕ) → NoLog (requests u y s text)
 request_none u y s text = none_each (2 * u + 1) nobody (request_to y s text) (λ x. record { all = λ t. refl })
@@ -177,7 +178,7 @@ takes_ok {B} c w y s text said i = cond_both (is_some (w.clients y).opened && (s
       };
       before = i.core.mid_log;
       gone_codes = λ y g. refl;
-      near = record { mid = nearly c.u (mid_soup w.soup) w.log i.done.mid; back = λ t. nearly c.u (back_soup t w.soup) (w.logs t) (i.done.back t) };
+      near = record { mid = nearly c.u (log_soup MidTier w.soup) (w.logs MidTier) i.done.mid; back = λ t. nearly c.u (log_soup t w.soup) (w.logs t) (i.done.back t) };
     }
 
 -- DELIVERIES
@@ -193,7 +194,7 @@ log_place t (k ∷ soup) zero from to p b e =
     (0, subst (λ (z : Packet). slice_get (log_part t z.from z.to z.message ++ log_soup t soup) 0 ≡ Some (record { from = end_index from; to = end_index to; msg = p })) s (log_part-first t from to p (log_soup t soup) b))
 log_place t (k ∷ soup) (suc i) from to p b e = let r = log_place t soup i from to p b e in get_right (log_part t k.from k.to k.message) (log_soup t soup) r.0 _ r.1
 
-pub back_place : (t : Tier) (soup : List Packet) (i : ℕ) (from to : End) (p : PaxMsg AnyValue) → same_tier t MidTier ≡ false → is_in t from ≡ true → slice_get soup i ≡ Some (record { from = from; to = to; message = msgs.Log p }) → (j : ℕ) × (slice_get (back_soup t soup) j ≡ Some (record { from = end_index from; to = end_index to; msg = p }))
+pub back_place : (t : Tier) (soup : List Packet) (i : ℕ) (from to : End) (p : PaxMsg AnyValue) → same_tier t MidTier ≡ false → is_in t from ≡ true → slice_get soup i ≡ Some (record { from = from; to = to; message = msgs.Log p }) → (j : ℕ) × (slice_get (log_soup t soup) j ≡ Some (record { from = end_index from; to = end_index to; msg = p }))
 back_place MidTier soup i from to p m b e = absurd (cc)
 back_place Inv soup i from to p m b e = log_place Inv soup i from to p b e
 back_place Pay soup i from to p m b e = log_place Pay soup i from to p b e
@@ -210,10 +211,10 @@ mid_frame_ok {B} c w place from to (msgs.Log p) x σ i e sent k = cond_both (is_
     taken f =
         let q = log_place MidTier w.soup place from to p (node_in c.u MidTier from f) e in
         let j : LogPacket AnyValue = record { from = end_index from; to = end_index to; msg = p } in
-        let right : PacketOk c.u i.h (mid_soup w.soup) j = every-get (PacketOk c.u i.h (mid_soup w.soup)) (mid_soup w.soup) q.0 j i.core.mid_log.history.packets q.1 in
+        let right : PacketOk c.u i.h (log_soup MidTier w.soup) j = every-get (PacketOk c.u i.h (log_soup MidTier w.soup)) (log_soup MidTier w.soup) q.0 j i.core.mid_log.history.packets q.1 in
         log_move c (past c w i.codes) i.h w.soup x σ (on_msg c.u σ.log (end_index from) p) None k
-        (on_msg_ok c.u i.h (mid_soup w.soup) x σ.log q.0 j p (knows c (past c w i.codes) i.h w.soup x σ k) q.1 refl right)
-        (msg_from c.u i.h (mid_soup w.soup) x σ.log (end_index from) p k.inside right) (λ v f. absurd (cc))
+        (on_msg_ok c.u i.h (log_soup MidTier w.soup) x σ.log q.0 j p (knows c (past c w i.codes) i.h w.soup x σ k) q.1 refl right)
+        (msg_from c.u i.h (log_soup MidTier w.soup) x σ.log (end_index from) p k.inside right) (λ v f. absurd (cc))
 mid_frame_ok c w place from to (msgs.Request seq text) x σ i e sent k = cond_both (not (is_client from)) (drops σ 7) _ (MoveOk c (past c w i.codes) i.h w.soup x []) (λ f. stays_ok c (past c w i.codes) i.h w.soup x σ k)
     (λ f. cond_both (not (is_request c.service.programs (record { client = end_index from; seq = seq }) text)) (drops σ 8) (on_request x σ (end_index from) seq text) (MoveOk c (past c w i.codes) i.h w.soup x []) (λ g. stays_ok c (past c w i.codes) i.h w.soup x σ k)
     (λ g. request_ok c (past c w i.codes) i.h w.soup x σ (end_index from) seq text k sent))
@@ -235,10 +236,10 @@ back_frame_ok {B} c w place from (msgs.Log p) t x σ i e sent k = cond_both (is_
     taken f =
         let q = back_place t w.soup place from (node t x) p k.backend (node_in c.u t from f) e in
         let j : LogPacket AnyValue = record { from = end_index from; to = x; msg = p } in
-        let right : PacketOk c.u (i.k t) (back_soup t w.soup) j = every-get (PacketOk c.u (i.k t) (back_soup t w.soup)) (back_soup t w.soup) q.0 j (i.core.back_log t).history.packets q.1 in
+        let right : PacketOk c.u (i.k t) (log_soup t w.soup) j = every-get (PacketOk c.u (i.k t) (log_soup t w.soup)) (log_soup t w.soup) q.0 j (i.core.back_log t).history.packets q.1 in
         back_move c (past c w i.codes) t (w.logs t) (i.k t) w.soup x σ (on_msg c.u σ.log (end_index from) p) None k
-        (on_msg_ok c.u (i.k t) (back_soup t w.soup) x σ.log q.0 j p (back_knows c (past c w i.codes) t (w.logs t) (i.k t) w.soup x σ k) q.1 refl right)
-        (msg_from c.u (i.k t) (back_soup t w.soup) x σ.log (end_index from) p k.inside right) (one_msg c.u σ.log (end_index from) p) (λ q v f. absurd (cc))
+        (on_msg_ok c.u (i.k t) (log_soup t w.soup) x σ.log q.0 j p (back_knows c (past c w i.codes) t (w.logs t) (i.k t) w.soup x σ k) q.1 refl right)
+        (msg_from c.u (i.k t) (log_soup t w.soup) x σ.log (end_index from) p k.inside right) (one_msg c.u σ.log (end_index from) p) (λ q v f. absurd (cc))
 back_frame_ok c w place from (msgs.Call n text) t x σ i e sent k = cond_both (is_node_of c.u MidTier from) (on_call t x σ (end_index from) n text) (drops σ 7) (BackMoveOk c (past c w i.codes) t (i.k t) w.soup x)
     (λ f. call_ok c (past c w i.codes) t (w.logs t) (i.k t) w.soup x σ (end_index from) n text k sent) (λ f. back_stays c (past c w i.codes) t (w.logs t) (i.k t) w.soup x σ k)
 back_frame_ok c w place from (msgs.Settle g) t x σ i e sent k = cond_both (is_node_of c.u MidTier from) (on_settle σ (end_index from) g) (drops σ 7) (BackMoveOk c (past c w i.codes) t (i.k t) w.soup x)
@@ -338,7 +339,7 @@ happens_ok c w (Crash n) few i = crash_event c w n.tier n.index i
 happens_ok c w (Restart n found) few i = restart_event c w found n.tier n.index i
 happens_ok c w (Wipe n) few i = wipe_event c w n.tier n.index i
 
-pub start_ok : {B : Type 0} (c : Config B) → Laws c.service → WorldOk c (start {B = B})
+pub start_ok : {B : Type 0} (c : Config B) → Laws c.service.programs → WorldOk c (start {B = B})
 start_ok {B} c laws = record {
   codes = λ x. [];
   h = λ x. [];
@@ -363,14 +364,14 @@ start_ok {B} c laws = record {
     empty_history : {V : Type 0} (u : ℕ) → History {V = V} u (λ x. []) []
     empty_history u = record { orderly = λ x l. tt; votes = λ x l p b v d. absurd d; learned = λ x l p v e. absurd (cc); packets = tt }
 
-    back_log : (t : Tier) → LogPart c.u (λ x. []) (back_soup t []) [] (BackOk c (past c (start {B = B}) (λ x. [])) t)
+    back_log : (t : Tier) → LogPart c.u (λ x. []) (log_soup t []) [] (BackOk c (past c (start {B = B}) (λ x. [])) t)
     back_log t = subst (λ z. LogPart c.u (λ x. []) z [] (BackOk c (past c (start {B = B}) (λ x. [])) t)) (sym (back_nil t)) (record { history = empty_history c.u; good = λ x l p b v d. absurd d; sound = λ p v e. absurd (cc) })
 
-    complete : (t : Tier) → Complete {V = AnyValue} c.u (back_soup t []) []
+    complete : (t : Tier) → Complete {V = AnyValue} c.u (log_soup t []) []
     complete t = subst (λ z. Complete c.u z []) (sym (back_nil t)) (record { at = λ p v m. absurd (let e = m.is_sent in cc) })
 
 -- no node holds anything
-pub start_codes : {B : Type 0} (c : Config B) (laws : Laws c.service) (x : ℕ) → (start_ok c laws).codes x ≡ []
+pub start_codes : {B : Type 0} (c : Config B) (laws : Laws c.service.programs) (x : ℕ) → (start_ok c laws).codes x ≡ []
 unfolding start_ok
 start_codes c laws x = refl
 
@@ -378,5 +379,5 @@ pub run_ok : {B : Type 0} (c : Config B) (es : List TraceEvent) (w : World B) �
 run_ok c [] w few i = i
 run_ok c (e ∷ es) w few i = run_ok c es (grows c (happens c w e)) few (grows_ok c (past c w i.codes) (happens c w e) few (happens_ok c w e few i))
 
-pub world_ok : {B : Type 0} (c : Config B) (es : List TraceEvent) → c.u < 128 → Laws c.service → WorldOk c (world c es)
+pub world_ok : {B : Type 0} (c : Config B) (es : List TraceEvent) → c.u < 128 → Laws c.service.programs → WorldOk c (world c es)
 world_ok c es few laws = run_ok c es start few (start_ok c laws)

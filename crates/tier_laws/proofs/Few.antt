@@ -13,7 +13,7 @@ use Rattle.tier_laws.proofs.Services.{booking_laws}
 pub few : (u : ℕ) → u ≤ 2 → u < 128
 few u l = omega arith
 
-pub inv : {B : Type 0} (c : Config B) (es : List TraceEvent) → c.u ≤ 2 → Laws c.service → WorldOk c (world c es)
+pub inv : {B : Type 0} (c : Config B) (es : List TraceEvent) → c.u ≤ 2 → Laws c.service.programs → WorldOk c (world c es)
 inv c es l laws = world_ok c es (few c.u l) laws
 
 pub booking_inv : (a : Setup) (es : List TraceEvent) → a.u ≤ 2 → WorldOk (booking_run a) (world (booking_run a) es)

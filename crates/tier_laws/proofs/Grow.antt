@@ -3,7 +3,7 @@ use Rattle.std.proofs.Common.{◌≡◌, ℕ, ◌*◌, ◌<◌, Bool, true, fals
 use Rattle.std.specs.Prelude.{slice_get, ◌⊎◌}
 use Rattle.std.proofs.lemmas.Option.{same_Some}
 use Rattle.aeg_base.specs.declared.names.Tier.{Tier}
-use Rattle.aeg_base.specs.declared.names.Tier.TheVariants.{Inv, Pay}
+use Rattle.aeg_base.specs.declared.names.Tier.TheVariants.{Inv, Pay, Mid as MidTier}
 use Rattle.log_model.proofs.Invariant.{all_same, soup-refl}
 use Rattle.log_model.specs.Chosen.{Meets, chosen_among}
 use Rattle.log_model.specs.declared.fact.Fact.{Fact as LogFact}
@@ -15,7 +15,7 @@ use Rattle.log_values.specs.declared.mid_value.MidValue.TheVariants.{Batch, Verd
 use Rattle.log_values.specs.declared.mid_value.Verdict.{Verdict}
 use Rattle.log_values.specs.declared.mid_value.Verdict.TheVariants.{Commit, Serial}
 use Rattle.round_model.specs.After.{Round, after, batch_in, round_at}
-use Rattle.round_model.specs.Answers.{Code}
+use Rattle.tier_laws.proofs.Codes.{Code}
 use Rattle.round_model.specs.Lists.{at, half, head_of}
 use Rattle.round_model.specs.Service.{finish, is_order}
 use Rattle.round_model.specs.Tables.{Number, Tables, Want, fresh_of, numbers, resumed, started, wants}
@@ -42,7 +42,7 @@ use Rattle.aeg_base.specs.declared.names.ReqId.{ReqId}
 use Rattle.run_model.specs.Runs.{served_of}
 use Rattle.run_model.specs.Histories.{HistoryStep}
 use Rattle.tier_laws.proofs.Shows.{shown}
-use Rattle.tier_laws.proofs.Soups.{mid_soup, back_soup}
+use Rattle.run_model.specs.Runs.{log_soup}
 
 -- A VERDICT'S ORDER IS ONE OF THE JOB
 
@@ -55,21 +55,21 @@ is_ordered c P r R Serial k = job_order (length R.job)
 abbrev longer : {B : Type 0} → World B → List AnyValue → (Tier → List AnyValue) → History_ → World B
 longer w L K h = record w { log = L; logs = K; hist = h }
 
-grows_to : {B : Type 0} (c : Config B) (w : World B) (codes : ℕ → List Code) (L : List AnyValue) (K : Tier → List AnyValue) (h : History_) → MoreLog w.log L → Kept (server c.service w.hist) (server c.service h) → Grows (past c w codes) (past c (longer w L K h) codes)
+grows_to : {B : Type 0} (c : Config B) (w : World B) (codes : ℕ → List Code) (L : List AnyValue) (K : Tier → List AnyValue) (h : History_) → MoreLog (w.logs MidTier) L → Kept (server c.service w.hist) (server c.service h) → Grows (past c w codes) (past c (longer w L K h) codes)
 grows_to c w codes L K h l k = record { held = λ x t n e. e; log = l; kept = k; runs = more-refl w.runs; submitted = more-refl w.submitted }
 
 core_longer : {B : Type 0} (c : Config B) (w : World B) (codes : ℕ → List Code) (g : ℕ → List (LogFact AnyValue)) (k : Tier → ℕ → List (LogFact AnyValue)) (L : List AnyValue) (K : Tier → List AnyValue) (h : History_) → Core c w codes g k → Grows (past c w codes) (past c (longer w L K h) codes) → Ledger c.service c.depth L K h
-    → LogPart c.u g (mid_soup w.soup) L (MidOk c (past c w codes)) → ((t : Tier) → LogPart c.u (k t) (back_soup t w.soup) (K t) (BackOk c (past c w codes) t)) → ((j n : ℕ) (who : ReqId) (body : List ℕ) → slice_get h j ≡ Some (Start who n, body) → Submitted (past c w codes) (record { client = who.client; seq = who.seq; body = body })) → Core c (longer w L K h) codes g k
+    → LogPart c.u g (log_soup MidTier w.soup) L (MidOk c (past c w codes)) → ((t : Tier) → LogPart c.u (k t) (log_soup t w.soup) (K t) (BackOk c (past c w codes) t)) → ((j n : ℕ) (who : ReqId) (body : List ℕ) → slice_get h j ≡ Some (Start who n, body) → Submitted (past c w codes) (record { client = who.client; seq = who.seq; body = body })) → Core c (longer w L K h) codes g k
 core_longer {B} c w codes g k L K h i gr ledger mid back starts = record {
   laws = i.laws;
-  mid_log = log_weaker c.u g (mid_soup w.soup) L (MidOk c P) (MidOk c Q) (λ p v o. mid_ok-more c P Q p v gr o) mid;
-  back_log = λ t. log_weaker c.u (k t) (back_soup t w.soup) (K t) (BackOk c P t) (BackOk c Q t) (λ p v o. back_ok-more c P Q t p v gr o) (back t);
+  mid_log = log_weaker c.u g (log_soup MidTier w.soup) L (MidOk c P) (MidOk c Q) (λ p v o. mid_ok-more c P Q p v gr o) mid;
+  back_log = λ t. log_weaker c.u (k t) (log_soup t w.soup) (K t) (BackOk c P t) (BackOk c Q t) (λ p v o. back_ok-more c P Q t p v gr o) (back t);
   ledger = ledger;
   runs = λ j v e. run_ok-more c P Q v gr (i.runs j v e);
   right = λ x j q e. gr.kept.served q.tier q.num q.code (i.right x j q e);
   packets = parcels-more c P Q w.soup gr i.packets;
-  mids = λ x l. mid_mode-more c P Q g g (mid_soup w.soup) (mid_soup w.soup) x (w.mids x) (w.mids x).mode gr (all_same g) (soup-refl c.u (mid_soup w.soup)) refl refl (i.mids x l);
-  backs = λ t x l. back_mode-more c P Q t (k t) (k t) (back_soup t w.soup) (back_soup t w.soup) x (w.backs t x) (w.backs t x).mode gr (all_same (k t)) (soup-refl c.u (back_soup t w.soup)) refl (i.backs t x l);
+  mids = λ x l. mid_mode-more c P Q g g (log_soup MidTier w.soup) (log_soup MidTier w.soup) x (w.nodes MidTier x) (w.nodes MidTier x).mode gr (all_same g) (soup-refl c.u (log_soup MidTier w.soup)) refl refl (i.mids x l);
+  backs = λ t x l. back_mode-more c P Q t (k t) (k t) (log_soup t w.soup) (log_soup t w.soup) x (w.nodes t x) (w.nodes t x).mode gr (all_same (k t)) (soup-refl c.u (log_soup t w.soup)) refl (i.backs t x l);
   clients = λ y text e. submitted-more P Q _ gr (i.clients y text e);
   starts = λ j n who body e. submitted-more P Q _ gr (starts j n who body e);
   told = λ j e f. gr.kept.replies e.client e.seq e.body (i.told j e f);
@@ -154,7 +154,7 @@ batch_value (OfMid (Batch ds)) es e = let s : ds ≡ es = cc in ap (λ z. OfMid 
 batch_value (OfMid (Decided v)) es e = absurd (cc)
 batch_value (OfBack v) es e = absurd (cc)
 
-value_starts : {B : Type 0} (c : Config B) (w : World B) (codes : ℕ → List Code) (h : ℕ → List (LogFact AnyValue)) (k : Tier → ℕ → List (LogFact AnyValue)) (v : AnyValue) → Core c w codes h k → MidOk c (past c w codes) (length w.log) v → StartsIn (past c w codes) (value_steps c.service.programs c.depth w.log (server c.service w.hist).served v)
+value_starts : {B : Type 0} (c : Config B) (w : World B) (codes : ℕ → List Code) (h : ℕ → List (LogFact AnyValue)) (k : Tier → ℕ → List (LogFact AnyValue)) (v : AnyValue) → Core c w codes h k → MidOk c (past c w codes) (length (w.logs MidTier)) v → StartsIn (past c w codes) (value_steps c.service.programs c.depth (w.logs MidTier) (server c.service w.hist).served v)
 unfolding is_start
 value_starts c w codes h k (OfMid (Batch es)) i o j n who body e = absurd (cc)
 value_starts c w codes h k (OfBack v) i o j n who body e = absurd o
@@ -166,17 +166,17 @@ value_starts {B} c w codes h k (OfMid (Decided v)) i o j n who body e = go (is_o
     P : Past B
     P = past c w codes
 
-    a : (T : Tables) × (after c.service.programs c.depth w.log (server c.service w.hist).served (half (length w.log)) ≡ Some T) × (round_at c.service.programs w.log (server c.service w.hist).served (half (length w.log)) T ≡ Some o.1.made)
-    a = then_parts (after c.service.programs c.depth w.log (server c.service w.hist).served (half (length w.log))) (round_at c.service.programs w.log (server c.service w.hist).served (half (length w.log))) o.1.made o.1.is_round
+    a : (T : Tables) × (after c.service.programs c.depth (w.logs MidTier) (server c.service w.hist).served (half (length (w.logs MidTier))) ≡ Some T) × (round_at c.service.programs (w.logs MidTier) (server c.service w.hist).served (half (length (w.logs MidTier))) T ≡ Some o.1.made)
+    a = then_parts (after c.service.programs c.depth (w.logs MidTier) (server c.service w.hist).served (half (length (w.logs MidTier)))) (round_at c.service.programs (w.logs MidTier) (server c.service w.hist).served (half (length (w.logs MidTier)))) o.1.made o.1.is_round
 
-    parts : RoundParts c.service w.log (server c.service w.hist).served (half (length w.log)) a.0 o.1.made
-    parts = round_parts c.service w.log (server c.service w.hist).served (half (length w.log)) a.0 o.1.made a.2
+    parts : RoundParts c.service (w.logs MidTier) (server c.service w.hist).served (half (length (w.logs MidTier))) a.0 o.1.made
+    parts = round_parts c.service (w.logs MidTier) (server c.service w.hist).served (half (length (w.logs MidTier))) a.0 o.1.made a.2
 
-    value : (u : AnyValue) × (slice_get w.log (2 * half (length w.log)) ≡ Some u) × (batch_in (Some u) ≡ Some parts.batch)
-    value = batch_in-some (slice_get w.log (2 * half (length w.log))) parts.batch parts.is_batch
+    value : (u : AnyValue) × (slice_get (w.logs MidTier) (2 * half (length (w.logs MidTier))) ≡ Some u) × (batch_in (Some u) ≡ Some parts.batch)
+    value = batch_in-some (slice_get (w.logs MidTier) (2 * half (length (w.logs MidTier)))) parts.batch parts.is_batch
 
     entries : BatchOk P parts.batch
-    entries = (subst (MidOk c P (2 * half (length w.log))) (batch_value value.0 parts.batch value.2) (meets_good c.u h (mid_soup w.soup) w.log (MidOk c P) (2 * half (length w.log)) value.0 i.mid_log (i.mid_log.sound (2 * half (length w.log)) value.0 value.1))).1
+    entries = (subst (MidOk c P (2 * half (length (w.logs MidTier)))) (batch_value value.0 parts.batch value.2) (meets_good c.u h (log_soup MidTier w.soup) (w.logs MidTier) (MidOk c P) (2 * half (length (w.logs MidTier))) value.0 i.mid_log (i.mid_log.sound (2 * half (length (w.logs MidTier))) value.0 value.1))).1
 
     from : StartOf (wants c.service.programs a.0 parts.batch) who.client who.seq body → Submitted P (record { client = who.client; seq = who.seq; body = body })
     from q = by (get_cases (map resumed (head_of a.0.queue)) (map started (fresh_of c.service.programs a.0 [] parts.batch)) q.place q.want q.is_want)
@@ -204,94 +204,94 @@ value_starts {B} c w codes h k (OfMid (Decided v)) i o j n who body e = go (is_o
 
 record MidGrown {B : Type 0} (c : Config B) (w : World B) (codes : ℕ → List Code) (h : ℕ → List (LogFact AnyValue)) (k : Tier → ℕ → List (LogFact AnyValue)) : Type 0 where
   core : Core c w codes h k
-  mid : Complete c.u (mid_soup w.soup) w.log
-  back : (t : Tier) → Nearly c.u (back_soup t w.soup) (w.logs t)
+  mid : Complete c.u (log_soup MidTier w.soup) (w.logs MidTier)
+  back : (t : Tier) → Nearly c.u (log_soup t w.soup) (w.logs t)
 
 -- the history's list of served calls is looked up as the maps say
 pub served_same : {B : Type 0} (c : Config B) (w : World B) (codes : ℕ → List Code) (h : ℕ → List (LogFact AnyValue)) (k : Tier → ℕ → List (LogFact AnyValue)) → Core c w codes h k → served_of c w ≡ (server c.service w.hist).served
 served_same c w codes h k i = λ j t n. (shown c.service w.hist i.laws.again i.ledger.legal).shows.served t n j
 
-extend_by : {B : Type 0} (c : Config B) (w : World B) (codes : ℕ → List Code) (h : ℕ → List (LogFact AnyValue)) (k : Tier → ℕ → List (LogFact AnyValue)) (v : AnyValue) → Core c w codes h k → MidOk c (past c w codes) (length w.log) v
-    → Extended c.service c.depth w.hist (w.log ++ v ∷ []) w.logs (w.hist ++ value_steps c.service.programs c.depth w.log (server c.service w.hist).served v)
+extend_by : {B : Type 0} (c : Config B) (w : World B) (codes : ℕ → List Code) (h : ℕ → List (LogFact AnyValue)) (k : Tier → ℕ → List (LogFact AnyValue)) (v : AnyValue) → Core c w codes h k → MidOk c (past c w codes) (length (w.logs MidTier)) v
+    → Extended c.service c.depth w.hist ((w.logs MidTier) ++ v ∷ []) w.logs (w.hist ++ value_steps c.service.programs c.depth (w.logs MidTier) (server c.service w.hist).served v)
 extend_by c w codes h k (OfBack v) i o = absurd o
-extend_by c w codes h k (OfMid (Batch es)) i o = extend_batch c.service c.depth w.log w.logs w.hist es o.0 i.ledger
-extend_by c w codes h k (OfMid (Decided v)) i o = ledger_verdict c.service c.depth w.log w.logs w.hist v o.1.made o.0 o.1.is_round (is_ordered c (past c w codes) (half (length w.log)) o.1.made v o.1.by) i.ledger
+extend_by c w codes h k (OfMid (Batch es)) i o = extend_batch c.service c.depth (w.logs MidTier) w.logs w.hist es o.0 i.ledger
+extend_by c w codes h k (OfMid (Decided v)) i o = ledger_verdict c.service c.depth (w.logs MidTier) w.logs w.hist v o.1.made o.0 o.1.is_round (is_ordered c (past c w codes) (half (length (w.logs MidTier))) o.1.made v o.1.by) i.ledger
 
 abbrev steps_now : {B : Type 0} → Config B → World B → AnyValue → History_
-steps_now c w v = value_steps c.service.programs c.depth w.log (served_of c w) v
+steps_now c w v = value_steps c.service.programs c.depth (w.logs MidTier) (served_of c w) v
 
-extend_mid : {B : Type 0} (c : Config B) (w : World B) (codes : ℕ → List Code) (h : ℕ → List (LogFact AnyValue)) (k : Tier → ℕ → List (LogFact AnyValue)) (v : AnyValue) → Core c w codes h k → MidOk c (past c w codes) (length w.log) v
-    → Extended c.service c.depth w.hist (w.log ++ v ∷ []) w.logs (w.hist ++ steps_now c w v)
-extend_mid c w codes h k v i o = subst (λ A. Extended c.service c.depth w.hist (w.log ++ v ∷ []) w.logs (w.hist ++ value_steps c.service.programs c.depth w.log A v)) (sym (served_same c w codes h k i)) (extend_by c w codes h k v i o)
+extend_mid : {B : Type 0} (c : Config B) (w : World B) (codes : ℕ → List Code) (h : ℕ → List (LogFact AnyValue)) (k : Tier → ℕ → List (LogFact AnyValue)) (v : AnyValue) → Core c w codes h k → MidOk c (past c w codes) (length (w.logs MidTier)) v
+    → Extended c.service c.depth w.hist ((w.logs MidTier) ++ v ∷ []) w.logs (w.hist ++ steps_now c w v)
+extend_mid c w codes h k v i o = subst (λ A. Extended c.service c.depth w.hist ((w.logs MidTier) ++ v ∷ []) w.logs (w.hist ++ value_steps c.service.programs c.depth (w.logs MidTier) A v)) (sym (served_same c w codes h k i)) (extend_by c w codes h k v i o)
 
-steps_start_now : {B : Type 0} (c : Config B) (w : World B) (codes : ℕ → List Code) (h : ℕ → List (LogFact AnyValue)) (k : Tier → ℕ → List (LogFact AnyValue)) (v : AnyValue) → Core c w codes h k → MidOk c (past c w codes) (length w.log) v → StartsIn (past c w codes) (steps_now c w v)
-steps_start_now c w codes h k v i o = subst (λ A. StartsIn (past c w codes) (value_steps c.service.programs c.depth w.log A v)) (sym (served_same c w codes h k i)) (value_starts c w codes h k v i o)
+steps_start_now : {B : Type 0} (c : Config B) (w : World B) (codes : ℕ → List Code) (h : ℕ → List (LogFact AnyValue)) (k : Tier → ℕ → List (LogFact AnyValue)) (v : AnyValue) → Core c w codes h k → MidOk c (past c w codes) (length (w.logs MidTier)) v → StartsIn (past c w codes) (steps_now c w v)
+steps_start_now c w codes h k v i o = subst (λ A. StartsIn (past c w codes) (value_steps c.service.programs c.depth (w.logs MidTier) A v)) (sym (served_same c w codes h k i)) (value_starts c w codes h k v i o)
 
-mid_grown : {B : Type 0} (c : Config B) (w : World B) (codes : ℕ → List Code) (h : ℕ → List (LogFact AnyValue)) (k : Tier → ℕ → List (LogFact AnyValue)) (o : Option AnyValue) → c.u < 128 → chosen_among c.u (mid_soup w.soup) (length w.log) (mid_soup w.soup) ≡ o → Core c w codes h k → NearlyDone c w → MidGrown c (mid_chosen c w o) codes h k
-mid_grown c w codes h k None few e i n = record { core = i; mid = grow_none c.u (mid_soup w.soup) w.log n.mid e; back = n.back }
+mid_grown : {B : Type 0} (c : Config B) (w : World B) (codes : ℕ → List Code) (h : ℕ → List (LogFact AnyValue)) (k : Tier → ℕ → List (LogFact AnyValue)) (o : Option AnyValue) → c.u < 128 → chosen_among c.u (log_soup MidTier w.soup) (length (w.logs MidTier)) (log_soup MidTier w.soup) ≡ o → Core c w codes h k → NearlyDone c w → MidGrown c (mid_chosen c w o) codes h k
+mid_grown c w codes h k None few e i n = record { core = i; mid = grow_none c.u (log_soup MidTier w.soup) (w.logs MidTier) n.mid e; back = n.back }
 mid_grown {B} c w codes h k (Some v) few e i n =
-    let m : Meets c.u (mid_soup w.soup) (length w.log) v = chosen_now c.u (mid_soup w.soup) (length w.log) v e in
-    let ok : MidOk c (past c w codes) (length w.log) v = meets_good c.u h (mid_soup w.soup) w.log (MidOk c (past c w codes)) (length w.log) v i.mid_log m in
-    let x : Extended c.service c.depth w.hist (w.log ++ v ∷ []) w.logs (w.hist ++ steps_now c w v) = extend_mid c w codes h k v i ok in
+    let m : Meets c.u (log_soup MidTier w.soup) (length (w.logs MidTier)) v = chosen_now c.u (log_soup MidTier w.soup) (length (w.logs MidTier)) v e in
+    let ok : MidOk c (past c w codes) (length (w.logs MidTier)) v = meets_good c.u h (log_soup MidTier w.soup) (w.logs MidTier) (MidOk c (past c w codes)) (length (w.logs MidTier)) v i.mid_log m in
+    let x : Extended c.service c.depth w.hist ((w.logs MidTier) ++ v ∷ []) w.logs (w.hist ++ steps_now c w v) = extend_mid c w codes h k v i ok in
     record {
-      core = core_longer c w codes h k (w.log ++ v ∷ []) w.logs (w.hist ++ steps_now c w v) i (grows_to c w codes (w.log ++ v ∷ []) w.logs (w.hist ++ steps_now c w v) (more-push w.log v) x.kept) x.ledger
-          (part_some c.u h (mid_soup w.soup) w.log (MidOk c (past c w codes)) v i.mid_log m) i.back_log (starts_by c w codes h k (steps_now c w v) i (steps_start_now c w codes h k v i ok));
-      mid = grow_some c.u h (mid_soup w.soup) w.log (MidOk c (past c w codes)) v few i.mid_log n.mid m;
+      core = core_longer c w codes h k ((w.logs MidTier) ++ v ∷ []) w.logs (w.hist ++ steps_now c w v) i (grows_to c w codes ((w.logs MidTier) ++ v ∷ []) w.logs (w.hist ++ steps_now c w v) (more-push (w.logs MidTier) v) x.kept) x.ledger
+          (part_some c.u h (log_soup MidTier w.soup) (w.logs MidTier) (MidOk c (past c w codes)) v i.mid_log m) i.back_log (starts_by c w codes h k (steps_now c w v) i (steps_start_now c w codes h k v i ok));
+      mid = grow_some c.u h (log_soup MidTier w.soup) (w.logs MidTier) (MidOk c (past c w codes)) v few i.mid_log n.mid m;
       back = n.back;
     }
 
 -- A BACKEND'S LOG
 
 extend_back : {B : Type 0} (c : Config B) (w : World B) (codes : ℕ → List Code) (h : ℕ → List (LogFact AnyValue)) (k : Tier → ℕ → List (LogFact AnyValue)) (t : Tier) (v : AnyValue) → same_tier t MidTier ≡ false → Core c w codes h k → BackOk c (past c w codes) t (length (w.logs t)) v
-    → Extended c.service c.depth w.hist w.log (put_tier w.logs t (w.logs t ++ v ∷ [])) (w.hist ++ back_steps t (w.logs t) v)
+    → Extended c.service c.depth w.hist (w.logs MidTier) (put_tier w.logs t (w.logs t ++ v ∷ [])) (w.hist ++ back_steps t (w.logs t) v)
 extend_back c w codes h k t (OfMid v) b i o = absurd o
-extend_back c w codes h k t (OfBack (Called n text)) b i o = ledger_called c.service c.depth w.log w.logs w.hist t n text b o i.ledger
-extend_back c w codes h k t (OfBack (Settled g)) b i o = ledger_settled c.service c.depth w.log w.logs w.hist t g o.served i.ledger
+extend_back c w codes h k t (OfBack (Called n text)) b i o = ledger_called c.service c.depth (w.logs MidTier) w.logs w.hist t n text b o i.ledger
+extend_back c w codes h k t (OfBack (Settled g)) b i o = ledger_settled c.service c.depth (w.logs MidTier) w.logs w.hist t g o.served i.ledger
 
 -- what the growth of the tier t's log leaves
 record BackGrown {B : Type 0} (c : Config B) (w : World B) (t : Tier) (codes : ℕ → List Code) (h : ℕ → List (LogFact AnyValue)) (k : Tier → ℕ → List (LogFact AnyValue)) (z : World B) : Type 0 where
   core : Core c z codes h k
-  mid : Complete c.u (mid_soup w.soup) w.log → Complete c.u (mid_soup z.soup) z.log
-  here : Complete c.u (back_soup t z.soup) (z.logs t)
-  near : (v : Tier) → same_tier v t ≡ false → Nearly c.u (back_soup v w.soup) (w.logs v) → Nearly c.u (back_soup v z.soup) (z.logs v)
-  there : (v : Tier) → same_tier v t ≡ false → Complete c.u (back_soup v w.soup) (w.logs v) → Complete c.u (back_soup v z.soup) (z.logs v)
+  mid : Complete c.u (log_soup MidTier w.soup) (w.logs MidTier) → Complete c.u (log_soup MidTier z.soup) z.log
+  here : Complete c.u (log_soup t z.soup) (z.logs t)
+  near : (v : Tier) → same_tier v t ≡ false → Nearly c.u (log_soup v w.soup) (w.logs v) → Nearly c.u (log_soup v z.soup) (z.logs v)
+  there : (v : Tier) → same_tier v t ≡ false → Complete c.u (log_soup v w.soup) (w.logs v) → Complete c.u (log_soup v z.soup) (z.logs v)
 
-back_grown : {B : Type 0} (c : Config B) (w : World B) (t : Tier) (codes : ℕ → List Code) (h : ℕ → List (LogFact AnyValue)) (k : Tier → ℕ → List (LogFact AnyValue)) (o : Option AnyValue) → c.u < 128 → same_tier t MidTier ≡ false → chosen_among c.u (back_soup t w.soup) (length (w.logs t)) (back_soup t w.soup) ≡ o → Core c w codes h k
-    → Nearly c.u (back_soup t w.soup) (w.logs t) → BackGrown c w t codes h k (back_chosen w t o)
-back_grown c w t codes h k None few b e i n = record { core = i; mid = λ d. d; here = grow_none c.u (back_soup t w.soup) (w.logs t) n e; near = λ v f d. d; there = λ v f d. d }
+back_grown : {B : Type 0} (c : Config B) (w : World B) (t : Tier) (codes : ℕ → List Code) (h : ℕ → List (LogFact AnyValue)) (k : Tier → ℕ → List (LogFact AnyValue)) (o : Option AnyValue) → c.u < 128 → same_tier t MidTier ≡ false → chosen_among c.u (log_soup t w.soup) (length (w.logs t)) (log_soup t w.soup) ≡ o → Core c w codes h k
+    → Nearly c.u (log_soup t w.soup) (w.logs t) → BackGrown c w t codes h k (back_chosen w t o)
+back_grown c w t codes h k None few b e i n = record { core = i; mid = λ d. d; here = grow_none c.u (log_soup t w.soup) (w.logs t) n e; near = λ v f d. d; there = λ v f d. d }
 back_grown {B} c w t codes h k (Some v) few b e i n =
-    let m : Meets c.u (back_soup t w.soup) (length (w.logs t)) v = chosen_now c.u (back_soup t w.soup) (length (w.logs t)) v e in
-    let ok : BackOk c (past c w codes) t (length (w.logs t)) v = meets_good c.u (k t) (back_soup t w.soup) (w.logs t) (BackOk c (past c w codes) t) (length (w.logs t)) v (i.back_log t) m in
-    let x : Extended c.service c.depth w.hist w.log (put_tier w.logs t (w.logs t ++ v ∷ [])) (w.hist ++ back_steps t (w.logs t) v) = extend_back c w codes h k t v b i ok in
+    let m : Meets c.u (log_soup t w.soup) (length (w.logs t)) v = chosen_now c.u (log_soup t w.soup) (length (w.logs t)) v e in
+    let ok : BackOk c (past c w codes) t (length (w.logs t)) v = meets_good c.u (k t) (log_soup t w.soup) (w.logs t) (BackOk c (past c w codes) t) (length (w.logs t)) v (i.back_log t) m in
+    let x : Extended c.service c.depth w.hist (w.logs MidTier) (put_tier w.logs t (w.logs t ++ v ∷ [])) (w.hist ++ back_steps t (w.logs t) v) = extend_back c w codes h k t v b i ok in
     record {
-      core = core_longer c w codes h k w.log (put_tier w.logs t (w.logs t ++ v ∷ [])) (w.hist ++ back_steps t (w.logs t) v) i (grows_to c w codes w.log (put_tier w.logs t (w.logs t ++ v ∷ [])) (w.hist ++ back_steps t (w.logs t) v) (more-refl w.log) x.kept) x.ledger i.mid_log
-          (by_tier (λ v K. LogPart c.u (k v) (back_soup v w.soup) K (BackOk c (past c w codes) v)) w.logs t (w.logs t ++ v ∷ []) (part_some c.u (k t) (back_soup t w.soup) (w.logs t) (BackOk c (past c w codes) t) v (i.back_log t) m) (λ v f. i.back_log v))
+      core = core_longer c w codes h k (w.logs MidTier) (put_tier w.logs t (w.logs t ++ v ∷ [])) (w.hist ++ back_steps t (w.logs t) v) i (grows_to c w codes (w.logs MidTier) (put_tier w.logs t (w.logs t ++ v ∷ [])) (w.hist ++ back_steps t (w.logs t) v) (more-refl (w.logs MidTier)) x.kept) x.ledger i.mid_log
+          (by_tier (λ v K. LogPart c.u (k v) (log_soup v w.soup) K (BackOk c (past c w codes) v)) w.logs t (w.logs t ++ v ∷ []) (part_some c.u (k t) (log_soup t w.soup) (w.logs t) (BackOk c (past c w codes) t) v (i.back_log t) m) (λ v f. i.back_log v))
           (starts_by c w codes h k (back_steps t (w.logs t) v) i (λ j n who body f. absurd (back_starts t (w.logs t) v j n who body f)));
       mid = λ d. d;
-      here = subst (Complete c.u (back_soup t w.soup)) (sym (tier_here w.logs t (w.logs t ++ v ∷ []))) (grow_some c.u (k t) (back_soup t w.soup) (w.logs t) (BackOk c (past c w codes) t) v few (i.back_log t) n m);
-      near = λ y f d. subst (Nearly c.u (back_soup y w.soup)) (sym (tier_there w.logs t (w.logs t ++ v ∷ []) y f)) d;
-      there = λ y f d. subst (Complete c.u (back_soup y w.soup)) (sym (tier_there w.logs t (w.logs t ++ v ∷ []) y f)) d;
+      here = subst (Complete c.u (log_soup t w.soup)) (sym (tier_here w.logs t (w.logs t ++ v ∷ []))) (grow_some c.u (k t) (log_soup t w.soup) (w.logs t) (BackOk c (past c w codes) t) v few (i.back_log t) n m);
+      near = λ y f d. subst (Nearly c.u (log_soup y w.soup)) (sym (tier_there w.logs t (w.logs t ++ v ∷ []) y f)) d;
+      there = λ y f d. subst (Complete c.u (log_soup y w.soup)) (sym (tier_there w.logs t (w.logs t ++ v ∷ []) y f)) d;
     }
 
 pub grows_ok : {B : Type 0} (c : Config B) (P : Past B) (w : World B) → c.u < 128 → Mid_event c P w → WorldOk c (grows c w)
 grows_ok {B} c P w few i = record { codes = i.codes; h = i.h; k = i.k; core = p.core; done = record { mid = p.mid (n.mid m.mid); back = both } }
   where
     m : MidGrown c (mid_grows c w) i.codes i.h i.k
-    m = mid_grown c w i.codes i.h i.k (chosen_among c.u (mid_soup w.soup) (length w.log) (mid_soup w.soup)) few refl i.core i.near
+    m = mid_grown c w i.codes i.h i.k (chosen_among c.u (log_soup MidTier w.soup) (length (w.logs MidTier)) (log_soup MidTier w.soup)) few refl i.core i.near
 
     one : World B
     one = mid_grows c w
 
     n : BackGrown c (mid_grows c w) Inv i.codes i.h i.k (back_grows c Inv (mid_grows c w))
-    n = back_grown c one Inv i.codes i.h i.k (chosen_among c.u (back_soup Inv one.soup) (length (one.logs Inv)) (back_soup Inv one.soup)) few refl refl m.core (m.back Inv)
+    n = back_grown c one Inv i.codes i.h i.k (chosen_among c.u (log_soup Inv one.soup) (length (one.logs Inv)) (log_soup Inv one.soup)) few refl refl m.core (m.back Inv)
 
     two : World B
     two = back_grows c Inv (mid_grows c w)
 
     p : BackGrown c (back_grows c Inv (mid_grows c w)) Pay i.codes i.h i.k (grows c w)
-    p = back_grown c two Pay i.codes i.h i.k (chosen_among c.u (back_soup Pay two.soup) (length (two.logs Pay)) (back_soup Pay two.soup)) few refl refl n.core (n.near Pay refl (m.back Pay))
+    p = back_grown c two Pay i.codes i.h i.k (chosen_among c.u (log_soup Pay two.soup) (length (two.logs Pay)) (log_soup Pay two.soup)) few refl refl n.core (n.near Pay refl (m.back Pay))
 
-    both : (t : Tier) → Complete c.u (back_soup t (grows c w).soup) ((grows c w).logs t)
+    both : (t : Tier) → Complete c.u (log_soup t (grows c w).soup) ((grows c w).logs t)
     both MidTier = record { at = λ p v m. absurd (let e = m.is_sent in cc) }
     both Inv = p.there Inv refl n.here
     both Pay = p.here

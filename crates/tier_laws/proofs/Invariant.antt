@@ -8,4 +8,5 @@ pub mod ValuesAreGood
 pub mod PacketsAreTrue
 pub mod MiddleNodes
 pub mod BackendNodes
+pub mod NodesAreRight
 pub mod Whole

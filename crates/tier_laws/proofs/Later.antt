@@ -34,14 +34,14 @@ use Rattle.run_model.specs.Histories.{back_steps, value_steps}
 use Rattle.run_model.proofs.Appending.{run-append}
 use Rattle.tier_laws.specs.Said.{Laws, IsFront, WasSubmitted, chosen_log}
 use Rattle.tier_laws.proofs.Events.{world_ok}
-use Rattle.tier_laws.proofs.Soups.{mid_soup, back_soup}
+use Rattle.run_model.specs.Runs.{log_soup}
 use Rattle.tier_laws.proofs.Lists.{by_tier, get_left, get_within}
 
 -- AN EVENT LEAVES WHAT WAS CHOSEN
 
 pub record Keeps {B : Type 0} (w z : World B) : Type 0 where
   pub hist : z.hist ≡ w.hist
-  pub log : z.log ≡ w.log
+  pub log : z.log ≡ (w.logs MidTier)
   pub logs : z.logs ≡ w.logs
 
 keeps_refl : {B : Type 0} (w : World B) → Keeps w w
@@ -53,7 +53,7 @@ mid_up_keeps w x d move r Down = keeps_refl w
 mid_up_keeps w x d move r Gone = keeps_refl w
 
 at_mid_keeps : {B : Type 0} (c : Config B) (w : World B) (x : ℕ) (d : List (List Fact) → List Fact → Device) (move : Mid → Move Mid) (r : Mid → Option Running) → Keeps w (at_mid c w x d move r)
-at_mid_keeps c w x d move r = cond_both (nat_lt x (2 * c.u + 1)) (mid_up w x d move r (w.mids x).mode) w (Keeps w) (λ e. mid_up_keeps w x d move r (w.mids x).mode) (λ e. keeps_refl w)
+at_mid_keeps c w x d move r = cond_both (nat_lt x (2 * c.u + 1)) (mid_up w x d move r (w.nodes MidTier x).mode) w (Keeps w) (λ e. mid_up_keeps w x d move r (w.nodes MidTier x).mode) (λ e. keeps_refl w)
 
 back_up_keeps : {B : Type 0} (w : World B) (t : Tier) (x : ℕ) (d : List (List Fact) → List Fact → Device) (move : Back B → Move (Back B)) (m : Mode (Back B)) → Keeps w (back_up w t x d move m)
 back_up_keeps w t x d move (Up σ) = record { hist = refl; log = refl; logs = refl }
@@ -61,7 +61,7 @@ back_up_keeps w t x d move Down = keeps_refl w
 back_up_keeps w t x d move Gone = keeps_refl w
 
 at_back_keeps : {B : Type 0} (c : Config B) (w : World B) (t : Tier) (x : ℕ) (d : List (List Fact) → List Fact → Device) (move : Back B → Move (Back B)) → Keeps w (at_back c w t x d move)
-at_back_keeps c w t x d move = cond_both (nat_lt x (2 * c.u + 1)) (back_up w t x d move (w.backs t x).mode) w (Keeps w) (λ e. back_up_keeps w t x d move (w.backs t x).mode) (λ e. keeps_refl w)
+at_back_keeps c w t x d move = cond_both (nat_lt x (2 * c.u + 1)) (back_up w t x d move (w.nodes t x).mode) w (Keeps w) (λ e. back_up_keeps w t x d move (w.nodes t x).mode) (λ e. keeps_refl w)
 
 mid_node_keeps : {B : Type 0} (c : Config B) (w : World B) (x : ℕ) (node : Node Mid Fact) → Keeps w (mid_node c w x node)
 mid_node_keeps c w x node = cond_both (nat_lt x (2 * c.u + 1)) (with_mid w x node [] []) w (Keeps w) (λ e. record { hist = refl; log = refl; logs = refl }) (λ e. keeps_refl w)
@@ -131,14 +131,14 @@ retry_keeps c w (OfNode n) = node_retry_keeps c w n.tier n.index
 retry_keeps c w (Client y) = reopens_keeps c w y (w.clients y).opened
 
 crash_keeps : {B : Type 0} (c : Config B) (w : World B) (t : Tier) (x : ℕ) → Keeps w (crashes c w t x)
-crash_keeps c w MidTier x = mid_node_keeps c w x (crashed (w.mids x) (w.mids x).mode)
-crash_keeps c w Inv x = back_node_keeps c w Inv x (crashed (w.backs Inv x) (w.backs Inv x).mode)
-crash_keeps c w Pay x = back_node_keeps c w Pay x (crashed (w.backs Pay x) (w.backs Pay x).mode)
+crash_keeps c w MidTier x = mid_node_keeps c w x (crashed (w.nodes MidTier x) (w.nodes MidTier x).mode)
+crash_keeps c w Inv x = back_node_keeps c w Inv x (crashed (w.nodes Inv x) (w.nodes Inv x).mode)
+crash_keeps c w Pay x = back_node_keeps c w Pay x (crashed (w.nodes Pay x) (w.nodes Pay x).mode)
 
 restart_keeps : {B : Type 0} (c : Config B) (w : World B) (found : Found) (t : Tier) (x : ℕ) → Keeps w (restarts c w found t x)
-restart_keeps c w found MidTier x = mid_node_keeps c w x (restarted (mids.recovered c.u c.service c.depth) (w.mids x) found (w.mids x).mode)
-restart_keeps c w found Inv x = back_node_keeps c w Inv x (restarted (backs.recovered c.u c.service Inv) (w.backs Inv x) found (w.backs Inv x).mode)
-restart_keeps c w found Pay x = back_node_keeps c w Pay x (restarted (backs.recovered c.u c.service Pay) (w.backs Pay x) found (w.backs Pay x).mode)
+restart_keeps c w found MidTier x = mid_node_keeps c w x (restarted (mids.recovered c.u c.service c.depth) (w.nodes MidTier x) found (w.nodes MidTier x).mode)
+restart_keeps c w found Inv x = back_node_keeps c w Inv x (restarted (backs.recovered c.u c.service Inv) (w.nodes Inv x) found (w.nodes Inv x).mode)
+restart_keeps c w found Pay x = back_node_keeps c w Pay x (restarted (backs.recovered c.u c.service Pay) (w.nodes Pay x) found (w.nodes Pay x).mode)
 
 wipe_keeps : {B : Type 0} (c : Config B) (w : World B) (t : Tier) (x : ℕ) → Keeps w (wipes c w t x)
 wipe_keeps c w MidTier x = mid_node_keeps c w x (stands Gone [])
@@ -174,38 +174,38 @@ front_at xs ys f i a e = ap (λ z. slice_get z i) f.1 ∙ get_left xs f.0 i a e
 -- what was chosen in w begins what was chosen in z
 pub record Longer {B : Type 0} (w z : World B) : Type 0 where
   pub hist : IsFront w.hist z.hist
-  pub log : IsFront w.log z.log
+  pub log : IsFront (w.logs MidTier) z.log
   pub logs : (t : Tier) → IsFront (w.logs t) (z.logs t)
 
 longer_refl : {B : Type 0} (w : World B) → Longer w w
-longer_refl w = record { hist = front_refl w.hist; log = front_refl w.log; logs = λ t. front_refl (w.logs t) }
+longer_refl w = record { hist = front_refl w.hist; log = front_refl (w.logs MidTier); logs = λ t. front_refl (w.logs t) }
 
 longer_then : {B : Type 0} (w y z : World B) → Longer w y → Longer y z → Longer w z
-longer_then w y z a b = record { hist = front_then w.hist y.hist z.hist a.hist b.hist; log = front_then w.log y.log z.log a.log b.log; logs = λ t. front_then (w.logs t) (y.logs t) (z.logs t) (a.logs t) (b.logs t) }
+longer_then w y z a b = record { hist = front_then w.hist y.hist z.hist a.hist b.hist; log = front_then (w.logs MidTier) y.log z.log a.log b.log; logs = λ t. front_then (w.logs t) (y.logs t) (z.logs t) (a.logs t) (b.logs t) }
 
 keeps_longer : {B : Type 0} (w z : World B) → Keeps w z → Longer w z
 keeps_longer w z k = record {
   hist = subst (IsFront w.hist) (sym k.hist) (front_refl w.hist);
-  log = subst (IsFront w.log) (sym k.log) (front_refl w.log);
+  log = subst (IsFront (w.logs MidTier)) (sym k.log) (front_refl (w.logs MidTier));
   logs = λ t. subst (λ K. IsFront (w.logs t) (K t)) (sym k.logs) (front_refl (w.logs t));
 }
 
 mid_longer : {B : Type 0} (c : Config B) (w : World B) (o : Option AnyValue) → Longer w (mid_chosen c w o)
 mid_longer c w None = longer_refl w
-mid_longer c w (Some v) = record { hist = (value_steps c.service.programs c.depth w.log (served_of c w) v, refl); log = (v ∷ [], refl); logs = λ t. front_refl (w.logs t) }
+mid_longer c w (Some v) = record { hist = (value_steps c.service.programs c.depth (w.logs MidTier) (served_of c w) v, refl); log = (v ∷ [], refl); logs = λ t. front_refl (w.logs t) }
 
 back_longer : {B : Type 0} (w : World B) (t : Tier) (o : Option AnyValue) → Longer w (back_chosen w t o)
 back_longer w t None = longer_refl w
 back_longer w t (Some v) = record {
   hist = (back_steps t (w.logs t) v, refl);
-  log = front_refl w.log;
+  log = front_refl (w.logs MidTier);
   logs = by_tier (λ y K. IsFront (w.logs y) K) w.logs t (w.logs t ++ v ∷ []) (v ∷ [], refl) (λ y f. front_refl (w.logs y));
 }
 
 grows_longer : {B : Type 0} (c : Config B) (w : World B) → Longer w (grows c w)
-grows_longer {B} c w = longer_then w one (grows c w) (mid_longer c w (chosen_among c.u (mid_soup w.soup) (length w.log) (mid_soup w.soup)))
-    (longer_then one two (grows c w) (back_longer one Inv (chosen_among c.u (back_soup Inv one.soup) (length (one.logs Inv)) (back_soup Inv one.soup)))
-    (back_longer two Pay (chosen_among c.u (back_soup Pay two.soup) (length (two.logs Pay)) (back_soup Pay two.soup))))
+grows_longer {B} c w = longer_then w one (grows c w) (mid_longer c w (chosen_among c.u (log_soup MidTier w.soup) (length (w.logs MidTier)) (log_soup MidTier w.soup)))
+    (longer_then one two (grows c w) (back_longer one Inv (chosen_among c.u (log_soup Inv one.soup) (length (one.logs Inv)) (log_soup Inv one.soup)))
+    (back_longer two Pay (chosen_among c.u (log_soup Pay two.soup) (length (two.logs Pay)) (log_soup Pay two.soup))))
   where
     one : World B
     one = mid_grows c w
@@ -228,7 +228,7 @@ log_goes_on c es fs Inv = (goes_on c es fs).logs Inv
 log_goes_on c es fs Pay = (goes_on c es fs).logs Pay
 
 -- a start that was not submitted after es stands past the history of es
-pub starts_later : {B : Type 0} (c : Config B) (es fs : List TraceEvent) (i n : ℕ) (who : ReqId) (body : List ℕ) → c.u < 128 → Laws c.service → slice_get (world c (es ++ fs)).hist i ≡ Some (Start who n, body)
+pub starts_later : {B : Type 0} (c : Config B) (es fs : List TraceEvent) (i n : ℕ) (who : ReqId) (body : List ℕ) → c.u < 128 → Laws c.service.programs → slice_get (world c (es ++ fs)).hist i ≡ Some (Start who n, body)
     → ((text : List ℕ) → WasSubmitted (world c es) who text → ⊥) → length (world c es).hist ≤ i
 starts_later {B} c es fs i n who body few laws e new = go (cases_lt i (length (world c es).hist))
   where

@@ -16,7 +16,7 @@ use Rattle.log_model.specs.declared.fact.Fact.{Fact as LogFact}
 use Rattle.log_values.specs.declared.fact.Fact.{Fact}
 use Rattle.log_values.specs.declared.fact.Fact.TheVariants.{Held}
 use Rattle.log_values.specs.declared.any_value.AnyValue.{AnyValue}
-use Rattle.round_model.specs.Answers.{Code}
+use Rattle.tier_laws.proofs.Codes.{Code}
 use Rattle.round_model.specs.Lists.{OfTiers, of_tier}
 use Rattle.round_model.specs.Service.{Service}
 use Rattle.round_model.specs.Tables.{Want, bump}
@@ -35,24 +35,12 @@ use Rattle.log_model.specs.declared.turn.LogIdle.TheVariants.{Nothing}
 use Rattle.log_values.specs.declared.fact.Fact.TheVariants.{Promised, Accepted, Learned}
 use Rattle.frames.specs.declared.turn.Turn.{Turn as Answer}
 use Rattle.tier_laws.specs.Said.{Laws}
-use Rattle.tier_laws.proofs.Soups.{mid_soup, back_soup, mid_soup-append, back_soup-append, NoLog, no_mid, no_back, none_nil, none_append, none_each, mid_soup-log, back_soup-mid, every-log}
+use Rattle.tier_laws.proofs.Soups.{NoLog, no_log, none_nil, none_append, none_each, log_soup-own, log_soup-other, every-log}
+use Rattle.run_model.specs.Runs.{log_soup}
+use Rattle.run_model.proofs.Soups.{log_soup-append}
 use Rattle.tier_model.specs.Moves.{as_fact, log_packets, Move, Packet, held_in, log_facts}
 
--- THE HELD FACTS OF A RECORD
-
-abbrev pub helds : List Fact → List Code
-helds [] = []
-helds (Promised b ∷ fs) = helds fs
-helds (Accepted p b v ∷ fs) = helds fs
-helds (Learned p v ∷ fs) = helds fs
-helds (Held t n code ∷ fs) = record { tier = t; num = n; code = code } ∷ helds fs
-
-pub held_in-onto : (fs F : List Fact) → held_in (onto fs F) ≡ held_in F ++ helds fs
-held_in-onto [] F = sym (append-nil (held_in F))
-held_in-onto (Promised b ∷ fs) F = held_in-onto fs (Promised b ∷ F)
-held_in-onto (Accepted p b v ∷ fs) F = held_in-onto fs (Accepted p b v ∷ F)
-held_in-onto (Learned p v ∷ fs) F = held_in-onto fs (Learned p v ∷ F)
-held_in-onto (Held t n code ∷ fs) F = held_in-onto fs (Held t n code ∷ F) ∙ append_assoc (held_in F) _ (helds fs)
+-- THE FACTS OF A LOG
 
 pub log_facts-map : (fs : List (LogFact AnyValue)) → log_facts (map as_fact fs) ≡ fs
 log_facts-map [] = refl
@@ -87,29 +75,29 @@ pub record Later {B : Type 0} (c : Config B) (Q : Past B) (x : ℕ) (v : Move Mi
 
 pub record MoveOk {B : Type 0} (c : Config B) (P : Past B) (h : ℕ → List (LogFact AnyValue)) (soup : List Packet) (x : ℕ) (rs : List Vote) (v : Move Mid) : Type 0 where
   pub turn : Turn AnyValue
-  pub turn_ok : TurnOk c.u h (mid_soup soup) x turn
+  pub turn_ok : TurnOk c.u h (log_soup MidTier soup) x turn
   pub good : (p : ℕ) (b : Ballot) (w : AnyValue) → DidVote (onto turn.facts (h x)) p b w → MidOk c P p w
   pub is_facts : log_facts v.facts ≡ turn.facts
-  pub is_sends : mid_soup v.sends ≡ packets_of x turn.sends
+  pub is_sends : log_soup MidTier v.sends ≡ packets_of x turn.sends
   pub is_log : v.state.log ≡ turn.state
-  pub no_back : (t : Tier) → back_soup t v.sends ≡ []
+  pub others : (t : Tier) → same_tier t MidTier ≡ false → log_soup t v.sends ≡ []
   pub codes : (i : ℕ) (k : Code) → slice_get (helds v.facts) i ≡ Some k → P.server.served k.tier k.num ≡ Some k.code
   pub runs : (i : ℕ) (r : Vote) → slice_get rs i ≡ Some r → RunOk c P r
-  pub later : (Q : Past B) → Grows P Q → Known c Q → Q.codes x ≡ P.codes x ++ helds v.facts → ((i : ℕ) (r : Vote) → slice_get rs i ≡ Some r → DidRun Q r) → Later c Q x v
+  pub later : (Q : Past B) → Grows P Q → Known c Q → Q.codes MidTier x ≡ P.codes MidTier x ++ helds v.facts → ((i : ℕ) (r : Vote) → slice_get rs i ≡ Some r → DidRun Q r) → Later c Q x v
 
 -- what is known where x is up with the state σ
 pub record Here {B : Type 0} (c : Config B) (P : Past B) (h : ℕ → List (LogFact AnyValue)) (soup : List Packet) (x : ℕ) (σ : Mid) : Type 0 where
   pub few : c.u < 128
   pub inside : x < 2 * c.u + 1
-  pub laws : Laws c.service
-  pub history : History c.u h (mid_soup soup)
-  pub log : StateOk c.u h (h x) (mid_soup soup) x σ.log
+  pub laws : Laws c.service.programs
+  pub history : History c.u h (log_soup MidTier soup)
+  pub log : StateOk c.u h (h x) (log_soup MidTier soup) x σ.log
   pub good : (y : ℕ) → y < 2 * c.u + 1 → (p : ℕ) (b : Ballot) (v : AnyValue) → DidVote (h y) p b v → MidOk c P p v
-  pub complete : Complete c.u (mid_soup soup) P.log
+  pub complete : Complete c.u (log_soup MidTier soup) P.log
   pub other : MidOther c P x σ
   pub known : Known c P
 
-pub knows : {B : Type 0} (c : Config B) (P : Past B) (h : ℕ → List (LogFact AnyValue)) (soup : List Packet) (x : ℕ) (σ : Mid) → Here c P h soup x σ → Knows c.u h (mid_soup soup) x σ.log
+pub knows : {B : Type 0} (c : Config B) (P : Past B) (h : ℕ → List (LogFact AnyValue)) (soup : List Packet) (x : ℕ) (σ : Mid) → Here c P h soup x σ → Knows c.u h (log_soup MidTier soup) x σ.log
 knows c P h soup x σ k = record { few = k.few; inside = k.inside; history = k.history; state = k.log }
 
 pub prefix : {B : Type 0} (c : Config B) (P : Past B) (h : ℕ → List (LogFact AnyValue)) (soup : List Packet) (x : ℕ) (σ : Mid) → Here c P h soup x σ → MoreLog σ.log.learned P.log
@@ -118,15 +106,15 @@ prefix c P h soup x σ k = record { at = λ p v e. k.complete.at p v (k.history.
 -- a move beside the log
 pub plain : {B : Type 0} (c : Config B) (P : Past B) (h : ℕ → List (LogFact AnyValue)) (soup : List Packet) (x : ℕ) (σ : Mid) (rs : List Vote) (v : Move Mid) → Here c P h soup x σ → v.state.log ≡ σ.log → log_facts v.facts ≡ [] → NoLog v.sends
     → ((i : ℕ) (k : Code) → slice_get (helds v.facts) i ≡ Some k → P.server.served k.tier k.num ≡ Some k.code) → ((i : ℕ) (r : Vote) → slice_get rs i ≡ Some r → RunOk c P r)
-    → ((Q : Past B) → Grows P Q → Known c Q → Q.codes x ≡ P.codes x ++ helds v.facts → ((i : ℕ) (r : Vote) → slice_get rs i ≡ Some r → DidRun Q r) → Later c Q x v) → MoveOk c P h soup x rs v
+    → ((Q : Past B) → Grows P Q → Known c Q → Q.codes MidTier x ≡ P.codes MidTier x ++ helds v.facts → ((i : ℕ) (r : Vote) → slice_get rs i ≡ Some r → DidRun Q r) → Later c Q x v) → MoveOk c P h soup x rs v
 plain c P h soup x σ rs v k l f n codes runs later = record {
   turn = idles σ.log Nothing;
-  turn_ok = idle_ok c.u h (mid_soup soup) x σ.log Nothing (knows c P h soup x σ k);
+  turn_ok = idle_ok c.u h (log_soup MidTier soup) x σ.log Nothing (knows c P h soup x σ k);
   good = λ p b w d. k.good x k.inside p b w d;
   is_facts = f;
-  is_sends = no_mid v.sends n;
+  is_sends = no_log v.sends n MidTier;
   is_log = l;
-  no_back = no_back v.sends n;
+  others = λ t e. no_log v.sends n t;
   codes = codes;
   runs = runs;
   later = later;
@@ -136,7 +124,7 @@ plain c P h soup x σ rs v k l f n codes runs later = record {
 pub quiet : {B : Type 0} {a : Answer} (c : Config B) (P : Past B) (h : ℕ → List (LogFact AnyValue)) (soup : List Packet) (x : ℕ) (σ τ : Mid) (ks : List Packet) → Here c P h soup x σ → τ.log ≡ σ.log → NoLog ks
     → ((Q : Past B) → Grows P Q → MidOther c Q x σ → MidOther c Q x τ × Every (SentOk c Q) ks) → MoveOk c P h soup x [] (record { state = τ; facts = []; sends = ks; answer = a })
 quiet {B} {a} c P h soup x σ τ ks k l n later = plain c P h soup x σ [] (record { state = τ; facts = []; sends = ks; answer = a }) k l refl n (λ i k e. absurd (cc)) (λ i r e. absurd (cc))
-    (λ Q g kn e rs. let r = later Q g (other-more c P Q x σ g (e ∙ append-nil (P.codes x)) k.other) in record { other = r.0; sends = r.1 })
+    (λ Q g kn e rs. let r = later Q g (other-more c P Q x σ g (e ∙ append-nil (P.codes MidTier x)) k.other) in record { other = r.0; sends = r.1 })
 
 pub stays_ok : {B : Type 0} {a : Answer} (c : Config B) (P : Past B) (h : ℕ → List (LogFact AnyValue)) (soup : List Packet) (x : ℕ) (σ : Mid) → Here c P h soup x σ → MoveOk c P h soup x [] (record { state = σ; facts = []; sends = []; answer = a })
 stays_ok c P h soup x σ k = quiet c P h soup x σ σ [] k refl none_nil (λ Q g o. (o, tt))
@@ -163,21 +151,21 @@ due_ready m σ s R e = go (is_due σ s) e
 log_other : {B : Type 0} (c : Config B) (Q : Past B) (x : ℕ) (σ : Mid) (s : LogState AnyValue) → MidOther c Q x σ → MidOther c Q x (with_log σ s)
 log_other c Q x σ s o = record { is_after = o.is_after; tables = o.tables; pending = o.pending; tally = o.tally; spec = o.spec; held = o.held; noted = o.noted }
 
-pub log_move : {B : Type 0} (c : Config B) (P : Past B) (h : ℕ → List (LogFact AnyValue)) (soup : List Packet) (x : ℕ) (σ : Mid) (t : Turn AnyValue) (own : Option AnyValue) → Here c P h soup x σ → TurnOk c.u h (mid_soup soup) x t → Origins c.u h x own t
+pub log_move : {B : Type 0} (c : Config B) (P : Past B) (h : ℕ → List (LogFact AnyValue)) (soup : List Packet) (x : ℕ) (σ : Mid) (t : Turn AnyValue) (own : Option AnyValue) → Here c P h soup x σ → TurnOk c.u h (log_soup MidTier soup) x t → Origins c.u h x own t
     → ((v : AnyValue) → own ≡ Some v → MidOk c P (length t.state.learned) v) → MoveOk c P h soup x [] (in_log c.u c.service.programs x σ t)
 log_move {B} c P h soup x σ t own k ok from fine = record {
   turn = t;
   turn_ok = ok;
   good = λ p b w d. good p w (from.from p b w d);
   is_facts = log_facts-map t.facts;
-  is_sends = mid_soup-append (log_packets MidTier x t.sends) (apply_sends c.u x (with_log σ t.state) (due_round c.service.programs σ t.state)) ∙ ap (λ z. mid_soup (log_packets MidTier x t.sends) ++ z) (no_mid _ (none_apply c.u x (with_log σ t.state) (due_round c.service.programs σ t.state))) ∙ append-nil (mid_soup (log_packets MidTier x t.sends)) ∙ mid_soup-log x t.sends;
+  is_sends = log_soup-append MidTier (log_packets MidTier x t.sends) (apply_sends c.u x (with_log σ t.state) (due_round c.service.programs σ t.state)) ∙ ap (λ z. log_soup MidTier (log_packets MidTier x t.sends) ++ z) (no_mid _ (none_apply c.u x (with_log σ t.state) (due_round c.service.programs σ t.state))) ∙ append-nil (log_soup MidTier (log_packets MidTier x t.sends)) ∙ log_soup-own MidTier x t.sends;
   is_log = state_log (with_log σ t.state) (due_round c.service.programs σ t.state);
-  no_back = λ v. back_soup-append v (log_packets MidTier x t.sends) (apply_sends c.u x (with_log σ t.state) (due_round c.service.programs σ t.state)) ∙ ap (λ z. z ++ back_soup v (apply_sends c.u x (with_log σ t.state) (due_round c.service.programs σ t.state))) (back_soup-mid v x t.sends) ∙ no_back _ (none_apply c.u x (with_log σ t.state) (due_round c.service.programs σ t.state)) v;
+  no_back = λ v. log_soup-append v (log_packets MidTier x t.sends) (apply_sends c.u x (with_log σ t.state) (due_round c.service.programs σ t.state)) ∙ ap (λ z. z ++ log_soup v (apply_sends c.u x (with_log σ t.state) (due_round c.service.programs σ t.state))) (back_soup-mid v x t.sends) ∙ no_back _ (none_apply c.u x (with_log σ t.state) (due_round c.service.programs σ t.state)) v;
   codes = λ i q e. absurd (let f : slice_get [] i ≡ Some q = subst (λ z. slice_get z i ≡ Some q) (helds-map t.facts) e in cc);
   runs = λ i r e. absurd (cc);
   later = λ Q g kn e rs.
-      let o : MidOther c Q x σ = other-more c P Q x σ g (e ∙ ap (λ z. P.codes x ++ z) (helds-map t.facts) ∙ append-nil (P.codes x)) k.other in
-      let r = ready_later c Q x (with_log σ t.state) (due_round c.service.programs σ t.state) kn (log_other c Q x σ t.state o) (record { at = λ p v f. g.log.at p v ((state_more c.u h (mid_soup soup) P.log x t ok k.complete).at p v f) }) (λ R f. due_ready c.service σ t.state R f) in
+      let o : MidOther c Q x σ = other-more c P Q x σ g (e ∙ ap (λ z. P.codes MidTier x ++ z) (helds-map t.facts) ∙ append-nil (P.codes MidTier x)) k.other in
+      let r = ready_later c Q x (with_log σ t.state) (due_round c.service.programs σ t.state) kn (log_other c Q x σ t.state o) (record { at = λ p v f. g.log.at p v ((state_more c.u h (log_soup MidTier soup) P.log x t ok k.complete).at p v f) }) (λ R f. due_ready c.service σ t.state R f) in
       record { other = r.0; sends = every-append (SentOk c Q) (log_packets MidTier x t.sends) _ (every-log c Q MidTier x t.sends) r.1 };
 }
   where

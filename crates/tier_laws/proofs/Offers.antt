@@ -13,7 +13,7 @@ use Rattle.log_values.specs.declared.any_value.AnyValue.{AnyValue}
 use Rattle.log_values.specs.declared.any_value.AnyValue.TheVariants.{Mid as OfMid}
 use Rattle.log_values.specs.declared.entry.Entry.{Entry}
 use Rattle.log_values.specs.declared.mid_value.MidValue.TheVariants.{Batch, Verdict as Decided}
-use Rattle.round_model.specs.Answers.{Code, code_of, insert, least_open, sorted}
+use Rattle.tier_laws.proofs.Codes.{Code, code_of, insert, least_open, sorted}
 use Rattle.round_model.specs.Lists.{and_then, concat, each, half, is_nil, is_some, odd}
 use Rattle.round_model.specs.Service.{Service}
 use Rattle.round_model.specs.Tables.{pending_of, Parked, Tables, fresh_pending, if_fresh, is_fresh}
@@ -27,7 +27,9 @@ use Rattle.tier_laws.proofs.Past.{BatchOk, FloorOk, Known, MidOk, MidOther, Sent
 use Rattle.tier_laws.proofs.Stable.{then_parts}
 use Rattle.tier_laws.proofs.Verdicts.{usable_ok, verdict_ok}
 use Rattle.aeg_base.specs.declared.names.Tier.TheVariants.{Mid as MidTier, Inv, Pay}
-use Rattle.tier_laws.proofs.Soups.{mid_soup, back_soup, mid_soup-append, back_soup-append, NoLog, no_mid, no_back, none_nil, none_append, none_each, mid_soup-log, back_soup-mid, every-log}
+use Rattle.tier_laws.proofs.Soups.{NoLog, no_log, none_nil, none_append, none_each, log_soup-own, log_soup-other, every-log}
+use Rattle.run_model.specs.Runs.{log_soup}
+use Rattle.run_model.proofs.Soups.{log_soup-append}
 use Rattle.tier_model.specs.Mid.{Mid, calls_to}
 use Rattle.log_model.specs.declared.message.PaxMsg.TheVariants.{Ask}
 use Rattle.log_model.specs.declared.turn.Offering.{Offering}
@@ -38,7 +40,7 @@ use Rattle.log_model.proofs.Rows.{lead_ok}
 use Rattle.log_model.proofs.Votes.{offer_ok}
 use Rattle.log_model.proofs.Origin.{lead_from, offer_from}
 use Rattle.log_model.proofs.Invariant.{SendOk}
-use Rattle.round_model.specs.Answers.{highest}
+use Rattle.tier_laws.proofs.Codes.{highest}
 use Rattle.tier_laws.proofs.Moves.{log_move, stays_ok}
 use Rattle.tier_laws.proofs.Codes.{code_of-at}
 use Rattle.tier_model.specs.Mid.{in_log, call_to}
@@ -173,8 +175,8 @@ settle_none u x t g = cond_both (nat_lt 1 g) (each (2 * u + 1) nobody (settle_at
 
 held_have : {B : Type 0} (c : Config B) (Q : Past B) (x : ℕ) (σ : Mid) → Known c Q → MidOther c Q x σ → Every (HaveOk Q x) σ.held
 held_have c Q x σ k o = every_from (HaveOk Q x) σ.held (λ i q e.
-    let f : slice_get (Q.codes x) i ≡ Some q = subst (λ z. slice_get z i ≡ Some q) o.held e in
-    (k.codes x i q f, code_of-at (Q.codes x) i q f))
+    let f : slice_get (Q.codes MidTier x) i ≡ Some q = subst (λ z. slice_get z i ≡ Some q) o.held e in
+    (k.codes x i q f, code_of-at (Q.codes MidTier x) i q f))
 
 again_ok : {B : Type 0} (c : Config B) (Q : Past B) (x : ℕ) (σ : Mid) → Known c Q → MidOther c Q x σ → Every (SentOk c Q) (again c.u x σ)
 again_ok c Q x σ k o =
@@ -195,29 +197,29 @@ again_none u x σ =
 pub retry_ok : {B : Type 0} (c : Config B) (P : Past B) (h : ℕ → List (LogFact AnyValue)) (soup : List Packet) (x : ℕ) (σ : Mid) → Here c P h soup x σ → MoveOk c P h soup x [] (retry c.u x σ)
 retry_ok {B} c P h soup x σ k = record {
   turn = log_says σ.log (asks c.u x (open_at σ.log));
-  turn_ok = still c.u h (mid_soup soup) x σ.log σ.log (asks c.u x (open_at σ.log)) None (knows c P h soup x σ k) k.log (λ g same m. every-each (SendOk c.u g (mid_soup soup) x) (2 * c.u + 1) (is x) (λ y. (y, Ask (open_at σ.log))) (λ y. tt));
+  turn_ok = still c.u h (log_soup MidTier soup) x σ.log σ.log (asks c.u x (open_at σ.log)) None (knows c P h soup x σ k) k.log (λ g same m. every-each (SendOk c.u g (log_soup MidTier soup) x) (2 * c.u + 1) (is x) (λ y. (y, Ask (open_at σ.log))) (λ y. tt));
   good = λ p b w d. k.good x k.inside p b w d;
   is_facts = refl;
-  is_sends = mid_soup-append (log_packets MidTier x (asks c.u x (open_at σ.log))) (again c.u x σ) ∙ ap (λ z. mid_soup (log_packets MidTier x (asks c.u x (open_at σ.log))) ++ z) (no_mid _ (again_none c.u x σ)) ∙ append-nil (mid_soup (log_packets MidTier x (asks c.u x (open_at σ.log)))) ∙ mid_soup-log x (asks c.u x (open_at σ.log));
+  is_sends = log_soup-append MidTier (log_packets MidTier x (asks c.u x (open_at σ.log))) (again c.u x σ) ∙ ap (λ z. log_soup MidTier (log_packets MidTier x (asks c.u x (open_at σ.log))) ++ z) (no_mid _ (again_none c.u x σ)) ∙ append-nil (log_soup MidTier (log_packets MidTier x (asks c.u x (open_at σ.log)))) ∙ log_soup-own MidTier x (asks c.u x (open_at σ.log));
   is_log = refl;
-  no_back = λ v. back_soup-append v (log_packets MidTier x (asks c.u x (open_at σ.log))) (again c.u x σ) ∙ ap (λ z. z ++ back_soup v (again c.u x σ)) (back_soup-mid v x (asks c.u x (open_at σ.log))) ∙ no_back _ (again_none c.u x σ) v;
+  no_back = λ v. log_soup-append v (log_packets MidTier x (asks c.u x (open_at σ.log))) (again c.u x σ) ∙ ap (λ z. z ++ log_soup v (again c.u x σ)) (back_soup-mid v x (asks c.u x (open_at σ.log))) ∙ no_back _ (again_none c.u x σ) v;
   codes = λ i q e. absurd (cc);
   runs = λ i r e. absurd (cc);
   later = λ Q g kn e rs.
-      let o : MidOther c Q x σ = other-more c P Q x σ g (e ∙ append-nil (P.codes x)) k.other in
+      let o : MidOther c Q x σ = other-more c P Q x σ g (e ∙ append-nil (P.codes MidTier x)) k.other in
       record { other = o; sends = every-append (SentOk c Q) (log_packets MidTier x (asks c.u x (open_at σ.log))) (again c.u x σ) (every-log c Q MidTier x (asks c.u x (open_at σ.log))) (again_ok c Q x σ kn o) };
 }
 
 -- LEADING AND OFFERING
 
 pub leads_ok : {B : Type 0} (c : Config B) (P : Past B) (h : ℕ → List (LogFact AnyValue)) (soup : List Packet) (x : ℕ) (σ : Mid) → Here c P h soup x σ → MoveOk c P h soup x [] (leads c.u c.service.programs x σ)
-leads_ok c P h soup x σ k = log_move c P h soup x σ (lead c.u x σ.log) None k (lead_ok c.u h (mid_soup soup) x σ.log (knows c P h soup x σ k)) (lead_from c.u h x σ.log k.inside) (λ v e. absurd (cc))
+leads_ok c P h soup x σ k = log_move c P h soup x σ (lead c.u x σ.log) None k (lead_ok c.u h (log_soup MidTier soup) x σ.log (knows c P h soup x σ k)) (lead_from c.u h x σ.log k.inside) (λ v e. absurd (cc))
 
 pub offers_ok : {B : Type 0} (c : Config B) (P : Past B) (h : ℕ → List (LogFact AnyValue)) (soup : List Packet) (x : ℕ) (σ : Mid) → Here c P h soup x σ → MoveOk c P h soup x [] (offers c.u c.service.programs x σ)
 offers_ok {B} c P h soup x σ k = go (log_wants c.u σ.log)
   where
     offered : MoveOk c P h soup x [] (in_log c.u c.service.programs x σ (offer c.u x σ.log (own_value c.u c.service.programs σ)))
-    offered = log_move c P h soup x σ (offer c.u x σ.log (own_value c.u c.service.programs σ)) (own_value c.u c.service.programs σ) k (offer_ok c.u h (mid_soup soup) x σ.log σ.log.leader (own_value c.u c.service.programs σ) (knows c P h soup x σ k) k.log.leader)
+    offered = log_move c P h soup x σ (offer c.u x σ.log (own_value c.u c.service.programs σ)) (own_value c.u c.service.programs σ) k (offer_ok c.u h (log_soup MidTier soup) x σ.log σ.log.leader (own_value c.u c.service.programs σ) (knows c P h soup x σ k) k.log.leader)
         (offer_from c.u h x σ.log σ.log.leader (own_value c.u c.service.programs σ) k.inside k.log.leader)
         (λ v e. subst (λ z. MidOk c P (length z) v) (sym (offer_learned c.u x σ.log σ.log.leader (own_value c.u c.service.programs σ))) (own_ok c P h soup x σ v k e))
 

@@ -17,7 +17,7 @@ use Rattle.log_values.specs.declared.mid_value.MidValue.TheVariants.{Batch, Verd
 use Rattle.log_values.specs.declared.mid_value.Verdict.{Verdict}
 use Rattle.log_values.specs.declared.mid_value.Verdict.TheVariants.{Commit, Serial}
 use Rattle.round_model.specs.After.{Round, round}
-use Rattle.round_model.specs.Answers.{Code}
+use Rattle.tier_laws.proofs.Codes.{Code}
 use Rattle.round_model.specs.Lists.{half}
 use Rattle.aeg_base.specs.declared.names.End.{End}
 use Rattle.frames.specs.declared.message.Msg.{Msg}
@@ -103,7 +103,7 @@ parcels-more c P Q ks g e = every-weaker (SentOk c P) (SentOk c Q) (λ k o. sent
 
 -- A MIDDLE NODE'S STATE, BESIDE ITS LOG
 
-pub other-more : {B : Type 0} (c : Config B) (P Q : Past B) (x : ℕ) (σ : Mid) → Grows P Q → Q.codes x ≡ P.codes x → MidOther c P x σ → MidOther c Q x σ
+pub other-more : {B : Type 0} (c : Config B) (P Q : Past B) (x : ℕ) (σ : Mid) → Grows P Q → Q.codes MidTier x ≡ P.codes MidTier x → MidOther c P x σ → MidOther c Q x σ
 other-more c P Q x σ g e k = record {
   is_after = after-more c.service c.depth P.log Q.log P.server.served Q.server.served σ.applied σ.tables g.log (answers-kept P.server Q.server g.kept) k.is_after;
   tables = tables-kept P.server Q.server σ.tables g.kept k.tables;
@@ -116,8 +116,8 @@ other-more c P Q x σ g e k = record {
 
 -- what is known of the past, whatever the nodes
 pub record Known {B : Type 0} (c : Config B) (P : Past B) : Type 0 where
-  pub laws : Laws c.service
+  pub laws : Laws c.service.programs
   pub values : (p : ℕ) (v : AnyValue) → slice_get P.log p ≡ Some v → MidOk c P p v
   pub decided : (r : ℕ) → r < half (length P.log) → Decision c.service c.depth P.log P.server r
   pub runs : (i : ℕ) (v : Vote) → slice_get P.runs i ≡ Some v → RunOk c P v
-  pub codes : (x i : ℕ) (k : Code) → slice_get (P.codes x) i ≡ Some k → P.server.served k.tier k.num ≡ Some k.code
+  pub codes : (x i : ℕ) (k : Code) → slice_get (P.codes MidTier x) i ≡ Some k → P.server.served k.tier k.num ≡ Some k.code

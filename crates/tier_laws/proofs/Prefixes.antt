@@ -15,7 +15,7 @@ use Rattle.log_values.specs.declared.any_value.AnyValue.TheVariants.{Mid as OfMi
 use Rattle.log_values.specs.declared.mid_value.MidValue.TheVariants.{Verdict as Decided}
 use Rattle.frames.specs.declared.message.Msg.TheVariants as msgs
 use Rattle.round_model.specs.After.{round}
-use Rattle.round_model.specs.Answers.{code_of}
+use Rattle.tier_laws.proofs.Codes.{code_of}
 use Rattle.round_model.specs.Lists.{is_some}
 use Rattle.run_model.specs.Runs.{back_chosen, back_grows, grows, log_soup, mid_chosen, mid_grows, run, world}
 use Rattle.run_model.specs.World.{Config, World, happens, start}
@@ -43,7 +43,7 @@ later c es e t n x k = record { before = k.before; after = k.after ++ e ∷ []; 
 
 -- what a node that isn't gone has at the world after the events
 HasNow : {B : Type 0} → World B → Tier → ℕ → ℕ → Type 0
-HasNow w t n x = (is_gone (w.mids x).mode ≡ false) × ((records : List (List Fact)) → StandsFor (w.mids x) (w.mids x).mode records → (code : ℕ) × (code_of (held_in (newest records)) t n ≡ Some code))
+HasNow w t n x = (is_gone (w.nodes Mid x).mode ≡ false) × ((records : List (List Fact)) → StandsFor (w.nodes Mid x) (w.nodes Mid x).mode records → (code : ℕ) × (code_of (held_in (newest records)) t n ≡ Some code))
 
 now : {B : Type 0} (c : Config B) (es : List TraceEvent) (w : World B) → w ≡ world c es → (t : Tier) (n x : ℕ) → HasNow w t n x → Holds c es t n x
 unfolding HasNow
@@ -51,24 +51,24 @@ now {B} c es w e t n x k =
     let h : HasNow (world c es) t n x = subst (λ (z : World B). HasNow z t n x) e k in
     record { before = es; after = []; is_all = sym (append-nil es); here = h.0; had = h.1 }
 
-has_now : {B : Type 0} (c : Config B) (w : World B) (i : WorldOk c w) (x : ℕ) (t : Tier) (n code : ℕ) → x < 2 * c.u + 1 → code_of (i.codes x) t n ≡ Some code → is_gone (w.mids x).mode ≡ false → HasNow w t n x
+has_now : {B : Type 0} (c : Config B) (w : World B) (i : WorldOk c w) (x : ℕ) (t : Tier) (n code : ℕ) → x < 2 * c.u + 1 → code_of (i.codes x) t n ≡ Some code → is_gone (w.nodes Mid x).mode ≡ false → HasNow w t n x
 unfolding HasNow
-has_now c w i x t n code l e g = (g, λ R s. (code, held_for c w i x t n code (w.mids x).mode (i.core.mids x l) e R s))
+has_now c w i x t n code l e g = (g, λ R s. (code, held_for c w i x t n code (w.nodes Mid x).mode (i.core.mids x l) e R s))
 
-mid_same : {B : Type 0} (c : Config B) (w : World B) (o : Option AnyValue) → (mid_chosen c w o).mids ≡ w.mids
+mid_same : {B : Type 0} (c : Config B) (w : World B) (o : Option AnyValue) → (mid_chosen c w o).mids ≡ w.nodes Mid
 mid_same c w None = refl
 mid_same c w (Some v) = refl
 
-back_same : {B : Type 0} (w : World B) (t : Tier) (o : Option AnyValue) → (back_chosen w t o).mids ≡ w.mids
+back_same : {B : Type 0} (w : World B) (t : Tier) (o : Option AnyValue) → (back_chosen w t o).mids ≡ w.nodes Mid
 back_same w t None = refl
 back_same w t (Some v) = refl
 
 -- the growth of the logs changes no node
-grows_same : {B : Type 0} (c : Config B) (w : World B) → (grows c w).mids ≡ w.mids
+grows_same : {B : Type 0} (c : Config B) (w : World B) → (grows c w).mids ≡ w.nodes Mid
 grows_same {B} c w =
     back_same two Pay (chosen_among c.u (log_soup Pay two.soup) (length (two.logs Pay)) (log_soup Pay two.soup))
     ∙ back_same one Inv (chosen_among c.u (log_soup Inv one.soup) (length (one.logs Inv)) (log_soup Inv one.soup))
-    ∙ mid_same c w (chosen_among c.u (log_soup Mid w.soup) (length w.log) (log_soup Mid w.soup))
+    ∙ mid_same c w (chosen_among c.u (log_soup Mid w.soup) (length (w.logs Mid)) (log_soup Mid w.soup))
   where
     one : World B
     one = mid_grows c w
@@ -106,7 +106,7 @@ held_from {B} c (e ∷ es) done w few same k =
     subst (λ z. HeldAt c z (run c es (grows c (happens c w e)))) (append_assoc done (e ∷ []) es)
     (held_from c es (done ++ e ∷ []) (grows c (happens c w e)) few (ap (λ (z : World B). grows c (happens c z e)) same ∙ sym (run-append c done (e ∷ []) start)) (held_step c done w e few same k))
 
-held_now : {B : Type 0} (c : Config B) (es : List TraceEvent) → c.u < 128 → Laws c.service → HeldAt c es (world c es)
+held_now : {B : Type 0} (c : Config B) (es : List TraceEvent) → c.u < 128 → Laws c.service.programs → HeldAt c es (world c es)
 held_now c es few laws = held_from c es [] start few refl (record { inv = start_ok c laws; hold = λ x t n code l e. absurd (let f : None ≡ Some code = sym (ap (λ cs. code_of cs t n) (start_codes c laws x)) ∙ e in cc) })
 
 many_holders : {B : Type 0} (c : Config B) (es : List TraceEvent) (k : HeldAt c es (world c es)) (t : Tier) (n : ℕ) → ManyHold c (past c (world c es) k.inv.codes) t n → ManyHolders c es t n
@@ -114,10 +114,10 @@ many_holders c es k t n many = ((λ x. is_some (code_of (k.inv.codes x) t n)), m
 
 -- WHO HOLDS WHAT IS USED, TOLD OR SETTLED
 
-pub round_holders : {B : Type 0} (c : Config B) (es : List TraceEvent) (e : TraceEvent) (r : ℕ) (v : Verdict) → c.u < 128 → Laws c.service → length (world c es).log ≤ 2 * r + 1 → slice_get (world c (es ++ e ∷ [])).log (2 * r + 1) ≡ Some (OfMid (Decided v)) → HeldBefore c es r
+pub round_holders : {B : Type 0} (c : Config B) (es : List TraceEvent) (e : TraceEvent) (r : ℕ) (v : Verdict) → c.u < 128 → Laws c.service.programs → length ((world c es).logs Mid) ≤ 2 * r + 1 → slice_get ((world c (es ++ e ∷ [])).logs Mid) (2 * r + 1) ≡ Some (OfMid (Decided v)) → HeldBefore c es r
 round_holders {B} c es e r v few laws l f = record {
   made = o.made;
-  is_round = subst (λ A. round c.service.programs c.depth (world c es).log A r ≡ Some o.made) (sym (served_same c (world c es) k.inv.codes k.inv.h k.inv.k k.inv.core)) o.is_round;
+  is_round = subst (λ A. round c.service.programs c.depth ((world c es).logs Mid) A r ≡ Some o.made) (sym (served_same c (world c es) k.inv.codes k.inv.h k.inv.k k.inv.core)) o.is_round;
   held = λ j q n g h. many_holders c es k n.tier n.num (o.held.at j q n g h);
 }
   where
@@ -127,12 +127,12 @@ round_holders {B} c es e r v few laws l f = record {
     o : VerdictOk c (past c (world c es) k.inv.codes) r v
     o = verdict_before c es e r v few k.inv l f
 
-pub floor_holders : {B : Type 0} (c : Config B) (es : List TraceEvent) (place g n : ℕ) (p : Packet) → c.u < 128 → Laws c.service → slice_get (world c es).soup place ≡ Some p → p.message ≡ msgs.Settle g → 0 < n → n < g → ManyHolders c es (tier_of p.to) n
+pub floor_holders : {B : Type 0} (c : Config B) (es : List TraceEvent) (place g n : ℕ) (p : Packet) → c.u < 128 → Laws c.service.programs → slice_get (world c es).soup place ≡ Some p → p.message ≡ msgs.Settle g → 0 < n → n < g → ManyHolders c es (tier_of p.to) n
 floor_holders c es place g n p few laws e f a b =
     let k = held_now c es few laws in
     many_holders c es k (tier_of p.to) n ((sent c (world c es) place p (msgs.Settle g) k.inv e f).many n a b)
 
-pub settled_holders : {B : Type 0} (c : Config B) (es : List TraceEvent) (t : Tier) (p g n : ℕ) → c.u < 128 → Laws c.service → slice_get ((world c es).logs t) p ≡ Some (OfBack (Settle g)) → 0 < n → n < g → ManyHolders c es t n
+pub settled_holders : {B : Type 0} (c : Config B) (es : List TraceEvent) (t : Tier) (p g n : ℕ) → c.u < 128 → Laws c.service.programs → slice_get ((world c es).logs t) p ≡ Some (OfBack (Settle g)) → 0 < n → n < g → ManyHolders c es t n
 settled_holders {B} c es t p g n few laws e a b =
     let k = held_now c es few laws in
     many_holders c es k t n ((settled_floor c (world c es) t p g k.inv e).many n a b)

@@ -126,7 +126,7 @@ settled_in {B} m T es store ends k s = record {
         let w = wants_asked m T es k a.0 a.1.want (acts_want T.next (wants m.programs T es) ends a.0 a.1 a.2).0 in
         subst (λ z. IsAsked p.client z) (sym q.1) (subst (λ z. IsAsked z a.1.want.seq) (sym q.0) w)
 
-pub after_in : {B : Type 0} (m : Service B) (D : ℕ) (L : List AnyValue) (A : Codes) (r : ℕ) (T : Tables) → Laws m → after m.programs D L A r ≡ Some T → TablesIn T
+pub after_in : {B : Type 0} (m : Service B) (D : ℕ) (L : List AnyValue) (A : Codes) (r : ℕ) (T : Tables) → Laws m.programs → after m.programs D L A r ≡ Some T → TablesIn T
 after_in m D L A zero T laws e =
     let s : tables0 D ≡ T = cc in
     subst TablesIn s (record {
@@ -163,7 +163,7 @@ after_in {B} m D L A (suc r) T laws e = subst TablesIn same (next (after_in m D 
         subst (λ (z : Tables × List Want). TablesIn (settled z.0 z.1 (finish m.programs q.0.job order q.0.tables.store))) (λ i. (sym parts.is_tables i, sym parts.is_wants i))
         (settled_in m p.0 parts.batch (finish m.programs q.0.job order q.0.tables.store).store (finish m.programs q.0.job order q.0.tables.store).ends before (laws.stores q.0.job order q.0.tables.store made.job c.0 made.store))
 
-pub round_in : {B : Type 0} (m : Service B) (D : ℕ) (L : List AnyValue) (A : Codes) (r : ℕ) (R : Round) → Laws m → round m.programs D L A r ≡ Some R → RoundIn R
+pub round_in : {B : Type 0} (m : Service B) (D : ℕ) (L : List AnyValue) (A : Codes) (r : ℕ) (R : Round) → Laws m.programs → round m.programs D L A r ≡ Some R → RoundIn R
 round_in m D L A r R laws e =
     let p = then_parts (after m.programs D L A r) (round_at m.programs L A r) R e in
     round_at_in m L A r p.0 R (after_in m D L A r p.0 laws p.1) p.2

@@ -347,7 +347,7 @@ own_steps {B} m h k who text j x l e f own = go (get_cases h k j x f)
 -- BEFORE A LATER START
 
 -- the reply that a client took stands before the start of what was submitted later
-pub replied_before : {B : Type 0} (c : Config B) (es fs : List TraceEvent) (k i n : ℕ) (e : Entry) (who : ReqId) (body : List ℕ) → c.u < 128 → Laws c.service → slice_get (world c es).told k ≡ Some e → ((text : List ℕ) → WasSubmitted (world c es) who text → ⊥)
+pub replied_before : {B : Type 0} (c : Config B) (es fs : List TraceEvent) (k i n : ℕ) (e : Entry) (who : ReqId) (body : List ℕ) → c.u < 128 → Laws c.service.programs → slice_get (world c es).told k ≡ Some e → ((text : List ℕ) → WasSubmitted (world c es) who text → ⊥)
     → slice_get (world c (es ++ fs)).hist i ≡ Some (Start who n, body) → (j : ℕ) × RepliesAt c (world c (es ++ fs)) j (who_of e) e.body × (j < i)
 replied_before {B} c es fs k i n e who body few laws told new at =
     let now : WorldOk c (world c es) = world_ok c es few laws in
@@ -355,7 +355,7 @@ replied_before {B} c es fs k i n e who body few laws told new at =
     (r.0, r.1, omega (arith, r.2, starts_later c es fs i n who body few laws at new))
 
 -- and so does each step of its request
-pub finished_before : {B : Type 0} (c : Config B) (es fs : List TraceEvent) (k i j n : ℕ) (e : Entry) (who : ReqId) (body : List ℕ) (x : HistoryStep) → c.u < 128 → Laws c.service → slice_get (world c es).told k ≡ Some e → ((text : List ℕ) → WasSubmitted (world c es) who text → ⊥)
+pub finished_before : {B : Type 0} (c : Config B) (es fs : List TraceEvent) (k i j n : ℕ) (e : Entry) (who : ReqId) (body : List ℕ) (x : HistoryStep) → c.u < 128 → Laws c.service.programs → slice_get (world c es).told k ≡ Some e → ((text : List ℕ) → WasSubmitted (world c es) who text → ⊥)
     → slice_get (world c (es ++ fs)).hist i ≡ Some (Start who n, body) → slice_get (world c (es ++ fs)).hist j ≡ Some x → IsOf (who_of e) x.0 → j < i
 finished_before {B} c es fs k i j n e who body x few laws told new at is own =
     let front : IsFront (world c es).hist (world c (es ++ fs)).hist = (goes_on c es fs).hist in

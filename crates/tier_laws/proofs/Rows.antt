@@ -10,7 +10,7 @@ use Rattle.log_model.specs.declared.fact.Fact.{Fact as LogFact}
 use Rattle.log_values.specs.declared.any_value.AnyValue.{AnyValue}
 use Rattle.log_values.specs.declared.entry.Entry.{Entry}
 use Rattle.round_model.specs.After.{batch_at, verdict_at}
-use Rattle.round_model.specs.Answers.{Code, Noted, code_of, is_noted}
+use Rattle.tier_laws.proofs.Codes.{Code, Noted, code_of, is_noted}
 use Rattle.round_model.specs.Lists.{put_at, and_then, is_some}
 use Rattle.round_model.specs.Service.{Service}
 use Rattle.round_model.specs.Tables.{last_of, kept_of, pending_of, job_of, wants}
@@ -88,9 +88,9 @@ takes_ok {B} c P h soup x σ noted t n code k s ok = plain c P h soup x σ [] (t
     one zero q e = let f : record { tier = t; num = n; code = code } ≡ q = cc in subst (λ (z : Code). P.server.served z.tier z.num ≡ Some z.code) f s
     one (suc i) q e = absurd (cc)
 
-    later : (Q : Past B) → Grows P Q → Known c Q → Q.codes x ≡ P.codes x ++ record { tier = t; num = n; code = code } ∷ [] → ((i : ℕ) (r : Vote) → slice_get [] i ≡ Some r → DidRun Q r) → Later c Q x (takes_answer c.u x σ noted t n code)
+    later : (Q : Past B) → Grows P Q → Known c Q → Q.codes MidTier x ≡ P.codes MidTier x ++ record { tier = t; num = n; code = code } ∷ [] → ((i : ℕ) (r : Vote) → slice_get [] i ≡ Some r → DidRun Q r) → Later c Q x (takes_answer c.u x σ noted t n code)
     later Q g kn e rs =
-        let mine : holds Q t n x ≡ true = ap (λ z. is_some (code_of z t n)) e ∙ code_of-push (P.codes x) t n code in
+        let mine : holds Q t n x ≡ true = ap (λ z. is_some (code_of z t n)) e ∙ code_of-push (P.codes MidTier x) t n code in
         let w : MidOther c (record { codes = P.codes; log = Q.log; server = Q.server; runs = Q.runs; submitted = Q.submitted }) x σ = other-more c P (record { codes = P.codes; log = Q.log; server = Q.server; runs = Q.runs; submitted = Q.submitted }) x σ (record { held = λ y t n f. f; log = g.log; kept = g.kept; runs = g.runs; submitted = g.submitted }) refl k.other in
         record {
           other = record { is_after = w.is_after; tables = w.tables; pending = w.pending; tally = w.tally; spec = w.spec; held = ap (λ z. z ++ record { tier = t; num = n; code = code } ∷ []) k.other.held ∙ sym e; noted = λ i q f. g.held q.from q.tier q.num (ok i q f) };
@@ -120,9 +120,9 @@ runs_ok : {B : Type 0} (c : Config B) (P : Past B) (h : ℕ → List (LogFact An
 runs_ok {B} c P h soup x σ r k from ok = plain c P h soup x σ (r.vote ∷ []) (runs c.u x σ r) k refl refl (none_each (2 * c.u + 1) (is x) (token_to x r.vote) (λ y. record { all = λ t. refl }))
     (λ i q e. absurd (cc)) (pushed (RunOk c P) [] r.vote (λ i w e. absurd (cc)) ok) later
   where
-    later : (Q : Past B) → Grows P Q → Known c Q → Q.codes x ≡ P.codes x ++ [] → ((i : ℕ) (w : Vote) → slice_get (r.vote ∷ []) i ≡ Some w → DidRun Q w) → Later c Q x (runs c.u x σ r)
+    later : (Q : Past B) → Grows P Q → Known c Q → Q.codes MidTier x ≡ P.codes MidTier x ++ [] → ((i : ℕ) (w : Vote) → slice_get (r.vote ∷ []) i ≡ Some w → DidRun Q w) → Later c Q x (runs c.u x σ r)
     later Q g kn e rs =
-        let o : MidOther c Q x σ = other-more c P Q x σ g (e ∙ append-nil (P.codes x)) k.other in
+        let o : MidOther c Q x σ = other-more c P Q x σ g (e ∙ append-nil (P.codes MidTier x)) k.other in
         let mine : DidRun Q r.vote = rs 0 r.vote refl in
         record {
           other = record {
@@ -154,7 +154,7 @@ ready_state : {B : Type 0} (c : Config B) (P : Past B) (h : ℕ → List (LogFac
 ready_state c P h soup x σ None k f = stays_ok c P h soup x σ k
 ready_state {B} c P h soup x σ (Some R) k f = plain c P h soup x σ [] (applies c.u c.service.programs x σ (Some R)) k refl refl (none_apply c.u x σ (Some R)) (λ i q e. absurd (cc)) (λ i r e. absurd (cc))
     (λ Q g kn e rs.
-    let o : MidOther c Q x σ = other-more c P Q x σ g (e ∙ append-nil (P.codes x)) k.other in
+    let o : MidOther c Q x σ = other-more c P Q x σ g (e ∙ append-nil (P.codes MidTier x)) k.other in
     let r = ready_later c Q x σ (Some R) kn o (record { at = λ p v f. g.log.at p v ((prefix c P h soup x σ k).at p v f) }) (λ S g. f ∙ g) in
     record { other = r.0; sends = r.1 })
 

@@ -1,49 +1,30 @@
 -- The packets of the logs among all packets.
-use Rattle.std.proofs.Common.{◌≡◌, ℕ, Bool, false, List, [], ◌∷◌, ◌++◌, refl, ap, ◌∙◌, zero, suc}
+use Rattle.std.proofs.Common.{◌≡◌, ℕ, Bool, true, false, List, [], ◌∷◌, ◌++◌, refl, ap, ◌∙◌, zero, suc}
 use Rattle.std.proofs.lemmas.Bool.{cond_both}
 use Rattle.aeg_base.specs.declared.names.Tier.{Tier}
-use Rattle.aeg_base.specs.declared.names.Tier.TheVariants.{Mid as MidTier, Inv, Pay}
 use Rattle.server_model.specs.Server.{same_tier}
 use Rattle.log_model.specs.declared.message.PaxMsg.{PaxMsg}
 use Rattle.log_model.specs.World.{Packet as LogPacket, packets_of}
 use Rattle.log_model.proofs.Basics.{Every}
 use Rattle.log_values.specs.declared.any_value.AnyValue.{AnyValue}
 use Rattle.round_model.specs.Lists.{each}
-use Rattle.tier_model.specs.Moves.{Packet, log_packets}
-use Rattle.run_model.specs.Runs.{log_soup}
+use Rattle.tier_model.specs.Moves.{node, Packet, log_packets}
+use Rattle.frames.specs.Headers.{end_index}
+use Rattle.frames.specs.declared.message.Msg.TheVariants as msgs
+use Rattle.aeg_base.specs.declared.names.End.{End}
+use Rattle.server_model.proofs.Tiers.{tier_same}
+use Rattle.run_model.specs.Runs.{is_in, log_part, log_soup}
 use Rattle.run_model.proofs.Soups.{log_soup-append}
 use Rattle.run_model.specs.World.{Config}
 use Rattle.tier_laws.proofs.Past.{Past, SentOk}
-
-abbrev pub mid_soup : List Packet → List (LogPacket AnyValue)
-mid_soup ks = log_soup MidTier ks
-
--- of a backend; the middle tier is none
-abbrev pub back_soup : Tier → List Packet → List (LogPacket AnyValue)
-back_soup MidTier ks = []
-back_soup Inv ks = log_soup Inv ks
-back_soup Pay ks = log_soup Pay ks
-
-pub mid_soup-append : (xs ys : List Packet) → mid_soup (xs ++ ys) ≡ mid_soup xs ++ mid_soup ys
-mid_soup-append xs ys = log_soup-append MidTier xs ys
-
-pub back_soup-append : (t : Tier) (xs ys : List Packet) → back_soup t (xs ++ ys) ≡ back_soup t xs ++ back_soup t ys
-back_soup-append MidTier xs ys = refl
-back_soup-append Inv xs ys = log_soup-append Inv xs ys
-back_soup-append Pay xs ys = log_soup-append Pay xs ys
 
 -- PACKETS BESIDE THE LOGS
 
 pub record NoLog (ks : List Packet) : Type 0 where
   pub all : (t : Tier) → log_soup t ks ≡ []
 
-pub no_mid : (ks : List Packet) → NoLog ks → mid_soup ks ≡ []
-no_mid ks n = n.all MidTier
-
-pub no_back : (ks : List Packet) → NoLog ks → (t : Tier) → back_soup t ks ≡ []
-no_back ks n MidTier = refl
-no_back ks n Inv = n.all Inv
-no_back ks n Pay = n.all Pay
+pub no_log : (ks : List Packet) → NoLog ks → (t : Tier) → log_soup t ks ≡ []
+no_log ks n t = n.all t
 
 pub none_nil : NoLog []
 none_nil = record { all = λ t. refl }
@@ -57,39 +38,19 @@ none_each (suc n) skip f k = none_append (each n skip f) _ (none_each n skip f k
 
 -- THE PACKETS OF A LOG
 
-pub mid_soup-log : (x : ℕ) (sends : List (ℕ × PaxMsg AnyValue)) → mid_soup (log_packets MidTier x sends) ≡ packets_of x sends
-mid_soup-log x [] = refl
-mid_soup-log x (s ∷ sends) = ap (λ z. record { from = x; to = s.0; msg = s.1 } ∷ z) (mid_soup-log x sends)
+own_cons : (t : Tier) (from to : End) (p : PaxMsg AnyValue) (ys : List (LogPacket AnyValue)) → is_in t from ≡ true
+    → log_part t from to (msgs.Log p) ++ ys ≡ record { from = end_index from; to = end_index to; msg = p } ∷ ys
+own_cons t from to p ys e = rw e refl
 
-pub back_soup-own : (t : Tier) (x : ℕ) (sends : List (ℕ × PaxMsg AnyValue)) → same_tier t MidTier ≡ false → back_soup t (log_packets t x sends) ≡ packets_of x sends
-back_soup-own MidTier x sends b = absurd (cc)
-back_soup-own Inv x [] b = refl
-back_soup-own Inv x (s ∷ sends) b = ap (λ z. record { from = x; to = s.0; msg = s.1 } ∷ z) (back_soup-own Inv x sends b)
-back_soup-own Pay x [] b = refl
-back_soup-own Pay x (s ∷ sends) b = ap (λ z. record { from = x; to = s.0; msg = s.1 } ∷ z) (back_soup-own Pay x sends b)
+pub log_soup-own : (t : Tier) (x : ℕ) (sends : List (ℕ × PaxMsg AnyValue)) → log_soup t (log_packets t x sends) ≡ packets_of x sends
+log_soup-own t x [] = refl
+log_soup-own t x (s ∷ sends) = own_cons t (node t x) (node t s.0) s.1 (log_soup t (log_packets t x sends)) (tier_same t) ∙ ap (λ z. record { from = x; to = s.0; msg = s.1 } ∷ z) (log_soup-own t x sends)
 
-log_soup-other : (v t : Tier) (x : ℕ) (sends : List (ℕ × PaxMsg AnyValue)) → same_tier t v ≡ false → log_soup v (log_packets t x sends) ≡ []
+-- another tier's
+pub log_soup-other : (v t : Tier) (x : ℕ) (sends : List (ℕ × PaxMsg AnyValue)) → same_tier t v ≡ false → log_soup v (log_packets t x sends) ≡ []
 log_soup-other v t x [] e = refl
 log_soup-other v t x (s ∷ sends) e = rw e (log_soup-other v t x sends e)
-
-pub back_soup-mid : (v : Tier) (x : ℕ) (sends : List (ℕ × PaxMsg AnyValue)) → back_soup v (log_packets MidTier x sends) ≡ []
-back_soup-mid MidTier x sends = refl
-back_soup-mid Inv x sends = log_soup-other Inv MidTier x sends refl
-back_soup-mid Pay x sends = log_soup-other Pay MidTier x sends refl
-
-pub mid_soup-back : (t : Tier) (x : ℕ) (sends : List (ℕ × PaxMsg AnyValue)) → same_tier t MidTier ≡ false → mid_soup (log_packets t x sends) ≡ []
-mid_soup-back t x sends b = log_soup-other MidTier t x sends b
-
-pub back_soup-other : (v t : Tier) (x : ℕ) (sends : List (ℕ × PaxMsg AnyValue)) → same_tier t v ≡ false → back_soup v (log_packets t x sends) ≡ []
-back_soup-other MidTier t x sends e = refl
-back_soup-other Inv t x sends e = log_soup-other Inv t x sends e
-back_soup-other Pay t x sends e = log_soup-other Pay t x sends e
 
 pub every-log : {B : Type 0} (c : Config B) (Q : Past B) (t : Tier) (x : ℕ) (sends : List (ℕ × PaxMsg AnyValue)) → Every (SentOk c Q) (log_packets t x sends)
 every-log c Q t x [] = tt
 every-log c Q t x (s ∷ sends) = (tt, every-log c Q t x sends)
-
-pub back_nil : (t : Tier) → back_soup t [] ≡ []
-back_nil MidTier = refl
-back_nil Inv = refl
-back_nil Pay = refl

@@ -26,7 +26,7 @@ use Rattle.log_values.specs.declared.mid_value.Verdict.TheVariants.{Commit, Seri
 use Rattle.frames.specs.declared.message.Msg.{Msg}
 use Rattle.frames.specs.declared.message.Msg.TheVariants as msgs
 use Rattle.round_model.specs.After.{Round, round, after}
-use Rattle.round_model.specs.Answers.{Code, code_of}
+use Rattle.tier_laws.proofs.Codes.{Code, code_of}
 use Rattle.round_model.specs.Tables.{Number, Want}
 use Rattle.round_model.specs.Verdicts.{Vote}
 use Rattle.run_model.specs.World.{Config, World}
@@ -43,7 +43,7 @@ use Rattle.tier_laws.proofs.Grow.{served_same}
 use Rattle.tier_laws.proofs.MidSteps.{values}
 use Rattle.tier_laws.proofs.Past.{BackOk, FloorOk, ManyHold, MidOk, RunOk, SentBy, SentOk, Past, VerdictBy, VerdictOk, holds}
 use Rattle.tier_laws.proofs.Shows.{Shown, shown}
-use Rattle.tier_laws.proofs.Soups.{mid_soup, back_soup}
+use Rattle.run_model.specs.Runs.{log_soup}
 use Rattle.tier_laws.proofs.Verdicts.{count-gap}
 use Rattle.tier_laws.proofs.Maps.{server, empty_server}
 use Rattle.tier_laws.proofs.NodeSteps.{disk_of}
@@ -89,34 +89,34 @@ sound_here c w MidTier p v i e = i.core.mid_log.sound p v e
 sound_here c w Inv p v i e = (i.core.back_log Inv).sound p v e
 sound_here c w Pay p v i e = (i.core.back_log Pay).sound p v e
 
-mid_learned : {B : Type 0} (c : Config B) (w : World B) (i : WorldOk c w) (x p : ℕ) (v : AnyValue) (m : Mode Mid) → x < 2 * c.u + 1 → MidMode c (past c w i.codes) i.h (mid_soup w.soup) x (w.mids x) m → MidLearned m p v → slice_get w.log p ≡ Some v
+mid_learned : {B : Type 0} (c : Config B) (w : World B) (i : WorldOk c w) (x p : ℕ) (v : AnyValue) (m : Mode Mid) → x < 2 * c.u + 1 → MidMode c (past c w i.codes) i.h (log_soup MidTier w.soup) x (w.nodes MidTier x) m → MidLearned m p v → slice_get (w.logs MidTier) p ≡ Some v
 mid_learned c w i x p v (Up σ) l k e = i.done.mid.at p v (i.core.mid_log.history.learned x l p v (rw (← k.log.learned) e))
 mid_learned c w i x p v Down l k e = absurd e
 mid_learned c w i x p v Gone l k e = absurd e
 
-back_learned : {B : Type 0} (c : Config B) (w : World B) (i : WorldOk c w) (t : Tier) (x p : ℕ) (v : AnyValue) (m : Mode (Back B)) → x < 2 * c.u + 1 → BackMode c (past c w i.codes) t (i.k t) (back_soup t w.soup) x (w.backs t x) m → BackLearned m p v → slice_get (w.logs t) p ≡ Some v
+back_learned : {B : Type 0} (c : Config B) (w : World B) (i : WorldOk c w) (t : Tier) (x p : ℕ) (v : AnyValue) (m : Mode (Back B)) → x < 2 * c.u + 1 → BackMode c (past c w i.codes) t (i.k t) (log_soup t w.soup) x (w.nodes t x) m → BackLearned m p v → slice_get (w.logs t) p ≡ Some v
 back_learned c w i t x p v (Up σ) l k e = (i.done.back t).at p v ((i.core.back_log t).history.learned x l p v (rw (← k.log.learned) e))
 back_learned c w i t x p v Down l k e = absurd e
 back_learned c w i t x p v Gone l k e = absurd e
 
 pub learned : {B : Type 0} (c : Config B) (w : World B) (t : Tier) (x p : ℕ) (v : AnyValue) → WorldOk c w → x < 2 * c.u + 1 → HasLearned w t x p v → slice_get (chosen_log w t) p ≡ Some v
-learned c w MidTier x p v i l e = mid_learned c w i x p v (w.mids x).mode l (i.core.mids x l) e
-learned c w Inv x p v i l e = back_learned c w i Inv x p v (w.backs Inv x).mode l (i.core.backs Inv x l) e
-learned c w Pay x p v i l e = back_learned c w i Pay x p v (w.backs Pay x).mode l (i.core.backs Pay x l) e
+learned c w MidTier x p v i l e = mid_learned c w i x p v (w.nodes MidTier x).mode l (i.core.mids x l) e
+learned c w Inv x p v i l e = back_learned c w i Inv x p v (w.nodes Inv x).mode l (i.core.backs Inv x l) e
+learned c w Pay x p v i l e = back_learned c w i Pay x p v (w.nodes Pay x).mode l (i.core.backs Pay x l) e
 
 -- a Learn tells what was chosen
-mid_told : {B : Type 0} (c : Config B) (w : World B) (place : ℕ) (from to : End) (p : ℕ) (v : AnyValue) → WorldOk c w → is_in MidTier from ≡ true → slice_get w.soup place ≡ Some (record { from = from; to = to; message = msgs.Log (Learn p v) }) → slice_get w.log p ≡ Some v
+mid_told : {B : Type 0} (c : Config B) (w : World B) (place : ℕ) (from to : End) (p : ℕ) (v : AnyValue) → WorldOk c w → is_in MidTier from ≡ true → slice_get w.soup place ≡ Some (record { from = from; to = to; message = msgs.Log (Learn p v) }) → slice_get (w.logs MidTier) p ≡ Some v
 mid_told c w place from to p v i b e =
     let q = log_place MidTier w.soup place from to (Learn p v) b e in
     let j : LogPacket AnyValue = record { from = end_index from; to = end_index to; msg = Learn p v } in
-    let right : PacketOk c.u i.h (mid_soup w.soup) j = every-get (PacketOk c.u i.h (mid_soup w.soup)) (mid_soup w.soup) q.0 j i.core.mid_log.history.packets q.1 in
+    let right : PacketOk c.u i.h (log_soup MidTier w.soup) j = every-get (PacketOk c.u i.h (log_soup MidTier w.soup)) (log_soup MidTier w.soup) q.0 j i.core.mid_log.history.packets q.1 in
     i.done.mid.at p v right
 
 back_told : {B : Type 0} (c : Config B) (w : World B) (t : Tier) (place : ℕ) (from to : End) (p : ℕ) (v : AnyValue) → WorldOk c w → same_tier t MidTier ≡ false → is_in t from ≡ true → slice_get w.soup place ≡ Some (record { from = from; to = to; message = msgs.Log (Learn p v) }) → slice_get (w.logs t) p ≡ Some v
 back_told c w t place from to p v i n b e =
     let q = back_place t w.soup place from to (Learn p v) n b e in
     let j : LogPacket AnyValue = record { from = end_index from; to = end_index to; msg = Learn p v } in
-    let right : PacketOk c.u (i.k t) (back_soup t w.soup) j = every-get (PacketOk c.u (i.k t) (back_soup t w.soup)) (back_soup t w.soup) q.0 j (i.core.back_log t).history.packets q.1 in
+    let right : PacketOk c.u (i.k t) (log_soup t w.soup) j = every-get (PacketOk c.u (i.k t) (log_soup t w.soup)) (log_soup t w.soup) q.0 j (i.core.back_log t).history.packets q.1 in
     (i.done.back t).at p v right
 
 pub learn_told : {B : Type 0} (c : Config B) (w : World B) (t : Tier) (place : ℕ) (k : Packet) (p : ℕ) (v : AnyValue) → WorldOk c w → is_in t k.from ≡ true → slice_get w.soup place ≡ Some k → k.message ≡ msgs.Log (Learn p v) → slice_get (chosen_log w t) p ≡ Some v
@@ -131,45 +131,45 @@ learn_told {B} c w t place k p v i b e f = by t b
     by Pay b = back_told c w Pay place k.from k.to p v i refl b g
 
 -- what a disk has learned was chosen
-mid_disk : {B : Type 0} (c : Config B) (w : World B) (i : WorldOk c w) (x : ℕ) (records : List (List Fact)) (m : Mode Mid) → x < 2 * c.u + 1 → MidMode c (past c w i.codes) i.h (mid_soup w.soup) x (w.mids x) m → StandsFor (w.mids x) m records → MoreLog (learned_from c.u records) w.log
-mid_disk c w i x R m l = disk_of (λ n m. MidMode c (past c w i.codes) i.h (mid_soup w.soup) x n m) (λ Q. MoreLog (learned_from c.u Q) w.log) (w.mids x) m R (λ σ k. own k.is_log) (λ k. own k.is_log)
-    (λ k n Q e. let q = k.pending n Q e in subst (λ z. MoreLog (learned_in z) w.log) (sym q.is_log) (turn_more c.u i.h (mid_soup w.soup) w.log x q.turn q.ok i.done.mid))
+mid_disk : {B : Type 0} (c : Config B) (w : World B) (i : WorldOk c w) (x : ℕ) (records : List (List Fact)) (m : Mode Mid) → x < 2 * c.u + 1 → MidMode c (past c w i.codes) i.h (log_soup MidTier w.soup) x (w.nodes MidTier x) m → StandsFor (w.nodes MidTier x) m records → MoreLog (learned_from c.u records) (w.logs MidTier)
+mid_disk c w i x R m l = disk_of (λ n m. MidMode c (past c w i.codes) i.h (log_soup MidTier w.soup) x n m) (λ Q. MoreLog (learned_from c.u Q) (w.logs MidTier)) (w.nodes MidTier x) m R (λ σ k. own k.is_log) (λ k. own k.is_log)
+    (λ k n Q e. let q = k.pending n Q e in subst (λ z. MoreLog (learned_in z) (w.logs MidTier)) (sym q.is_log) (turn_more c.u i.h (log_soup MidTier w.soup) (w.logs MidTier) x q.turn q.ok i.done.mid))
   where
-    own : log_facts (newest (w.mids x).records) ≡ i.h x → MoreLog (learned_from c.u (w.mids x).records) w.log
-    own e = subst (λ z. MoreLog (learned_in z) w.log) (sym e) (learned_more c.u i.h (mid_soup w.soup) w.log x l i.core.mid_log.history i.done.mid)
+    own : log_facts (newest (w.nodes MidTier x).records) ≡ i.h x → MoreLog (learned_from c.u (w.nodes MidTier x).records) (w.logs MidTier)
+    own e = subst (λ z. MoreLog (learned_in z) (w.logs MidTier)) (sym e) (learned_more c.u i.h (log_soup MidTier w.soup) (w.logs MidTier) x l i.core.mid_log.history i.done.mid)
 
-back_disk : {B : Type 0} (c : Config B) (w : World B) (i : WorldOk c w) (t : Tier) (x : ℕ) (records : List (List Fact)) (m : Mode (Back B)) → x < 2 * c.u + 1 → BackMode c (past c w i.codes) t (i.k t) (back_soup t w.soup) x (w.backs t x) m → StandsFor (w.backs t x) m records → MoreLog (learned_from c.u records) (w.logs t)
-back_disk c w i t x R m l = disk_of (λ n m. BackMode c (past c w i.codes) t (i.k t) (back_soup t w.soup) x n m) (λ Q. MoreLog (learned_from c.u Q) (w.logs t)) (w.backs t x) m R (λ σ k. own k.is_log) (λ k. own k.is_log)
-    (λ k n Q e. let q = k.pending n Q e in subst (λ z. MoreLog (learned_in z) (w.logs t)) (sym q.is_log) (turn_more c.u (i.k t) (back_soup t w.soup) (w.logs t) x q.turn q.ok (i.done.back t)))
+back_disk : {B : Type 0} (c : Config B) (w : World B) (i : WorldOk c w) (t : Tier) (x : ℕ) (records : List (List Fact)) (m : Mode (Back B)) → x < 2 * c.u + 1 → BackMode c (past c w i.codes) t (i.k t) (log_soup t w.soup) x (w.nodes t x) m → StandsFor (w.nodes t x) m records → MoreLog (learned_from c.u records) (w.logs t)
+back_disk c w i t x R m l = disk_of (λ n m. BackMode c (past c w i.codes) t (i.k t) (log_soup t w.soup) x n m) (λ Q. MoreLog (learned_from c.u Q) (w.logs t)) (w.nodes t x) m R (λ σ k. own k.is_log) (λ k. own k.is_log)
+    (λ k n Q e. let q = k.pending n Q e in subst (λ z. MoreLog (learned_in z) (w.logs t)) (sym q.is_log) (turn_more c.u (i.k t) (log_soup t w.soup) (w.logs t) x q.turn q.ok (i.done.back t)))
   where
-    own : log_facts (newest (w.backs t x).records) ≡ i.k t x → MoreLog (learned_from c.u (w.backs t x).records) (w.logs t)
-    own e = subst (λ z. MoreLog (learned_in z) (w.logs t)) (sym e) (learned_more c.u (i.k t) (back_soup t w.soup) (w.logs t) x l (i.core.back_log t).history (i.done.back t))
+    own : log_facts (newest (w.nodes t x).records) ≡ i.k t x → MoreLog (learned_from c.u (w.nodes t x).records) (w.logs t)
+    own e = subst (λ z. MoreLog (learned_in z) (w.logs t)) (sym e) (learned_more c.u (i.k t) (log_soup t w.soup) (w.logs t) x l (i.core.back_log t).history (i.done.back t))
 
 pub disk_learned : {B : Type 0} (c : Config B) (w : World B) (t : Tier) (x p : ℕ) (v : AnyValue) (records : List (List Fact)) → WorldOk c w → x < 2 * c.u + 1 → DiskStandsFor w t x records → slice_get (learned_from c.u records) p ≡ Some v → slice_get (chosen_log w t) p ≡ Some v
-disk_learned c w MidTier x p v R i l s e = (mid_disk c w i x R (w.mids x).mode l (i.core.mids x l) s).at p v e
-disk_learned c w Inv x p v R i l s e = (back_disk c w i Inv x R (w.backs Inv x).mode l (i.core.backs Inv x l) s).at p v e
-disk_learned c w Pay x p v R i l s e = (back_disk c w i Pay x R (w.backs Pay x).mode l (i.core.backs Pay x l) s).at p v e
+disk_learned c w MidTier x p v R i l s e = (mid_disk c w i x R (w.nodes MidTier x).mode l (i.core.mids x l) s).at p v e
+disk_learned c w Inv x p v R i l s e = (back_disk c w i Inv x R (w.nodes Inv x).mode l (i.core.backs Inv x l) s).at p v e
+disk_learned c w Pay x p v R i l s e = (back_disk c w i Pay x R (w.nodes Pay x).mode l (i.core.backs Pay x l) s).at p v e
 
 -- STATES
 
 served_now : {B : Type 0} (c : Config B) (w : World B) (i : WorldOk c w) → served_of c w ≡ (server c.service w.hist).served
 served_now c w i = served_same c w i.codes i.h i.k i.core
 
-mid_applied : {B : Type 0} (c : Config B) (w : World B) (i : WorldOk c w) (x : ℕ) (m : Mode Mid) → MidMode c (past c w i.codes) i.h (mid_soup w.soup) x (w.mids x) m → MidApplied c w m
-mid_applied c w i x (Up σ) k = subst (λ A. after c.service.programs c.depth w.log A σ.applied ≡ Some σ.tables) (sym (served_now c w i)) k.other.is_after
+mid_applied : {B : Type 0} (c : Config B) (w : World B) (i : WorldOk c w) (x : ℕ) (m : Mode Mid) → MidMode c (past c w i.codes) i.h (log_soup MidTier w.soup) x (w.nodes MidTier x) m → MidApplied c w m
+mid_applied c w i x (Up σ) k = subst (λ A. after c.service.programs c.depth (w.logs MidTier) A σ.applied ≡ Some σ.tables) (sym (served_now c w i)) k.other.is_after
 mid_applied c w i x Down k = tt
 mid_applied c w i x Gone k = tt
 
-pub applied : {B : Type 0} (c : Config B) (w : World B) (x : ℕ) → WorldOk c w → x < 2 * c.u + 1 → MidApplied c w (w.mids x).mode
-applied c w x i l = mid_applied c w i x (w.mids x).mode (i.core.mids x l)
+pub applied : {B : Type 0} (c : Config B) (w : World B) (x : ℕ) → WorldOk c w → x < 2 * c.u + 1 → MidApplied c w (w.nodes MidTier x).mode
+applied c w x i l = mid_applied c w i x (w.nodes MidTier x).mode (i.core.mids x l)
 
-back_applied : {B : Type 0} (c : Config B) (w : World B) (i : WorldOk c w) (t : Tier) (x : ℕ) (m : Mode (Back B)) → BackMode c (past c w i.codes) t (i.k t) (back_soup t w.soup) x (w.backs t x) m → BackServes c t m
+back_applied : {B : Type 0} (c : Config B) (w : World B) (i : WorldOk c w) (t : Tier) (x : ℕ) (m : Mode (Back B)) → BackMode c (past c w i.codes) t (i.k t) (log_soup t w.soup) x (w.nodes t x) m → BackServes c t m
 back_applied c w i t x (Up σ) k = record { state = k.tied.state; codes = k.tied.codes; kept = k.tied.kept; above = k.tied.above; below = k.tied.floor; floor = k.tied.greatest }
 back_applied c w i t x Down k = tt
 back_applied c w i t x Gone k = tt
 
-pub served_state : {B : Type 0} (c : Config B) (w : World B) (t : Tier) (x : ℕ) → WorldOk c w → x < 2 * c.u + 1 → BackServes c t (w.backs t x).mode
-served_state c w t x i l = back_applied c w i t x (w.backs t x).mode (i.core.backs t x l)
+pub served_state : {B : Type 0} (c : Config B) (w : World B) (t : Tier) (x : ℕ) → WorldOk c w → x < 2 * c.u + 1 → BackServes c t (w.nodes t x).mode
+served_state c w t x i l = back_applied c w i t x (w.nodes t x).mode (i.core.backs t x l)
 
 -- VERDICTS HAVE CAUSES
 
@@ -197,7 +197,7 @@ by_caused c w codes r R Serial inside k =
 pub at_round : {B : Type 0} (c : Config B) (P : Past B) (r : ℕ) (v : Verdict) → MidOk c P (2 * r + 1) (OfMid (Decided v)) → VerdictOk c P r v
 at_round c P r v k = subst (λ z. VerdictOk c P z v) (half-odd r) k.1
 
-pub caused : {B : Type 0} (c : Config B) (w : World B) (r : ℕ) (v : Verdict) → WorldOk c w → slice_get w.log (2 * r + 1) ≡ Some (OfMid (Decided v)) → Caused c w r v
+pub caused : {B : Type 0} (c : Config B) (w : World B) (r : ℕ) (v : Verdict) → WorldOk c w → slice_get (w.logs MidTier) (2 * r + 1) ≡ Some (OfMid (Decided v)) → Caused c w r v
 caused c w r v i e =
     let k : VerdictOk c (past c w i.codes) r v = at_round c (past c w i.codes) r v (values c w i.codes i.h i.k i.core (2 * r + 1) (OfMid (Decided v)) e) in
     by_caused c w i.codes r k.made v (λ a d. (i.core.runs d.0 a d.1).inside) k.by
@@ -205,7 +205,7 @@ caused c w r v i e =
 pub is_run : {B : Type 0} (c : Config B) (w : World B) (v : Vote) → WorldOk c w → DidRun w v → IsRun c w v
 is_run {B} c w v i d =
     let k : RunOk c (past c w i.codes) v = i.core.runs d.0 v d.1 in
-    record { inside = k.inside; made = k.made; is_round = subst (λ A. round c.service.programs c.depth w.log A v.round ≡ Some k.made) (sym (served_now c w i)) k.is_round; is_ordered = k.is_ordered; is_token = k.is_token }
+    record { inside = k.inside; made = k.made; is_round = subst (λ A. round c.service.programs c.depth (w.logs MidTier) A v.round ≡ Some k.made) (sym (served_now c w i)) k.is_round; is_ordered = k.is_ordered; is_token = k.is_token }
 
 -- DURABILITY
 
@@ -215,14 +215,14 @@ code_right c w i x t n code e =
     let s = i.core.right x q.0 q.1 q.2 in
     subst (λ z. (server c.service w.hist).served z n ≡ Some code) q.3 (subst (λ z. (server c.service w.hist).served q.1.tier z ≡ Some code) q.4 (s ∙ ap Some q.5))
 
-pub held_for : {B : Type 0} (c : Config B) (w : World B) (i : WorldOk c w) (x : ℕ) (t : Tier) (n code : ℕ) (m : Mode Mid) → MidMode c (past c w i.codes) i.h (mid_soup w.soup) x (w.mids x) m → code_of (i.codes x) t n ≡ Some code
-    → (R : List (List Fact)) → StandsFor (w.mids x) m R → code_of (held_in (newest R)) t n ≡ Some code
-held_for c w i x t n code m k e R s = disk_of (λ n m. MidMode c (past c w i.codes) i.h (mid_soup w.soup) x n m) (λ Q. code_of (held_in (newest Q)) t n ≡ Some code) (w.mids x) m R (λ σ k. ap (λ z. code_of z t n) k.is_held ∙ e) (λ k. ap (λ z. code_of z t n) k.is_held ∙ e)
+pub held_for : {B : Type 0} (c : Config B) (w : World B) (i : WorldOk c w) (x : ℕ) (t : Tier) (n code : ℕ) (m : Mode Mid) → MidMode c (past c w i.codes) i.h (log_soup MidTier w.soup) x (w.nodes MidTier x) m → code_of (i.codes x) t n ≡ Some code
+    → (R : List (List Fact)) → StandsFor (w.nodes MidTier x) m R → code_of (held_in (newest R)) t n ≡ Some code
+held_for c w i x t n code m k e R s = disk_of (λ n m. MidMode c (past c w i.codes) i.h (log_soup MidTier w.soup) x n m) (λ Q. code_of (held_in (newest Q)) t n ≡ Some code) (w.nodes MidTier x) m R (λ σ k. ap (λ z. code_of z t n) k.is_held ∙ e) (λ k. ap (λ z. code_of z t n) k.is_held ∙ e)
     (λ k p Q f. let q = k.pending p Q f in ap (λ z. code_of z t n) q.is_held ∙ code_of-left (i.codes x) q.codes t n code e) k s
 
 pub durable : {B : Type 0} (c : Config B) (w : World B) (t : Tier) (n : ℕ) (i : WorldOk c w) → ManyHold c (past c w i.codes) t n → FewGone c w → Durable c w t n
 durable {B} c w t n i many few =
-    let z = count-gap (2 * c.u + 1) (λ x. is_gone (w.mids x).mode) (holds (past c w i.codes) t n) (omega arith) in
+    let z = count-gap (2 * c.u + 1) (λ x. is_gone (w.nodes MidTier x).mode) (holds (past c w i.codes) t n) (omega arith) in
     let a = some_of (code_of (i.codes z.0) t n) z.2 in
     record {
       node = z.0;
@@ -230,7 +230,7 @@ durable {B} c w t n i many few =
       here = z.3;
       code = a.0;
       is_served = has_answer c w t n a.0 i (code_right c w i z.0 t n a.0 a.1);
-      is_held = held_for c w i z.0 t n a.0 (w.mids z.0).mode (i.core.mids z.0 z.1) a.1;
+      is_held = held_for c w i z.0 t n a.0 (w.nodes MidTier z.0).mode (i.core.mids z.0 z.1) a.1;
     }
 
 -- each call below a floor that was sent is durable
@@ -241,18 +241,18 @@ floor_durable c w place k g n i e f a b few = durable c w (tier_of k.to) n i ((s
 pub settled_floor : {B : Type 0} (c : Config B) (w : World B) (t : Tier) (p g : ℕ) (i : WorldOk c w) → slice_get (w.logs t) p ≡ Some (OfBack (Settle g)) → FloorOk c (past c w i.codes) t g
 settled_floor {B} c w t p g i e =
     let part = i.core.back_log t in
-    meets_good c.u (i.k t) (back_soup t w.soup) (w.logs t) (BackOk c (past c w i.codes) t) p (OfBack (Settle g)) part (part.sound p (OfBack (Settle g)) e)
+    meets_good c.u (i.k t) (log_soup t w.soup) (w.logs t) (BackOk c (past c w i.codes) t) p (OfBack (Settle g)) part (part.sound p (OfBack (Settle g)) e)
 
 -- each call below such a floor is durable
 pub settled_durable : {B : Type 0} (c : Config B) (w : World B) (t : Tier) (p g n : ℕ) → WorldOk c w → slice_get (w.logs t) p ≡ Some (OfBack (Settle g)) → 0 < n → n < g → FewGone c w → Durable c w t n
 settled_durable c w t p g n i e a b few = durable c w t n i ((settled_floor c w t p g i e).many n a b) few
 
 -- each call whose answer a decided round used is durable
-pub used_durable : {B : Type 0} (c : Config B) (w : World B) (r : ℕ) (v : Verdict) (R : Round) (j : ℕ) (q : Want) (k : Number) → WorldOk c w → slice_get w.log (2 * r + 1) ≡ Some (OfMid (Decided v)) → round c.service.programs c.depth w.log (served_of c w) r ≡ Some R
+pub used_durable : {B : Type 0} (c : Config B) (w : World B) (r : ℕ) (v : Verdict) (R : Round) (j : ℕ) (q : Want) (k : Number) → WorldOk c w → slice_get (w.logs MidTier) (2 * r + 1) ≡ Some (OfMid (Decided v)) → round c.service.programs c.depth (w.logs MidTier) (served_of c w) r ≡ Some R
     → slice_get R.wants j ≡ Some q → q.call ≡ Some k → FewGone c w → Durable c w k.tier k.num
 used_durable {B} c w r v R j q k i e f g h few =
     let o : VerdictOk c (past c w i.codes) r v = at_round c (past c w i.codes) r v (values c w i.codes i.h i.k i.core (2 * r + 1) (OfMid (Decided v)) e) in
     let is = o.is_round in
-    let there : round c.service.programs c.depth w.log (server c.service w.hist).served r ≡ Some R = subst (λ A. round c.service.programs c.depth w.log A r ≡ Some R) (served_now c w i) f in
+    let there : round c.service.programs c.depth (w.logs MidTier) (server c.service w.hist).served r ≡ Some R = subst (λ A. round c.service.programs c.depth (w.logs MidTier) A r ≡ Some R) (served_now c w i) f in
     let same : o.made ≡ R = cc in
     durable c w k.tier k.num i (o.held.at j q k (subst (λ (z : Round). slice_get z.wants j ≡ Some q) (sym same) g) h) few

@@ -10,7 +10,7 @@ use Rattle.log_model.specs.Log.{count_below}
 use Rattle.log_values.specs.declared.mid_value.Verdict.{Verdict}
 use Rattle.log_values.specs.declared.mid_value.Verdict.TheVariants.{Commit, Serial}
 use Rattle.round_model.specs.After.{after, batch_at, round, round_at}
-use Rattle.round_model.specs.Answers.{Noted, code_of, is_noted, many_hold}
+use Rattle.tier_laws.proofs.Codes.{Noted, code_of, is_noted, many_hold}
 use Rattle.round_model.specs.Lists.{and_then, is_some, lowest}
 use Rattle.round_model.specs.Tables.{Codes as Answers, Number, Want, answered, as_seg, job_of, wants}
 use Rattle.round_model.specs.Verdicts.{Vote, has_token, is_backed, same_token, verdict, verdict_by, vote_of}
@@ -202,7 +202,7 @@ job_answers A (v ∷ ws) J i w k e f g = go i f (λ i f. job_answers A ws q.0 i 
     go zero f r = let s : v ≡ w = cc in answered_some A v v.call p.0 k p.1 (ap (λ (z : Want). z.call) s ∙ g)
     go (suc i) f r = r i f
 
-pub run_right : {B : Type 0} (c : Config B) (P : Past B) (x : ℕ) (σ : Mid) (schedule : List ℕ) (v : Running) → x < 2 * c.u + 1 → Laws c.service → Known c P → MidOther c P x σ → MoreLog σ.log.learned P.log → to_run c.u c.service.programs x σ schedule ≡ Some v → RunOk c P v.vote
+pub run_right : {B : Type 0} (c : Config B) (P : Past B) (x : ℕ) (σ : Mid) (schedule : List ℕ) (v : Running) → x < 2 * c.u + 1 → Laws c.service.programs → Known c P → MidOther c P x σ → MoreLog σ.log.learned P.log → to_run c.u c.service.programs x σ schedule ≡ Some v → RunOk c P v.vote
 run_right {B} c P x σ schedule v inside laws k o pre e = go (is_some σ.spec) e
   where
     made : and_then (batch_at σ.log.learned σ.applied) (λ es. and_then (job_of (usable_here c.u x σ) (wants c.service.programs σ.tables es)) (λ J. Some (running c.service.programs x σ (run_job c.service.programs.begins J σ.tables.store schedule)))) ≡ Some v → RunOk c P v.vote

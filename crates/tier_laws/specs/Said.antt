@@ -30,7 +30,7 @@ use Rattle.round_model.specs.Service.{Service, serial, serial_end, finish, is_or
 use Rattle.round_model.specs.Tables.{Number, Want}
 use Rattle.round_model.specs.After.{Round, round, after}
 use Rattle.round_model.specs.Verdicts.{Vote}
-use Rattle.round_model.specs.Answers.{code_of}
+use Rattle.tier_laws.proofs.Codes.{code_of}
 use Rattle.tier_model.specs.Moves.{log_facts, held_in}
 use Rattle.tier_model.specs.Mid.{Mid}
 use Rattle.tier_model.specs.Back.{Back}
@@ -99,7 +99,7 @@ IsFront {A} xs ys = (rest : List A) × (ys ≡ xs ++ rest)
 -- LOGS
 
 abbrev pub chosen_log : {B : Type 0} → World B → Tier → List AnyValue
-chosen_log w InMid = w.log
+chosen_log w InMid = (w.logs InMid)
 chosen_log w Inv = w.logs Inv
 chosen_log w Pay = w.logs Pay
 
@@ -115,9 +115,9 @@ BackLearned Gone p v = ⊥
 
 -- the node x of the tier is up and has learned the value at p
 abbrev pub HasLearned : {B : Type 0} → World B → Tier → ℕ → ℕ → AnyValue → Type 0
-HasLearned w InMid x p v = MidLearned (w.mids x).mode p v
-HasLearned w Inv x p v = BackLearned (w.backs Inv x).mode p v
-HasLearned w Pay x p v = BackLearned (w.backs Pay x).mode p v
+HasLearned w InMid x p v = MidLearned (w.nodes InMid x).mode p v
+HasLearned w Inv x p v = BackLearned (w.nodes Inv x).mode p v
+HasLearned w Pay x p v = BackLearned (w.nodes Pay x).mode p v
 
 -- the disk of a node that isn't gone may stand for these records
 abbrev pub StandsFor : {S : Type 0} → Node S Fact → Mode S → List (List Fact) → Type 0
@@ -126,9 +126,9 @@ StandsFor node Down records = (node.records ≡ records) ⊎ ((k : ℕ) × (slic
 StandsFor node Gone records = ⊥
 
 abbrev pub DiskStandsFor : {B : Type 0} → World B → Tier → ℕ → List (List Fact) → Type 0
-DiskStandsFor w InMid x records = StandsFor (w.mids x) (w.mids x).mode records
-DiskStandsFor w Inv x records = StandsFor (w.backs Inv x) (w.backs Inv x).mode records
-DiskStandsFor w Pay x records = StandsFor (w.backs Pay x) (w.backs Pay x).mode records
+DiskStandsFor w InMid x records = StandsFor (w.nodes InMid x) (w.nodes InMid x).mode records
+DiskStandsFor w Inv x records = StandsFor (w.nodes Inv x) (w.nodes Inv x).mode records
+DiskStandsFor w Pay x records = StandsFor (w.nodes Pay x) (w.nodes Pay x).mode records
 
 -- what a restart learns from these records
 abbrev pub learned_from : ℕ → List (List Fact) → List AnyValue
@@ -138,7 +138,7 @@ learned_from u records = (recover u (log_facts (newest records))).learned
 
 -- a middle node that is up has the store and tables of its applied rounds
 abbrev pub MidApplied : {B : Type 0} → Config B → World B → Mode Mid → Type 0
-MidApplied c w (Up σ) = after c.service.programs c.depth w.log (served_of c w) σ.applied ≡ Some σ.tables
+MidApplied c w (Up σ) = after c.service.programs c.depth (w.logs InMid) (served_of c w) σ.applied ≡ Some σ.tables
 MidApplied c w Down = Unit {0}
 MidApplied c w Gone = Unit {0}
 
@@ -167,7 +167,7 @@ DidRun w v = (i : ℕ) × (slice_get w.runs i ≡ Some v)
 pub record IsRun {B : Type 0} (c : Config B) (w : World B) (v : Vote) : Type 0 where
   pub inside : v.from < 2 * c.u + 1
   pub made : Round
-  pub is_round : round c.service.programs c.depth w.log (served_of c w) v.round ≡ Some made
+  pub is_round : round c.service.programs c.depth (w.logs InMid) (served_of c w) v.round ≡ Some made
   pub is_ordered : is_order (length made.job) v.order ≡ true
   pub is_token : v.token ≡ token_of c.service.programs made.tables.store (finish c.service.programs made.job v.order made.tables.store)
 
@@ -189,21 +189,21 @@ is_gone Gone = true
 
 -- at most u of the middle nodes are gone
 abbrev pub FewGone : {B : Type 0} → Config B → World B → Type 0
-FewGone c w = count_below (2 * c.u + 1) (λ x. is_gone (w.mids x).mode) ≤ c.u
+FewGone c w = count_below (2 * c.u + 1) (λ x. is_gone (w.nodes InMid x).mode) ≤ c.u
 
 -- a middle node that isn't gone has the answer in each list that its disk stands for
 pub record Durable {B : Type 0} (c : Config B) (w : World B) (t : Tier) (n : ℕ) : Type 0 where
   pub node : ℕ
   pub inside : node < 2 * c.u + 1
-  pub here : is_gone (w.mids node).mode ≡ false
+  pub here : is_gone (w.nodes InMid node).mode ≡ false
   pub code : ℕ
   pub is_served : HasAnswer c w t n code
-  pub is_held : (records : List (List Fact)) → StandsFor (w.mids node) (w.mids node).mode records → code_of (held_in (newest records)) t n ≡ Some code
+  pub is_held : (records : List (List Fact)) → StandsFor (w.nodes InMid node) (w.nodes InMid node).mode records → code_of (held_in (newest records)) t n ≡ Some code
 
 -- the round stands at the world, and each call that it waits for is durable there
 pub record UsedBefore {B : Type 0} (c : Config B) (w : World B) (r : ℕ) : Type 0 where
   pub made : Round
-  pub is_round : round c.service.programs c.depth w.log (served_of c w) r ≡ Some made
+  pub is_round : round c.service.programs c.depth (w.logs InMid) (served_of c w) r ≡ Some made
   pub held : (j : ℕ) (q : Want) (k : Number) → slice_get made.wants j ≡ Some q → q.call ≡ Some k → Durable c w k.tier k.num
 
 -- HOLDERS
@@ -213,8 +213,8 @@ pub record Holds {B : Type 0} (c : Config B) (es : List TraceEvent) (t : Tier) (
   pub before : List TraceEvent
   pub after : List TraceEvent
   pub is_all : es ≡ before ++ after
-  pub here : is_gone ((world c before).mids x).mode ≡ false
-  pub had : (records : List (List Fact)) → StandsFor ((world c before).mids x) ((world c before).mids x).mode records → (code : ℕ) × (code_of (held_in (newest records)) t n ≡ Some code)
+  pub here : is_gone ((world c before).nodes InMid x).mode ≡ false
+  pub had : (records : List (List Fact)) → StandsFor ((world c before).nodes InMid x) ((world c before).nodes InMid x).mode records → (code : ℕ) × (code_of (held_in (newest records)) t n ≡ Some code)
 
 -- more than u of the middle nodes hold the answer
 abbrev pub ManyHolders : {B : Type 0} → Config B → List TraceEvent → Tier → ℕ → Type 0
@@ -223,5 +223,5 @@ ManyHolders c es t n = (xs : ℕ → Bool) × (c.u < count_below (2 * c.u + 1) x
 -- the round stands after the events, and each call that it waits for has many holders by then
 pub record HeldBefore {B : Type 0} (c : Config B) (es : List TraceEvent) (r : ℕ) : Type 0 where
   pub made : Round
-  pub is_round : round c.service.programs c.depth (world c es).log (served_of c (world c es)) r ≡ Some made
+  pub is_round : round c.service.programs c.depth ((world c es).logs InMid) (served_of c (world c es)) r ≡ Some made
   pub held : (j : ℕ) (q : Want) (k : Number) → slice_get made.wants j ≡ Some q → q.call ≡ Some k → ManyHolders c es k.tier k.num

@@ -2,9 +2,10 @@
 -- grows.
 use Rattle.std.proofs.Common.{◌≡◌, ℕ, Bool, true, List}
 use Rattle.aeg_base.specs.declared.names.Tier.{Tier}
+use Rattle.aeg_base.specs.declared.names.Tier.TheVariants.{Mid as MidTier}
 use Rattle.log_values.specs.declared.any_value.AnyValue.{AnyValue}
 use Rattle.log_values.specs.declared.entry.Entry.{Entry}
-use Rattle.round_model.specs.Answers.{Code, code_of}
+use Rattle.tier_laws.proofs.Codes.{Code, code_of}
 use Rattle.round_model.specs.Lists.{is_some}
 use Rattle.round_model.specs.Verdicts.{Vote}
 use Rattle.tier_laws.proofs.Rounds.{Kept}
@@ -12,15 +13,16 @@ use Rattle.tier_laws.proofs.Stable.{MoreLog}
 use Rattle.tier_laws.proofs.Maps.{Server}
 
 pub record Past (B : Type 0) : Type 0 where
-  -- the Held facts that each middle node ever wrote, the oldest first
-  pub codes : ℕ → List Code
+  -- the Held facts that each node ever wrote, the oldest first
+  pub codes : Tier → ℕ → List Code
   pub log : List AnyValue
   pub server : Server B
   pub runs : List Vote
   pub submitted : List Entry
 
+-- the middle node x wrote that it holds the answer
 abbrev pub holds : {B : Type 0} → Past B → Tier → ℕ → ℕ → Bool
-holds P t n x = is_some (code_of (P.codes x) t n)
+holds P t n x = is_some (code_of (P.codes MidTier x) t n)
 
 pub record Grows {B : Type 0} (P Q : Past B) : Type 0 where
   pub held : (x : ℕ) (t : Tier) (n : ℕ) → holds P t n x ≡ true → holds Q t n x ≡ true

@@ -2,6 +2,7 @@
 use Rattle.std.proofs.Common.{◌≡◌, ℕ, true, false, List, Some}
 use Rattle.std.specs.Prelude.{slice_get}
 use Rattle.aeg_base.specs.declared.names.Tier.{Tier}
+use Rattle.aeg_base.specs.declared.names.Tier.TheVariants.{Mid as MidTier, Inv, Pay}
 use Rattle.log_values.specs.declared.any_value.AnyValue.{AnyValue}
 use Rattle.log_values.specs.declared.any_value.AnyValue.TheVariants.{Back as OfBack, Mid as OfMid}
 use Rattle.log_values.specs.declared.back_value.BackValue.TheVariants.{Call as Called, Settle as Settled}
@@ -28,3 +29,9 @@ abbrev pub BackOk : {B : Type 0} → Config B → Past B → Tier → ℕ → An
 BackOk c P t p (OfBack (Called n text)) = P.server.calls t n ≡ Some text
 BackOk c P t p (OfMid v) = ⊥
 BackOk c P t p (OfBack (Settled g)) = FloorOk c P t g
+
+-- a value that a node of the tier votes for
+abbrev pub ValueOk : {B : Type 0} → Config B → Past B → Tier → ℕ → AnyValue → Type 0
+ValueOk c P MidTier p v = MidOk c P p v
+ValueOk c P Inv p v = BackOk c P Inv p v
+ValueOk c P Pay p v = BackOk c P Pay p v
