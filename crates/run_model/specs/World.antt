@@ -7,7 +7,7 @@ use Rattle.aeg_base.specs.declared.names.End.{End}
 use Rattle.aeg_base.specs.declared.names.End.TheVariants.{Node, Client}
 use Rattle.server_model.specs.Server.{same_tier}
 use Rattle.server_model.specs.History.{History}
-use Rattle.log_model.specs.Log.{nobody}
+use Rattle.log_model.specs.Log.{LogState, nobody}
 use Rattle.log_model.specs.Nodes.{Mode, Node as NodeOf, Device, put, stands, writes, moved, sent, crashed, restarted}
 use Rattle.log_model.specs.Nodes.Mode.{Up, Down, Gone}
 use Rattle.log_model.specs.Nodes.Device.{Fine as WasFine, CutKeep, CutDrop, Fault as WasFault}
@@ -123,6 +123,12 @@ can_fare Fault = true
 -- the rows of a node
 abbrev pub kind_at : {B : Type 0} → Config B → (t : Tier) → ℕ → Kind (State B t)
 kind_at c t x = kind c.u c.service c.depth t x
+
+-- the log of a node's state
+abbrev pub log_at : {B : Type 0} → Config B → (t : Tier) → State B t → LogState AnyValue
+log_at c Mid σ = σ.log
+log_at c Inv σ = σ.log
+log_at c Pay σ = σ.log
 
 abbrev pub with_node : {B : Type 0} → World B → (t : Tier) → ℕ → NodeOf (State B t) Fact → List Packet → List Vote → World B
 with_node w t x n ks vs = record w { nodes = put_nodes w.nodes t (put (w.nodes t) x n); soup = w.soup ++ ks; runs = w.runs ++ vs }

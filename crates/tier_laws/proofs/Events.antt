@@ -14,7 +14,8 @@ use Rattle.log_model.proofs.Votes.{on_msg_ok}
 use Rattle.log_model.specs.declared.message.PaxMsg.{PaxMsg}
 use Rattle.log_model.specs.Log.{nobody}
 use Rattle.log_model.specs.Rows.{on_msg}
-use Rattle.log_model.specs.World.{Packet as LogPacket, put}
+use Rattle.log_model.specs.Nodes.{put}
+use Rattle.log_model.specs.World.{Packet as LogPacket}
 use Rattle.log_values.specs.declared.any_value.AnyValue.{AnyValue}
 use Rattle.log_values.specs.declared.entry.Entry.{Entry}
 use Rattle.frames.specs.declared.message.Msg.{Msg}

@@ -3,7 +3,7 @@ use Rattle.std.proofs.Common.{◌≡◌, ℕ, ◌*◌, ◌<◌, Bool, true, fals
 use Rattle.std.specs.Prelude.{slice_get, ◌⊎◌}
 use Rattle.std.proofs.lemmas.Option.{same_Some}
 use Rattle.aeg_base.specs.declared.names.Tier.{Tier}
-use Rattle.aeg_base.specs.declared.names.Tier.TheVariants.{Inv, Pay, Mid as MidTier}
+use Rattle.aeg_base.specs.declared.names.Tier.TheVariants.{Inv as InvTier, Pay as PayTier}
 use Rattle.log_model.proofs.Invariant.{all_same, soup-refl}
 use Rattle.log_model.specs.Chosen.{Meets, chosen_among}
 use Rattle.log_model.specs.declared.fact.Fact.{Fact as LogFact}
@@ -21,7 +21,7 @@ use Rattle.round_model.specs.Service.{finish, is_order}
 use Rattle.round_model.specs.Tables.{Number, Tables, Want, fresh_of, numbers, resumed, started, wants}
 use Rattle.run_model.specs.Histories.{back_steps, is_called, step_of, steps_by, value_steps, verdict_steps}
 use Rattle.svc_api.proofs.Orders.{job_order}
-use Rattle.run_model.specs.Runs.{back_chosen, back_grows, grows, mid_chosen, mid_grows}
+use Rattle.run_model.specs.Runs.{chosen_next, grown, grows, grows_at, steps_at}
 use Rattle.run_model.specs.World.{Config, World, put_tier}
 use Rattle.server_model.specs.History.{History as History_}
 use Rattle.server_model.specs.Server.{same_tier}
@@ -29,10 +29,10 @@ use Rattle.server_model.specs.declared.history.Hist.{Hist}
 use Rattle.server_model.specs.declared.history.Hist.TheVariants.{Resume, Serve, Start}
 use Rattle.tier_laws.proofs.Lists.{tier_here, tier_there, get_cases, by_tier, get_map}
 use Rattle.tier_laws.proofs.Backs.{ledger_called, ledger_settled}
-use Rattle.tier_laws.proofs.Core.{Core, Inv as WorldOk, Mid_event, NearlyDone, back_mode-more, mid_mode-more, past}
+use Rattle.tier_laws.proofs.Core.{AllCodes, AllFacts, Core, Inv as WorldOk, Mid_event, back_logs, node-more, past}
 use Rattle.tier_laws.proofs.Ledger.{Extended, Ledger, extend_batch, ledger_verdict, more-push, ordered}
 use Rattle.tier_laws.proofs.Logs.{Complete, LogPart, Nearly, chosen_now, grow_none, grow_some, log_weaker, meets_good, part_some}
-use Rattle.tier_laws.proofs.Past.{BackOk, BatchOk, Grows, MidOk, Past, Submitted, VerdictBy, back_ok-more, mid_ok-more, more-refl, parcels-more, run_ok-more, submitted-more}
+use Rattle.tier_laws.proofs.Past.{BackOk, BatchOk, Grows, MidOk, Past, Submitted, ValueOk, VerdictBy, more-refl, parcels-more, run_ok-more, submitted-more, value_ok-more}
 use Rattle.tier_laws.proofs.Rounds.{Kept}
 use Rattle.tier_laws.proofs.Stable.{MoreLog, RoundParts, batch_in-some, round_parts, then_parts}
 use Rattle.tier_laws.proofs.Wants.{fresh-at}
@@ -52,24 +52,24 @@ is_ordered c P r R Serial k = job_order (length R.job)
 
 -- LONGER LOGS AND A LONGER HISTORY
 
-abbrev longer : {B : Type 0} → World B → List AnyValue → (Tier → List AnyValue) → History_ → World B
-longer w L K h = record w { log = L; logs = K; hist = h }
+abbrev longer : {B : Type 0} → World B → (Tier → List AnyValue) → History_ → World B
+longer w K h = record w { logs = K; hist = h }
 
-grows_to : {B : Type 0} (c : Config B) (w : World B) (codes : ℕ → List Code) (L : List AnyValue) (K : Tier → List AnyValue) (h : History_) → MoreLog (w.logs MidTier) L → Kept (server c.service w.hist) (server c.service h) → Grows (past c w codes) (past c (longer w L K h) codes)
-grows_to c w codes L K h l k = record { held = λ x t n e. e; log = l; kept = k; runs = more-refl w.runs; submitted = more-refl w.submitted }
+grows_to : {B : Type 0} (c : Config B) (w : World B) (codes : AllCodes) (K : Tier → List AnyValue) (h : History_) → MoreLog (w.logs MidTier) (K MidTier) → Kept (server c.service w.hist) (server c.service h)
+    → Grows (past c w codes) (past c (longer w K h) codes)
+grows_to c w codes K h l k = record { held = λ x t n e. e; log = l; kept = k; runs = more-refl w.runs; submitted = more-refl w.submitted }
 
-core_longer : {B : Type 0} (c : Config B) (w : World B) (codes : ℕ → List Code) (g : ℕ → List (LogFact AnyValue)) (k : Tier → ℕ → List (LogFact AnyValue)) (L : List AnyValue) (K : Tier → List AnyValue) (h : History_) → Core c w codes g k → Grows (past c w codes) (past c (longer w L K h) codes) → Ledger c.service c.depth L K h
-    → LogPart c.u g (log_soup MidTier w.soup) L (MidOk c (past c w codes)) → ((t : Tier) → LogPart c.u (k t) (log_soup t w.soup) (K t) (BackOk c (past c w codes) t)) → ((j n : ℕ) (who : ReqId) (body : List ℕ) → slice_get h j ≡ Some (Start who n, body) → Submitted (past c w codes) (record { client = who.client; seq = who.seq; body = body })) → Core c (longer w L K h) codes g k
-core_longer {B} c w codes g k L K h i gr ledger mid back starts = record {
+core_longer : {B : Type 0} (c : Config B) (w : World B) (codes : AllCodes) (g : AllFacts) (K : Tier → List AnyValue) (h : History_) → Core c w codes g → Grows (past c w codes) (past c (longer w K h) codes)
+    → Ledger c.service c.depth (K MidTier) (back_logs K) h → ((t : Tier) → LogPart c.u (g t) (log_soup t w.soup) (K t) (ValueOk c (past c w codes) t))
+    → ((j n : ℕ) (who : ReqId) (body : List ℕ) → slice_get h j ≡ Some (Start who n, body) → Submitted (past c w codes) (record { client = who.client; seq = who.seq; body = body })) → Core c (longer w K h) codes g
+core_longer {B} c w codes g K h i gr ledger logs starts = record {
   laws = i.laws;
-  mid_log = log_weaker c.u g (log_soup MidTier w.soup) L (MidOk c P) (MidOk c Q) (λ p v o. mid_ok-more c P Q p v gr o) mid;
-  back_log = λ t. log_weaker c.u (k t) (log_soup t w.soup) (K t) (BackOk c P t) (BackOk c Q t) (λ p v o. back_ok-more c P Q t p v gr o) (back t);
+  logs = λ t. log_weaker c.u (g t) (log_soup t w.soup) (K t) (ValueOk c P t) (ValueOk c Q t) (λ p v o. value_ok-more c P Q t p v gr o) (logs t);
   ledger = ledger;
   runs = λ j v e. run_ok-more c P Q v gr (i.runs j v e);
-  right = λ x j q e. gr.kept.served q.tier q.num q.code (i.right x j q e);
+  right = λ t x j q e. gr.kept.served q.tier q.num q.code (i.right t x j q e);
   packets = parcels-more c P Q w.soup gr i.packets;
-  mids = λ x l. mid_mode-more c P Q g g (log_soup MidTier w.soup) (log_soup MidTier w.soup) x (w.nodes MidTier x) (w.nodes MidTier x).mode gr (all_same g) (soup-refl c.u (log_soup MidTier w.soup)) refl refl (i.mids x l);
-  backs = λ t x l. back_mode-more c P Q t (k t) (k t) (log_soup t w.soup) (log_soup t w.soup) x (w.nodes t x) (w.nodes t x).mode gr (all_same (k t)) (soup-refl c.u (log_soup t w.soup)) refl (i.backs t x l);
+  nodes = λ t x l. node-more c P Q t (g t) (g t) (log_soup t w.soup) (log_soup t w.soup) x (w.nodes t x) (w.nodes t x).mode gr (all_same (g t)) (soup-refl c.u (log_soup t w.soup)) refl refl (i.nodes t x l);
   clients = λ y text e. submitted-more P Q _ gr (i.clients y text e);
   starts = λ j n who body e. submitted-more P Q _ gr (starts j n who body e);
   told = λ j e f. gr.kept.replies e.client e.seq e.body (i.told j e f);
@@ -79,15 +79,15 @@ core_longer {B} c w codes g k L K h i gr ledger mid back starts = record {
     P = past c w codes
 
     Q : Past B
-    Q = past c (longer w L K h) codes
+    Q = past c (longer w K h) codes
 
 -- STARTS WERE SUBMITTED
 
 abbrev StartsIn : {B : Type 0} → Past B → History_ → Type 0
 StartsIn P h = (j n : ℕ) (who : ReqId) (body : List ℕ) → slice_get h j ≡ Some (Start who n, body) → Submitted P (record { client = who.client; seq = who.seq; body = body })
 
-starts_by : {B : Type 0} (c : Config B) (w : World B) (codes : ℕ → List Code) (h : ℕ → List (LogFact AnyValue)) (k : Tier → ℕ → List (LogFact AnyValue)) (ks : History_) → Core c w codes h k → StartsIn (past c w codes) ks → StartsIn (past c w codes) (w.hist ++ ks)
-starts_by {B} c w codes h k ks i new j n who body e = go (get_cases w.hist ks j (Start who n, body) e)
+starts_by : {B : Type 0} (c : Config B) (w : World B) (codes : AllCodes) (h : AllFacts) (ks : History_) → Core c w codes h → StartsIn (past c w codes) ks → StartsIn (past c w codes) (w.hist ++ ks)
+starts_by {B} c w codes h ks i new j n who body e = go (get_cases w.hist ks j (Start who n, body) e)
   where
     go : (slice_get w.hist j ≡ Some (Start who n, body)) ⊎ ((l : ℕ) × (slice_get ks l ≡ Some (Start who n, body))) → Submitted (past c w codes) (record { client = who.client; seq = who.seq; body = body })
     go (inl f) = i.starts j n who body f
@@ -154,11 +154,11 @@ batch_value (OfMid (Batch ds)) es e = let s : ds ≡ es = cc in ap (λ z. OfMid 
 batch_value (OfMid (Decided v)) es e = absurd (cc)
 batch_value (OfBack v) es e = absurd (cc)
 
-value_starts : {B : Type 0} (c : Config B) (w : World B) (codes : ℕ → List Code) (h : ℕ → List (LogFact AnyValue)) (k : Tier → ℕ → List (LogFact AnyValue)) (v : AnyValue) → Core c w codes h k → MidOk c (past c w codes) (length (w.logs MidTier)) v → StartsIn (past c w codes) (value_steps c.service.programs c.depth (w.logs MidTier) (server c.service w.hist).served v)
+value_starts : {B : Type 0} (c : Config B) (w : World B) (codes : AllCodes) (h : AllFacts) (v : AnyValue) → Core c w codes h → MidOk c (past c w codes) (length (w.logs MidTier)) v → StartsIn (past c w codes) (value_steps c.service.programs c.depth (w.logs MidTier) (server c.service w.hist).served v)
 unfolding is_start
-value_starts c w codes h k (OfMid (Batch es)) i o j n who body e = absurd (cc)
-value_starts c w codes h k (OfBack v) i o j n who body e = absurd o
-value_starts {B} c w codes h k (OfMid (Decided v)) i o j n who body e = go (is_order (length R.job) (ordered R v)) (subst (λ z. slice_get (verdict_steps c.service.programs z v) j ≡ Some (Start who n, body)) o.1.is_round e)
+value_starts c w codes h (OfMid (Batch es)) i o j n who body e = absurd (cc)
+value_starts c w codes h (OfBack v) i o j n who body e = absurd o
+value_starts {B} c w codes h (OfMid (Decided v)) i o j n who body e = go (is_order (length R.job) (ordered R v)) (subst (λ z. slice_get (verdict_steps c.service.programs z v) j ≡ Some (Start who n, body)) o.1.is_round e)
   where
     R : Round
     R = o.1.made
@@ -176,7 +176,7 @@ value_starts {B} c w codes h k (OfMid (Decided v)) i o j n who body e = go (is_o
     value = batch_in-some (slice_get (w.logs MidTier) (2 * half (length (w.logs MidTier)))) parts.batch parts.is_batch
 
     entries : BatchOk P parts.batch
-    entries = (subst (MidOk c P (2 * half (length (w.logs MidTier)))) (batch_value value.0 parts.batch value.2) (meets_good c.u h (log_soup MidTier w.soup) (w.logs MidTier) (MidOk c P) (2 * half (length (w.logs MidTier))) value.0 i.mid_log (i.mid_log.sound (2 * half (length (w.logs MidTier))) value.0 value.1))).1
+    entries = (subst (MidOk c P (2 * half (length (w.logs MidTier)))) (batch_value value.0 parts.batch value.2) (meets_good c.u (h MidTier) (log_soup MidTier w.soup) (w.logs MidTier) (MidOk c P) (2 * half (length (w.logs MidTier))) value.0 (i.logs MidTier) ((i.logs MidTier).sound (2 * half (length (w.logs MidTier))) value.0 value.1))).1
 
     from : StartOf (wants c.service.programs a.0 parts.batch) who.client who.seq body → Submitted P (record { client = who.client; seq = who.seq; body = body })
     from q = by (get_cases (map resumed (head_of a.0.queue)) (map started (fresh_of c.service.programs a.0 [] parts.batch)) q.place q.want q.is_want)
@@ -192,109 +192,123 @@ value_starts {B} c w codes h k (OfMid (Decided v)) i o j n who body e = go (is_o
             let same : z.0 ≡ record { client = who.client; seq = who.seq; body = body } = λ i. record { client = e1 i; seq = e2 i; body = e3 i } in
             subst (Submitted P) same (entries b.0 z.0 b.1)
 
-    go : (b : Bool) → slice_get {X = HistoryStep} (cond b (steps_by o.1.made.wants (numbers o.1.made.tables.next (finish c.service.programs o.1.made.job (ordered o.1.made v) o.1.made.tables.store).ends) (ordered o.1.made v)) ((Serve Inv 0, []) ∷ [])) j ≡ Some (Start who n, body) → Submitted P (record { client = who.client; seq = who.seq; body = body })
+    go : (b : Bool) → slice_get {X = HistoryStep} (cond b (steps_by o.1.made.wants (numbers o.1.made.tables.next (finish c.service.programs o.1.made.job (ordered o.1.made v) o.1.made.tables.store).ends) (ordered o.1.made v)) ((Serve InvTier 0, []) ∷ [])) j ≡ Some (Start who n, body) → Submitted P (record { client = who.client; seq = who.seq; body = body })
     go true f = from (subst (λ z. StartOf z who.client who.seq body) parts.is_wants (steps_start o.1.made.wants (numbers o.1.made.tables.next (finish c.service.programs o.1.made.job (ordered o.1.made v) o.1.made.tables.store).ends) (ordered o.1.made v) j n who body f))
     go false f = absurd (none j f)
       where
-        none : (j : ℕ) → slice_get {X = HistoryStep} ((Serve Inv 0, []) ∷ []) j ≡ Some (Start who n, body) → ⊥
-        none zero f = let g : false ≡ true = ap (λ (x : HistoryStep). is_start x.0) (same_Some (Serve Inv 0, []) (Start who n, body) f) in cc
+        none : (j : ℕ) → slice_get {X = HistoryStep} ((Serve InvTier 0, []) ∷ []) j ≡ Some (Start who n, body) → ⊥
+        none zero f = let g : false ≡ true = ap (λ (x : HistoryStep). is_start x.0) (same_Some (Serve InvTier 0, []) (Start who n, body) f) in cc
         none (suc j) f = cc
 
--- THE MIDDLE LOG
-
-record MidGrown {B : Type 0} (c : Config B) (w : World B) (codes : ℕ → List Code) (h : ℕ → List (LogFact AnyValue)) (k : Tier → ℕ → List (LogFact AnyValue)) : Type 0 where
-  core : Core c w codes h k
-  mid : Complete c.u (log_soup MidTier w.soup) (w.logs MidTier)
-  back : (t : Tier) → Nearly c.u (log_soup t w.soup) (w.logs t)
+-- A LOG GROWS
 
 -- the history's list of served calls is looked up as the maps say
-pub served_same : {B : Type 0} (c : Config B) (w : World B) (codes : ℕ → List Code) (h : ℕ → List (LogFact AnyValue)) (k : Tier → ℕ → List (LogFact AnyValue)) → Core c w codes h k → served_of c w ≡ (server c.service w.hist).served
-served_same c w codes h k i = λ j t n. (shown c.service w.hist i.laws.again i.ledger.legal).shows.served t n j
+pub served_same : {B : Type 0} (c : Config B) (w : World B) (codes : AllCodes) (h : AllFacts) → Core c w codes h → served_of c w ≡ (server c.service w.hist).served
+served_same c w codes h i = λ j t n. (shown c.service w.hist i.laws.again i.ledger.legal).shows.served t n j
 
-extend_by : {B : Type 0} (c : Config B) (w : World B) (codes : ℕ → List Code) (h : ℕ → List (LogFact AnyValue)) (k : Tier → ℕ → List (LogFact AnyValue)) (v : AnyValue) → Core c w codes h k → MidOk c (past c w codes) (length (w.logs MidTier)) v
-    → Extended c.service c.depth w.hist ((w.logs MidTier) ++ v ∷ []) w.logs (w.hist ++ value_steps c.service.programs c.depth (w.logs MidTier) (server c.service w.hist).served v)
-extend_by c w codes h k (OfBack v) i o = absurd o
-extend_by c w codes h k (OfMid (Batch es)) i o = extend_batch c.service c.depth (w.logs MidTier) w.logs w.hist es o.0 i.ledger
-extend_by c w codes h k (OfMid (Decided v)) i o = ledger_verdict c.service c.depth (w.logs MidTier) w.logs w.hist v o.1.made o.0 o.1.is_round (is_ordered c (past c w codes) (half (length (w.logs MidTier))) o.1.made v o.1.by) i.ledger
+extend_mid : {B : Type 0} (c : Config B) (w : World B) (codes : AllCodes) (h : AllFacts) (v : AnyValue) → Core c w codes h → MidOk c (past c w codes) (length (w.logs MidTier)) v
+    → Extended c.service c.depth w.hist (w.logs MidTier ++ v ∷ []) (back_logs w.logs) (w.hist ++ value_steps c.service.programs c.depth (w.logs MidTier) (server c.service w.hist).served v)
+extend_mid c w codes h (OfBack v) i o = absurd o
+extend_mid c w codes h (OfMid (Batch es)) i o = extend_batch c.service c.depth (w.logs MidTier) (back_logs w.logs) w.hist es o.0 i.ledger
+extend_mid c w codes h (OfMid (Decided v)) i o =
+    ledger_verdict c.service c.depth (w.logs MidTier) (back_logs w.logs) w.hist v o.1.made o.0 o.1.is_round (is_ordered c (past c w codes) (half (length (w.logs MidTier))) o.1.made v o.1.by) i.ledger
 
-abbrev steps_now : {B : Type 0} → Config B → World B → AnyValue → History_
-steps_now c w v = value_steps c.service.programs c.depth (w.logs MidTier) (served_of c w) v
+extend_back : {B : Type 0} (c : Config B) (w : World B) (codes : AllCodes) (h : AllFacts) (t : Tier) (v : AnyValue) → same_tier t MidTier ≡ false → Core c w codes h → BackOk c (past c w codes) t (length (back_logs w.logs t)) v
+    → Extended c.service c.depth w.hist (w.logs MidTier) (put_tier (back_logs w.logs) t (back_logs w.logs t ++ v ∷ [])) (w.hist ++ back_steps t (back_logs w.logs t) v)
+extend_back c w codes h t (OfMid v) b i o = absurd o
+extend_back c w codes h t (OfBack (Called n text)) b i o = ledger_called c.service c.depth (w.logs MidTier) (back_logs w.logs) w.hist t n text b o i.ledger
+extend_back c w codes h t (OfBack (Settled g)) b i o = ledger_settled c.service c.depth (w.logs MidTier) (back_logs w.logs) w.hist t g o.served i.ledger
 
-extend_mid : {B : Type 0} (c : Config B) (w : World B) (codes : ℕ → List Code) (h : ℕ → List (LogFact AnyValue)) (k : Tier → ℕ → List (LogFact AnyValue)) (v : AnyValue) → Core c w codes h k → MidOk c (past c w codes) (length (w.logs MidTier)) v
-    → Extended c.service c.depth w.hist ((w.logs MidTier) ++ v ∷ []) w.logs (w.hist ++ steps_now c w v)
-extend_mid c w codes h k v i o = subst (λ A. Extended c.service c.depth w.hist ((w.logs MidTier) ++ v ∷ []) w.logs (w.hist ++ value_steps c.service.programs c.depth (w.logs MidTier) A v)) (sym (served_same c w codes h k i)) (extend_by c w codes h k v i o)
+abbrev longer_by : (Tier → List AnyValue) → Tier → AnyValue → Tier → List AnyValue
+longer_by logs t v = put_tier logs t (logs t ++ v ∷ [])
 
-steps_start_now : {B : Type 0} (c : Config B) (w : World B) (codes : ℕ → List Code) (h : ℕ → List (LogFact AnyValue)) (k : Tier → ℕ → List (LogFact AnyValue)) (v : AnyValue) → Core c w codes h k → MidOk c (past c w codes) (length (w.logs MidTier)) v → StartsIn (past c w codes) (steps_now c w v)
-steps_start_now c w codes h k v i o = subst (λ A. StartsIn (past c w codes) (value_steps c.service.programs c.depth (w.logs MidTier) A v)) (sym (served_same c w codes h k i)) (value_starts c w codes h k v i o)
+-- the backends' logs, once the middle one is longer, or one of theirs is
+same_backs : (logs : Tier → List AnyValue) (v : AnyValue) → back_logs logs ≡ back_logs (longer_by logs MidTier v)
+same_backs logs v = λ i s. at s i
+  where
+    at : (s : Tier) → back_logs logs s ≡ back_logs (longer_by logs MidTier v) s
+    at MidTier = refl
+    at InvTier = refl
+    at PayTier = refl
 
-mid_grown : {B : Type 0} (c : Config B) (w : World B) (codes : ℕ → List Code) (h : ℕ → List (LogFact AnyValue)) (k : Tier → ℕ → List (LogFact AnyValue)) (o : Option AnyValue) → c.u < 128 → chosen_among c.u (log_soup MidTier w.soup) (length (w.logs MidTier)) (log_soup MidTier w.soup) ≡ o → Core c w codes h k → NearlyDone c w → MidGrown c (mid_chosen c w o) codes h k
-mid_grown c w codes h k None few e i n = record { core = i; mid = grow_none c.u (log_soup MidTier w.soup) (w.logs MidTier) n.mid e; back = n.back }
-mid_grown {B} c w codes h k (Some v) few e i n =
-    let m : Meets c.u (log_soup MidTier w.soup) (length (w.logs MidTier)) v = chosen_now c.u (log_soup MidTier w.soup) (length (w.logs MidTier)) v e in
-    let ok : MidOk c (past c w codes) (length (w.logs MidTier)) v = meets_good c.u h (log_soup MidTier w.soup) (w.logs MidTier) (MidOk c (past c w codes)) (length (w.logs MidTier)) v i.mid_log m in
-    let x : Extended c.service c.depth w.hist ((w.logs MidTier) ++ v ∷ []) w.logs (w.hist ++ steps_now c w v) = extend_mid c w codes h k v i ok in
-    record {
-      core = core_longer c w codes h k ((w.logs MidTier) ++ v ∷ []) w.logs (w.hist ++ steps_now c w v) i (grows_to c w codes ((w.logs MidTier) ++ v ∷ []) w.logs (w.hist ++ steps_now c w v) (more-push (w.logs MidTier) v) x.kept) x.ledger
-          (part_some c.u h (log_soup MidTier w.soup) (w.logs MidTier) (MidOk c (past c w codes)) v i.mid_log m) i.back_log (starts_by c w codes h k (steps_now c w v) i (steps_start_now c w codes h k v i ok));
-      mid = grow_some c.u h (log_soup MidTier w.soup) (w.logs MidTier) (MidOk c (past c w codes)) v few i.mid_log n.mid m;
-      back = n.back;
-    }
+inv_longer : (logs : Tier → List AnyValue) (v : AnyValue) → longer_by (back_logs logs) InvTier v ≡ back_logs (longer_by logs InvTier v)
+inv_longer logs v = λ i s. at s i
+  where
+    at : (s : Tier) → longer_by (back_logs logs) InvTier v s ≡ back_logs (longer_by logs InvTier v) s
+    at MidTier = refl
+    at InvTier = refl
+    at PayTier = refl
 
--- A BACKEND'S LOG
+pay_longer : (logs : Tier → List AnyValue) (v : AnyValue) → longer_by (back_logs logs) PayTier v ≡ back_logs (longer_by logs PayTier v)
+pay_longer logs v = λ i s. at s i
+  where
+    at : (s : Tier) → longer_by (back_logs logs) PayTier v s ≡ back_logs (longer_by logs PayTier v) s
+    at MidTier = refl
+    at InvTier = refl
+    at PayTier = refl
 
-extend_back : {B : Type 0} (c : Config B) (w : World B) (codes : ℕ → List Code) (h : ℕ → List (LogFact AnyValue)) (k : Tier → ℕ → List (LogFact AnyValue)) (t : Tier) (v : AnyValue) → same_tier t MidTier ≡ false → Core c w codes h k → BackOk c (past c w codes) t (length (w.logs t)) v
-    → Extended c.service c.depth w.hist (w.logs MidTier) (put_tier w.logs t (w.logs t ++ v ∷ [])) (w.hist ++ back_steps t (w.logs t) v)
-extend_back c w codes h k t (OfMid v) b i o = absurd o
-extend_back c w codes h k t (OfBack (Called n text)) b i o = ledger_called c.service c.depth (w.logs MidTier) w.logs w.hist t n text b o i.ledger
-extend_back c w codes h k t (OfBack (Settled g)) b i o = ledger_settled c.service c.depth (w.logs MidTier) w.logs w.hist t g o.served i.ledger
+extend_at : {B : Type 0} (c : Config B) (w : World B) (codes : AllCodes) (h : AllFacts) (t : Tier) (v : AnyValue) → Core c w codes h → ValueOk c (past c w codes) t (length (w.logs t)) v
+    → Extended c.service c.depth w.hist (longer_by w.logs t v MidTier) (back_logs (longer_by w.logs t v)) (w.hist ++ steps_at c w t v)
+extend_at c w codes h MidTier v i o = subst (λ K. Extended c.service c.depth w.hist (w.logs MidTier ++ v ∷ []) K (w.hist ++ value_steps c.service.programs c.depth (w.logs MidTier) (served_of c w) v)) (same_backs w.logs v)
+    (subst (λ A. Extended c.service c.depth w.hist (w.logs MidTier ++ v ∷ []) (back_logs w.logs) (w.hist ++ value_steps c.service.programs c.depth (w.logs MidTier) A v)) (sym (served_same c w codes h i)) (extend_mid c w codes h v i o))
+extend_at c w codes h InvTier v i o = subst (λ K. Extended c.service c.depth w.hist (w.logs MidTier) K (w.hist ++ back_steps InvTier (w.logs InvTier) v)) (inv_longer w.logs v) (extend_back c w codes h InvTier v refl i o)
+extend_at c w codes h PayTier v i o = subst (λ K. Extended c.service c.depth w.hist (w.logs MidTier) K (w.hist ++ back_steps PayTier (w.logs PayTier) v)) (pay_longer w.logs v) (extend_back c w codes h PayTier v refl i o)
+
+start_at : {B : Type 0} (c : Config B) (w : World B) (codes : AllCodes) (h : AllFacts) (t : Tier) (v : AnyValue) → Core c w codes h → ValueOk c (past c w codes) t (length (w.logs t)) v → StartsIn (past c w codes) (steps_at c w t v)
+start_at c w codes h MidTier v i o = subst (λ A. StartsIn (past c w codes) (value_steps c.service.programs c.depth (w.logs MidTier) A v)) (sym (served_same c w codes h i)) (value_starts c w codes h v i o)
+start_at c w codes h InvTier v i o = λ j n who body f. absurd (back_starts InvTier (w.logs InvTier) v j n who body f)
+start_at c w codes h PayTier v i o = λ j n who body f. absurd (back_starts PayTier (w.logs PayTier) v j n who body f)
 
 -- what the growth of the tier t's log leaves
-record BackGrown {B : Type 0} (c : Config B) (w : World B) (t : Tier) (codes : ℕ → List Code) (h : ℕ → List (LogFact AnyValue)) (k : Tier → ℕ → List (LogFact AnyValue)) (z : World B) : Type 0 where
-  core : Core c z codes h k
-  mid : Complete c.u (log_soup MidTier w.soup) (w.logs MidTier) → Complete c.u (log_soup MidTier z.soup) z.log
+record Grown {B : Type 0} (c : Config B) (w : World B) (t : Tier) (codes : AllCodes) (h : AllFacts) (z : World B) : Type 0 where
+  core : Core c z codes h
   here : Complete c.u (log_soup t z.soup) (z.logs t)
   near : (v : Tier) → same_tier v t ≡ false → Nearly c.u (log_soup v w.soup) (w.logs v) → Nearly c.u (log_soup v z.soup) (z.logs v)
   there : (v : Tier) → same_tier v t ≡ false → Complete c.u (log_soup v w.soup) (w.logs v) → Complete c.u (log_soup v z.soup) (z.logs v)
 
-back_grown : {B : Type 0} (c : Config B) (w : World B) (t : Tier) (codes : ℕ → List Code) (h : ℕ → List (LogFact AnyValue)) (k : Tier → ℕ → List (LogFact AnyValue)) (o : Option AnyValue) → c.u < 128 → same_tier t MidTier ≡ false → chosen_among c.u (log_soup t w.soup) (length (w.logs t)) (log_soup t w.soup) ≡ o → Core c w codes h k
-    → Nearly c.u (log_soup t w.soup) (w.logs t) → BackGrown c w t codes h k (back_chosen w t o)
-back_grown c w t codes h k None few b e i n = record { core = i; mid = λ d. d; here = grow_none c.u (log_soup t w.soup) (w.logs t) n e; near = λ v f d. d; there = λ v f d. d }
-back_grown {B} c w t codes h k (Some v) few b e i n =
+more_mid : (logs : Tier → List AnyValue) (t : Tier) (v : AnyValue) → MoreLog (logs MidTier) (longer_by logs t v MidTier)
+more_mid logs MidTier v = more-push (logs MidTier) v
+more_mid logs InvTier v = more-refl (logs MidTier)
+more_mid logs PayTier v = more-refl (logs MidTier)
+
+grown_ok : {B : Type 0} (c : Config B) (w : World B) (t : Tier) (codes : AllCodes) (h : AllFacts) (o : Option AnyValue) → c.u < 128 → chosen_next c w t ≡ o → Core c w codes h → Nearly c.u (log_soup t w.soup) (w.logs t)
+    → Grown c w t codes h (grown c w t o)
+grown_ok c w t codes h None few e i n = record { core = i; here = grow_none c.u (log_soup t w.soup) (w.logs t) n e; near = λ v f d. d; there = λ v f d. d }
+grown_ok {B} c w t codes h (Some v) few e i n =
     let m : Meets c.u (log_soup t w.soup) (length (w.logs t)) v = chosen_now c.u (log_soup t w.soup) (length (w.logs t)) v e in
-    let ok : BackOk c (past c w codes) t (length (w.logs t)) v = meets_good c.u (k t) (log_soup t w.soup) (w.logs t) (BackOk c (past c w codes) t) (length (w.logs t)) v (i.back_log t) m in
-    let x : Extended c.service c.depth w.hist (w.logs MidTier) (put_tier w.logs t (w.logs t ++ v ∷ [])) (w.hist ++ back_steps t (w.logs t) v) = extend_back c w codes h k t v b i ok in
+    let ok : ValueOk c (past c w codes) t (length (w.logs t)) v = meets_good c.u (h t) (log_soup t w.soup) (w.logs t) (ValueOk c (past c w codes) t) (length (w.logs t)) v (i.logs t) m in
+    let x : Extended c.service c.depth w.hist (longer_by w.logs t v MidTier) (back_logs (longer_by w.logs t v)) (w.hist ++ steps_at c w t v) = extend_at c w codes h t v i ok in
     record {
-      core = core_longer c w codes h k (w.logs MidTier) (put_tier w.logs t (w.logs t ++ v ∷ [])) (w.hist ++ back_steps t (w.logs t) v) i (grows_to c w codes (w.logs MidTier) (put_tier w.logs t (w.logs t ++ v ∷ [])) (w.hist ++ back_steps t (w.logs t) v) (more-refl (w.logs MidTier)) x.kept) x.ledger i.mid_log
-          (by_tier (λ v K. LogPart c.u (k v) (log_soup v w.soup) K (BackOk c (past c w codes) v)) w.logs t (w.logs t ++ v ∷ []) (part_some c.u (k t) (log_soup t w.soup) (w.logs t) (BackOk c (past c w codes) t) v (i.back_log t) m) (λ v f. i.back_log v))
-          (starts_by c w codes h k (back_steps t (w.logs t) v) i (λ j n who body f. absurd (back_starts t (w.logs t) v j n who body f)));
-      mid = λ d. d;
-      here = subst (Complete c.u (log_soup t w.soup)) (sym (tier_here w.logs t (w.logs t ++ v ∷ []))) (grow_some c.u (k t) (log_soup t w.soup) (w.logs t) (BackOk c (past c w codes) t) v few (i.back_log t) n m);
-      near = λ y f d. subst (Nearly c.u (log_soup y w.soup)) (sym (tier_there w.logs t (w.logs t ++ v ∷ []) y f)) d;
-      there = λ y f d. subst (Complete c.u (log_soup y w.soup)) (sym (tier_there w.logs t (w.logs t ++ v ∷ []) y f)) d;
+      core = core_longer c w codes h (longer_by w.logs t v) (w.hist ++ steps_at c w t v) i (grows_to c w codes (longer_by w.logs t v) (w.hist ++ steps_at c w t v) (more_mid w.logs t v) x.kept) x.ledger
+          (by_tier (λ s K. LogPart c.u (h s) (log_soup s w.soup) K (ValueOk c (past c w codes) s)) w.logs t (w.logs t ++ v ∷ []) (part_some c.u (h t) (log_soup t w.soup) (w.logs t) (ValueOk c (past c w codes) t) v (i.logs t) m) (λ s f. i.logs s))
+          (starts_by c w codes h (steps_at c w t v) i (start_at c w codes h t v i ok));
+      here = subst (Complete c.u (log_soup t w.soup)) (sym (tier_here w.logs t (w.logs t ++ v ∷ []))) (grow_some c.u (h t) (log_soup t w.soup) (w.logs t) (ValueOk c (past c w codes) t) v few (i.logs t) n m);
+      near = λ s f d. subst (Nearly c.u (log_soup s w.soup)) (sym (tier_there w.logs t (w.logs t ++ v ∷ []) s f)) d;
+      there = λ s f d. subst (Complete c.u (log_soup s w.soup)) (sym (tier_there w.logs t (w.logs t ++ v ∷ []) s f)) d;
     }
 
 pub grows_ok : {B : Type 0} (c : Config B) (P : Past B) (w : World B) → c.u < 128 → Mid_event c P w → WorldOk c (grows c w)
-grows_ok {B} c P w few i = record { codes = i.codes; h = i.h; k = i.k; core = p.core; done = record { mid = p.mid (n.mid m.mid); back = both } }
+grows_ok {B} c P w few i = record { codes = i.codes; h = i.h; core = p.core; done = record { all = all } }
   where
-    m : MidGrown c (mid_grows c w) i.codes i.h i.k
-    m = mid_grown c w i.codes i.h i.k (chosen_among c.u (log_soup MidTier w.soup) (length (w.logs MidTier)) (log_soup MidTier w.soup)) few refl i.core i.near
-
     one : World B
-    one = mid_grows c w
-
-    n : BackGrown c (mid_grows c w) Inv i.codes i.h i.k (back_grows c Inv (mid_grows c w))
-    n = back_grown c one Inv i.codes i.h i.k (chosen_among c.u (log_soup Inv one.soup) (length (one.logs Inv)) (log_soup Inv one.soup)) few refl refl m.core (m.back Inv)
+    one = grows_at c MidTier w
 
     two : World B
-    two = back_grows c Inv (mid_grows c w)
+    two = grows_at c InvTier one
 
-    p : BackGrown c (back_grows c Inv (mid_grows c w)) Pay i.codes i.h i.k (grows c w)
-    p = back_grown c two Pay i.codes i.h i.k (chosen_among c.u (log_soup Pay two.soup) (length (two.logs Pay)) (log_soup Pay two.soup)) few refl refl n.core (n.near Pay refl (m.back Pay))
+    m : Grown c w MidTier i.codes i.h one
+    m = grown_ok c w MidTier i.codes i.h (chosen_next c w MidTier) few refl i.core (i.near.all MidTier)
 
-    both : (t : Tier) → Complete c.u (log_soup t (grows c w).soup) ((grows c w).logs t)
-    both MidTier = record { at = λ p v m. absurd (let e = m.is_sent in cc) }
-    both Inv = p.there Inv refl n.here
-    both Pay = p.here
+    n : Grown c one InvTier i.codes i.h two
+    n = grown_ok c one InvTier i.codes i.h (chosen_next c one InvTier) few refl m.core (m.near InvTier refl (i.near.all InvTier))
+
+    p : Grown c two PayTier i.codes i.h (grows c w)
+    p = grown_ok c two PayTier i.codes i.h (chosen_next c two PayTier) few refl n.core (n.near PayTier refl (m.near PayTier refl (i.near.all PayTier)))
+
+    all : (t : Tier) → Complete c.u (log_soup t (grows c w).soup) ((grows c w).logs t)
+    all MidTier = p.there MidTier refl (n.there MidTier refl m.here)
+    all InvTier = p.there InvTier refl n.here
+    all PayTier = p.here
 
 -- what the nodes hold stays
 pub grows_codes : {B : Type 0} (c : Config B) (P : Past B) (w : World B) (few : c.u < 128) (i : Mid_event c P w) → (grows_ok c P w few i).codes ≡ i.codes

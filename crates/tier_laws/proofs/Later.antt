@@ -10,7 +10,7 @@ use Rattle.aeg_base.specs.declared.names.End.{End}
 use Rattle.aeg_base.specs.declared.names.End.TheVariants.{Node as OfNode, Client}
 use Rattle.server_model.specs.declared.history.Hist.TheVariants.{Start}
 use Rattle.log_model.specs.Chosen.{chosen_among}
-use Rattle.log_model.specs.World.{Device, Mode, Node, stands}
+use Rattle.log_model.specs.Nodes.{Device, Mode, Node, stands}
 use Rattle.log_model.specs.Nodes.Mode.{Down, Gone, Up}
 use Rattle.log_values.specs.declared.fact.Fact.{Fact}
 use Rattle.log_values.specs.declared.any_value.AnyValue.{AnyValue}

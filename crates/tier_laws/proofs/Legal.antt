@@ -110,7 +110,7 @@ record Here {B : Type 0} (m : Service B) (O : Server B) (next : OfTiers ℕ) (ws
   in_ws : slice_get ws i ≡ Some act.want
   none : times i done ≡ 0
   answer : answered O.served act.want act.want.call ≡ Some seg
-  ending : (run m seg (serial m.programs J done O.store)).ending ≡ act.ending
+  ending : (run m.programs seg (serial m.programs J done O.store)).ending ≡ act.ending
   num : at 0 (numbers next (ends_of m J order O.store)) i ≡ act.num
 
 here : {B : Type 0} (m : Service B) (O : Server B) (next : OfTiers ℕ) (ws : List Want) (J : List Seg) (order done : List ℕ) (i : ℕ) (rest : List ℕ) (P : Server B) → Setting m O next ws J order → order ≡ done ++ i ∷ rest → Here m O next ws J order done i P
@@ -188,15 +188,15 @@ record Stepped {B : Type 0} (m : Service B) (O : Server B) (next : OfTiers ℕ) 
 one_legal : {B : Type 0} (m : Service B) (O : Server B) (next : OfTiers ℕ) (ws : List Want) (J : List Seg) (order : List ℕ) → Setting m O next ws J order → (done : List ℕ) (i : ℕ) (P : Server B) → Here m O next ws J order done i P
     → Partway O (acts_of m O next ws J order) ws done (serial m.programs J done O.store) P → Bounded P → Stepped m O next ws J order done i P
 one_legal {B} m O next ws J order g done i P h k b = record {
-  server = acted P h.act.want h.act.num h.act.ending (run m h.seg P.store).store;
+  server = acted P h.act.want h.act.num h.act.ending (run m.programs h.seg P.store).store;
   is_step = ap (λ z. step m P (step_of z (at 0 (numbers next (ends_of m J order O.store)) i))) h.in_ws
       ∙ ap (λ z. step m P (step_of (Some h.act.want) z)) h.num
       ∙ ap (step m P) (step_of_is h.act.want h.act.want.call h.act.num refl)
       ∙ act_done m P h.act.want h.act.want.call h.act.num h.seg ok answer (subst (λ e. NumberOk P e h.act.num) (sym ending) number)
-      ∙ ap (λ e. Done (acted P h.act.want h.act.num e (run m h.seg P.store).store)) ending;
-  there = subst (λ s. Partway O (acts_of m O next ws J order) ws (done ++ i ∷ []) s (acted P h.act.want h.act.num h.act.ending (run m h.seg P.store).store)) store
-      (act_partway m O P (acts_of m O next ws J order) ws done (serial m.programs J done O.store) (run m h.seg P.store).store i h.act h.act.want.call k b h.is_act h.none h.in_ws alone ok number);
-  bounded = acted-bounded m P h.act.want h.act.want.call h.act.num h.act.ending (run m h.seg P.store).store b ok;
+      ∙ ap (λ e. Done (acted P h.act.want h.act.num e (run m.programs h.seg P.store).store)) ending;
+  there = subst (λ s. Partway O (acts_of m O next ws J order) ws (done ++ i ∷ []) s (acted P h.act.want h.act.num h.act.ending (run m.programs h.seg P.store).store)) store
+      (act_partway m O P (acts_of m O next ws J order) ws done (serial m.programs J done O.store) (run m.programs h.seg P.store).store i h.act h.act.want.call k b h.is_act h.none h.in_ws alone ok number);
+  bounded = acted-bounded m P h.act.want h.act.want.call h.act.num h.act.ending (run m.programs h.seg P.store).store b ok;
 }
   where
     same : (P.last h.act.want.client ≡ O.last h.act.want.client) × (P.progress h.act.want.client ≡ O.progress h.act.want.client)
@@ -208,14 +208,14 @@ one_legal {B} m O next ws J order g done i P h k b = record {
     answer : answered P.served h.act.want h.act.want.call ≡ Some h.seg
     answer = ap (λ A. answered A h.act.want h.act.want.call) k.served ∙ h.answer
 
-    ending : (run m h.seg P.store).ending ≡ h.act.ending
-    ending = ap (λ s. (run m h.seg s).ending) k.store ∙ h.ending
+    ending : (run m.programs h.seg P.store).ending ≡ h.act.ending
+    ending = ap (λ s. (run m.programs h.seg s).ending) k.store ∙ h.ending
 
     number : NumberOk P h.act.ending h.act.num
     number = number_ok m O P next ws J order done (serial m.programs J done O.store) i h.act.ending h.act g k h.is_act h.none refl
 
-    store : (run m h.seg P.store).store ≡ serial m.programs J (done ++ i ∷ []) O.store
-    store = ap (λ s. (run m h.seg s).store) k.store ∙ ap (λ z. (segment m.programs z (serial m.programs J done O.store)).store) (sym h.is_seg) ∙ sym (serial-push m J done i O.store)
+    store : (run m.programs h.seg P.store).store ≡ serial m.programs J (done ++ i ∷ []) O.store
+    store = ap (λ s. (run m.programs h.seg s).store) k.store ∙ ap (λ z. (segment m.programs z (serial m.programs J done O.store)).store) (sym h.is_seg) ∙ sym (serial-push m J done i O.store)
 
     alone : (j : ℕ) (c : Act) → slice_get (acts_of m O next ws J order) j ≡ Some c → c.want.client ≡ h.act.want.client → j ≡ i
     alone j c f e = one_client ws j i c.want h.act.want g.distinct (acts_want next ws (ends_of m J order O.store) j c f).0 h.in_ws e

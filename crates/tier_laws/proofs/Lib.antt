@@ -12,6 +12,7 @@ pub mod Backs
 pub mod Logs
 pub mod Invariant
 pub mod Past
+pub mod Holding
 pub mod Ranges
 pub mod Apply
 pub mod Verdicts
@@ -24,6 +25,7 @@ pub mod BackLearn
 pub mod BackMoves
 pub mod Core
 pub mod NodeSteps
+pub mod Steps
 pub mod MidSteps
 pub mod BackSteps
 pub mod Shows

@@ -106,6 +106,17 @@ tier_cases Pay Mid = inr refl
 tier_cases Pay Inv = inr refl
 tier_cases Pay Pay = inl refl
 
+pub tier_sym : (w t : Tier) → same_tier w t ≡ false → same_tier t w ≡ false
+tier_sym Mid Mid e = e
+tier_sym Mid Inv e = e
+tier_sym Mid Pay e = e
+tier_sym Inv Mid e = e
+tier_sym Inv Inv e = e
+tier_sym Inv Pay e = e
+tier_sym Pay Mid e = e
+tier_sym Pay Inv e = e
+tier_sym Pay Pay e = e
+
 pub tier_here : {A : Type 0} (f : Tier → A) (t : Tier) (a : A) → put_tier f t a t ≡ a
 tier_here f t a = cond-true (same_tier t t) a (f t) (tier_same t)
 

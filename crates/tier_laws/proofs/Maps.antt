@@ -11,7 +11,7 @@ use Rattle.server_model.specs.declared.history.Hist.{Hist}
 use Rattle.server_model.specs.declared.history.Hist.TheVariants.{Start, Serve, Resume}
 use Rattle.exec_model.specs.declared.job.Seg.{Seg}
 use Rattle.round_model.specs.Lists.{is_some}
-use Rattle.round_model.specs.Service.{Service, is_request, run}
+use Rattle.round_model.specs.Service.{Service, is_request, run, meaning}
 use Rattle.run_model.specs.World.{put_tier}
 use Rattle.run_model.specs.Histories.{put, HistoryStep}
 
@@ -69,14 +69,14 @@ abbrev pub coded : {B : Type 0} → Server B → Tier → ℕ → Served B → S
 coded O t n b = record O { served = put_number O.served t n (Some b.code); backs = put_tier O.backs t b.state }
 
 abbrev pub serves : {B : Type 0} → Service B → Server B → Tier → ℕ → Option (List ℕ) → Option ℕ → Result (Server B)
-serves (m.backend O) Mid n text code = Refused 4
-serves (m.backend O) t n None code = Refused 4
-serves (m.backend O) t n (Some text) (Some code) = Refused 4
-serves (m.backend O) t n (Some text) None = Done (coded O t n ((m.backend t).serve (O.backs t) text))
+serves m O Mid n text code = Refused 4
+serves m O t n None code = Refused 4
+serves m O t n (Some text) (Some code) = Refused 4
+serves m O t n (Some text) None = Done (coded O t n ((m.backend t).serve (O.backs t) text))
 
 abbrev pub resumes : {B : Type 0} → Service B → Server B → ℕ → ℕ → ℕ → Progress → Option ℕ → Result (Server B)
 resumes m O c s num g None = Refused 6
-resumes m O c s num g (Some code) = ran O c s g.body num (run m (next_seg c g code) O.store).store (run m (next_seg c g code) O.store).ending
+resumes m O c s num g (Some code) = ran O c s g.body num (run m.programs (next_seg c g code) O.store).store (run m.programs (next_seg c g code) O.store).ending
 
 abbrev pub resume : {B : Type 0} → Service B → Server B → ℕ → ℕ → ℕ → Option Progress → Result (Server B)
 resume m O c s num None = Refused 5
@@ -89,11 +89,11 @@ start_at m O c s num body =
     else if not (s == suc (O.last c)) then Refused 1
     else if is_some (O.progress c) then Refused 2
     else if not (is_request m.programs (record { client = c; seq = s }) body) then Refused 3
-    else ran O c s body num (run m (first_seg c s body) O.store).store (run m (first_seg c s body) O.store).ending
+    else ran O c s body num (run m.programs (first_seg c s body) O.store).store (run m.programs (first_seg c s body) O.store).ending
 
 abbrev pub step_as : {B : Type 0} → Service B → Server B → Hist → List ℕ → Result (Server B)
 step_as m O (Start who num) body = start_at m O who.client who.seq num body
-step_as m O (Serve t n) body = serves (m.backend O) t n (O.calls t n) (O.served t n)
+step_as m O (Serve t n) body = serves m O t n (O.calls t n) (O.served t n)
 step_as m O (Resume who num) body = resume m O who.client who.seq num (O.progress who.client)
 
 abbrev pub step : {B : Type 0} → Service B → Server B → HistoryStep → Result (Server B)

@@ -16,7 +16,9 @@ use Rattle.log_model.specs.declared.fact.Fact.{Fact as LogFact}
 use Rattle.log_values.specs.declared.fact.Fact.{Fact}
 use Rattle.log_values.specs.declared.fact.Fact.TheVariants.{Held}
 use Rattle.log_values.specs.declared.any_value.AnyValue.{AnyValue}
-use Rattle.tier_laws.proofs.Codes.{Code}
+use Rattle.tier_laws.proofs.Codes.{Code, helds}
+use Rattle.server_model.specs.Server.{same_tier}
+use Rattle.tier_laws.proofs.Lists.{tier_sym}
 use Rattle.round_model.specs.Lists.{OfTiers, of_tier}
 use Rattle.round_model.specs.Service.{Service}
 use Rattle.round_model.specs.Tables.{Want, bump}
@@ -149,7 +151,7 @@ due_ready m σ s R e = go (is_due σ s) e
     go false f = absurd (cc)
 
 log_other : {B : Type 0} (c : Config B) (Q : Past B) (x : ℕ) (σ : Mid) (s : LogState AnyValue) → MidOther c Q x σ → MidOther c Q x (with_log σ s)
-log_other c Q x σ s o = record { is_after = o.is_after; tables = o.tables; pending = o.pending; tally = o.tally; spec = o.spec; held = o.held; noted = o.noted }
+log_other c Q x σ s o = record { is_after = o.is_after; tables = o.tables; pending = o.pending; tally = o.tally; in_order = o.in_order; spec = o.spec; held = o.held }
 
 pub log_move : {B : Type 0} (c : Config B) (P : Past B) (h : ℕ → List (LogFact AnyValue)) (soup : List Packet) (x : ℕ) (σ : Mid) (t : Turn AnyValue) (own : Option AnyValue) → Here c P h soup x σ → TurnOk c.u h (log_soup MidTier soup) x t → Origins c.u h x own t
     → ((v : AnyValue) → own ≡ Some v → MidOk c P (length t.state.learned) v) → MoveOk c P h soup x [] (in_log c.u c.service.programs x σ t)
@@ -158,9 +160,9 @@ log_move {B} c P h soup x σ t own k ok from fine = record {
   turn_ok = ok;
   good = λ p b w d. good p w (from.from p b w d);
   is_facts = log_facts-map t.facts;
-  is_sends = log_soup-append MidTier (log_packets MidTier x t.sends) (apply_sends c.u x (with_log σ t.state) (due_round c.service.programs σ t.state)) ∙ ap (λ z. log_soup MidTier (log_packets MidTier x t.sends) ++ z) (no_mid _ (none_apply c.u x (with_log σ t.state) (due_round c.service.programs σ t.state))) ∙ append-nil (log_soup MidTier (log_packets MidTier x t.sends)) ∙ log_soup-own MidTier x t.sends;
+  is_sends = log_soup-append MidTier (log_packets MidTier x t.sends) (apply_sends c.u x (with_log σ t.state) (due_round c.service.programs σ t.state)) ∙ ap (λ z. log_soup MidTier (log_packets MidTier x t.sends) ++ z) (no_log _ (none_apply c.u x (with_log σ t.state) (due_round c.service.programs σ t.state)) MidTier) ∙ append-nil (log_soup MidTier (log_packets MidTier x t.sends)) ∙ log_soup-own MidTier x t.sends;
   is_log = state_log (with_log σ t.state) (due_round c.service.programs σ t.state);
-  no_back = λ v. log_soup-append v (log_packets MidTier x t.sends) (apply_sends c.u x (with_log σ t.state) (due_round c.service.programs σ t.state)) ∙ ap (λ z. z ++ log_soup v (apply_sends c.u x (with_log σ t.state) (due_round c.service.programs σ t.state))) (back_soup-mid v x t.sends) ∙ no_back _ (none_apply c.u x (with_log σ t.state) (due_round c.service.programs σ t.state)) v;
+  others = λ v e. log_soup-append v (log_packets MidTier x t.sends) (apply_sends c.u x (with_log σ t.state) (due_round c.service.programs σ t.state)) ∙ ap (λ z. z ++ log_soup v (apply_sends c.u x (with_log σ t.state) (due_round c.service.programs σ t.state))) (log_soup-other v MidTier x t.sends (tier_sym v MidTier e)) ∙ no_log _ (none_apply c.u x (with_log σ t.state) (due_round c.service.programs σ t.state)) v;
   codes = λ i q e. absurd (let f : slice_get [] i ≡ Some q = subst (λ z. slice_get z i ≡ Some q) (helds-map t.facts) e in cc);
   runs = λ i r e. absurd (cc);
   later = λ Q g kn e rs.

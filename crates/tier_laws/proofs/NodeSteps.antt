@@ -1,31 +1,26 @@
 -- The steps of a node, whatever it is: M is known of a node in a mode, and E is shown with a node in the place of this one.
-use Rattle.std.proofs.Common.{◌≡◌, ℕ, Bool, true, false, cond, List, [], ◌∷◌, ◌++◌, refl, ap, ◌∙◌, subst, inl, inr, Option, Some, None, zero, suc}
+use Rattle.std.proofs.Common.{◌≡◌, ℕ, Bool, true, false, cond, List, [], ◌∷◌, ◌++◌, refl, sym, ap, ◌∙◌, subst, inl, inr, Option, Some, None, zero, suc}
 use Rattle.std.specs.Prelude.{slice_get}
-use Rattle.std.proofs.lemmas.Bool.{or_parts}
 use Rattle.log_model.specs.Recover.{newest, onto}
-use Rattle.log_model.specs.World.{Device, Mode, Node, failed, is_fine, recorded, stands}
+use Rattle.log_model.specs.Nodes.{Device, Mode, Node, is_well, or_written, failed, moved, sent, recorded, stands, crashed, found_at, restarted, up_as, up_from}
 use Rattle.log_model.specs.Nodes.Device.{Fine, CutKeep, CutDrop, Fault}
 use Rattle.log_model.specs.Nodes.Mode.{Down, Gone, Up}
 use Rattle.log_model.specs.declared.fact.Fact.{Fact as LogFact}
 use Rattle.log_model.proofs.History.{newest-push}
 use Rattle.log_values.specs.declared.any_value.AnyValue.{AnyValue}
 use Rattle.log_values.specs.declared.fact.Fact.{Fact}
-use Rattle.tier_laws.proofs.Codes.{Code}
-use Rattle.run_model.specs.World.{crashed, found_at, is_well, moved, restarted, sent, up_as, up_from}
-use Rattle.run_model.specs.declared.trace.Found.{Found}
-use Rattle.run_model.specs.declared.trace.Found.TheVariants.{Reads, Fault as Fails}
-use Rattle.tier_laws.proofs.Moves.{held_in-onto, helds}
+use Rattle.tier_laws.proofs.Codes.{Code, codes_in, codes_in-onto, helds}
 use Rattle.tier_model.proofs.Facts.{log_facts-onto}
 use Rattle.tier_laws.specs.Said.{StandsFor}
-use Rattle.tier_model.specs.Moves.{Move, Packet, held_in, log_facts}
+use Rattle.tier_model.specs.Moves.{Move, Packet, log_facts}
 
 -- ONE MORE RECORD
 
 pub newest_log : (R : List (List Fact)) (fs : List Fact) (new old : List (LogFact AnyValue)) → log_facts fs ≡ new → log_facts (newest R) ≡ old → log_facts (newest (recorded R fs)) ≡ onto new old
 newest_log R fs new old e f = ap log_facts (newest-push R fs []) ∙ log_facts-onto fs (newest R) ∙ ap (λ z. onto z (log_facts (newest R))) e ∙ ap (onto new) f
 
-pub newest_held : (R : List (List Fact)) (fs : List Fact) (old : List Code) → held_in (newest R) ≡ old → held_in (newest (recorded R fs)) ≡ old ++ helds fs
-newest_held R fs old f = ap held_in (newest-push R fs []) ∙ held_in-onto fs (newest R) ∙ ap (λ z. z ++ helds fs) f
+pub newest_held : (R : List (List Fact)) (fs : List Fact) (old : List Code) → codes_in (newest R) ≡ old → codes_in (newest (recorded R fs)) ≡ old ++ helds fs
+newest_held R fs old f = ap codes_in (newest-push R fs []) ∙ codes_in-onto fs (newest R) ∙ ap (λ z. z ++ helds fs) f
 
 -- A MOVE
 
@@ -34,20 +29,29 @@ pub record AtMove {S : Type 0} (M : Node S Fact → Mode S → Type 0) (E : Node
   pub quiet : (n : Node S Fact) → M n n.mode → E n []
   pub kept : E (stands Down (recorded node.records v.facts)) []
   pub dropped : M (stands Down node.records) Down
-  pub left_open : M (record { mode = Down; records = node.records; others = recorded node.records v.facts ∷ [] }) Down
+  pub left_open : M (record { mode = Down; records = node.records; others = or_written node.records v.facts }) Down
 
-failed_ok : {S : Type 0} (M : Node S Fact → Mode S → Type 0) (E : Node S Fact → List Packet → Type 0) (node : Node S Fact) (v : Move S) (d : Device) → AtMove M E node v → is_fine d ≡ false → E (failed node v.facts d) []
+failed_ok : {S : Type 0} (M : Node S Fact → Mode S → Type 0) (E : Node S Fact → List Packet → Type 0) (node : Node S Fact) (v : Move S) (d : Device)
+    → AtMove M E node v → is_well d v.facts ≡ false → E (failed node v.facts d) []
 failed_ok M E node v Fine k e = absurd (cc)
 failed_ok M E node v CutKeep k e = k.kept
 failed_ok M E node v CutDrop k e = k.quiet (failed node v.facts CutDrop) k.dropped
 failed_ok M E node v Fault k e = k.quiet (failed node v.facts Fault) k.left_open
 
-pub moved_ok : {S : Type 0} (M : Node S Fact → Mode S → Type 0) (E : Node S Fact → List Packet → Type 0) (node : Node S Fact) (v : Move S) (d : Device) → AtMove M E node v → E (moved node d v) (sent d v)
+pub moved_ok : {S : Type 0} (M : Node S Fact → Mode S → Type 0) (E : Node S Fact → List Packet → Type 0) (node : Node S Fact) (v : Move S) (d : Device)
+    → AtMove M E node v → E (moved node d v.state v.facts) (sent d v.facts v.sends)
 moved_ok M E node v d k = go (is_well d v.facts) refl
   where
     go : (b : Bool) → is_well d v.facts ≡ b → E (cond b (stands (Up v.state) (recorded node.records v.facts)) (failed node v.facts d)) (cond b v.sends [])
     go true e = k.well
-    go false e = failed_ok M E node v d k (or_parts (is_fine d) _ e).0
+    go false e = failed_ok M E node v d k e
+
+-- what may have been written
+pub or_written_ok : (G : List (List Fact) → Type 0) (records : List (List Fact)) (facts fs : List Fact) → fs ≡ facts → G (recorded records facts)
+    → (n : ℕ) (R : List (List Fact)) → slice_get (or_written records fs) n ≡ Some R → G R
+or_written_ok G records facts [] e k n R f = absurd (cc)
+or_written_ok G records facts (x ∷ xs) e k zero R f = let s : recorded records (x ∷ xs) ≡ R = cc in subst G s (subst (λ z. G (recorded records z)) (sym e) k)
+or_written_ok G records facts (x ∷ xs) e k (suc n) R f = absurd (cc)
 
 -- CRASH AND RESTART
 
@@ -69,13 +73,13 @@ found_ok M E recover node (suc n) k m = go (slice_get node.others n) refl
     go None e = k.same
     go (Some R) e = k.other m n R e
 
-pub restart_ok : {S : Type 0} (M : Node S Fact → Mode S → Type 0) (E : Node S Fact → Type 0) (recover : List Fact → S) (node : Node S Fact) (found : Found) (m : Mode S) → AtRestart M E recover node → M node m → E (restarted recover node found m)
-restart_ok M E recover node (Reads n) Down k l = found_ok M E recover node n k l
-restart_ok M E recover node Fails Down k l = k.same
-restart_ok M E recover node (Reads n) (Up σ) k l = k.same
-restart_ok M E recover node Fails (Up σ) k l = k.same
-restart_ok M E recover node (Reads n) Gone k l = k.same
-restart_ok M E recover node Fails Gone k l = k.same
+pub restart_ok : {S : Type 0} (M : Node S Fact → Mode S → Type 0) (E : Node S Fact → Type 0) (recover : List Fact → S) (node : Node S Fact) (found : Option ℕ) (m : Mode S) → AtRestart M E recover node → M node m → E (restarted recover node found m)
+restart_ok M E recover node (Some n) Down k l = found_ok M E recover node n k l
+restart_ok M E recover node None Down k l = k.same
+restart_ok M E recover node (Some n) (Up σ) k l = k.same
+restart_ok M E recover node None (Up σ) k l = k.same
+restart_ok M E recover node (Some n) Gone k l = k.same
+restart_ok M E recover node None Gone k l = k.same
 
 -- WHAT A DISK STANDS FOR
 

@@ -1,10 +1,10 @@
 -- What a middle node offers of its own, and what a retry sends.
 use Rattle.std.proofs.Common.{◌≡◌, ℕ, ◌+◌, ◌*◌, ◌-◌, ◌<◌, ◌≤◌, Bool, true, false, cond, List, [], ◌∷◌, ◌++◌, length, refl, sym, ap, ◌∙◌, subst, inl, inr, Option, Some, None, zero, suc, arith}
-use Rattle.std.specs.Prelude.{slice_get, ◌⊎◌, ◌&&◌, not, nat_lt, nat_le, take, drop}
-use Rattle.std.proofs.lemmas.Bool.{cond_both, cases_eq}
+use Rattle.std.specs.Prelude.{slice_get, ◌⊎◌, ◌&&◌, not, nat_lt, ◌==◌, map, take, drop}
+use Rattle.std.proofs.lemmas.Bool.{cond_both, cond-true, eq-eqb, eqb-true}
 use Rattle.std.proofs.lemmas.List.{append-nil}
 use Rattle.aeg_base.specs.declared.names.Tier.{Tier}
-use Rattle.log_model.proofs.Basics.{Every, every-append}
+use Rattle.log_model.proofs.Basics.{Every, every-append, every-weaker}
 use Rattle.log_model.proofs.Rows.{still}
 use Rattle.log_model.specs.Log.{Leader, LogState, is, nobody, open_at}
 use Rattle.log_model.specs.Rows.{lead, offer}
@@ -13,11 +13,17 @@ use Rattle.log_values.specs.declared.any_value.AnyValue.{AnyValue}
 use Rattle.log_values.specs.declared.any_value.AnyValue.TheVariants.{Mid as OfMid}
 use Rattle.log_values.specs.declared.entry.Entry.{Entry}
 use Rattle.log_values.specs.declared.mid_value.MidValue.TheVariants.{Batch, Verdict as Decided}
-use Rattle.tier_laws.proofs.Codes.{Code, code_of, insert, least_open, sorted}
+use Rattle.round_model.proofs.HeldLaws.{floor_usable, in_order}
+use Rattle.round_model.proofs.NumberedLaws.{find_below, risen}
+use Rattle.round_model.specs.Held.{HeldState, answers_of, floor, held_code, highest, usable, with_code}
+use Rattle.round_model.specs.Numbered.{find, last, rises}
+use Rattle.round_model.specs.declared.answer.Answer.{Answer}
+use Rattle.tier_laws.proofs.Lists.{some_of, tier_sym}
+use Rattle.tier_laws.proofs.Apply.{held_right}
 use Rattle.round_model.specs.Lists.{and_then, concat, each, half, is_nil, is_some, odd}
 use Rattle.round_model.specs.Service.{Service}
 use Rattle.round_model.specs.Tables.{pending_of, Parked, Tables, fresh_pending, if_fresh, is_fresh}
-use Rattle.round_model.specs.Verdicts.{verdict}
+use Rattle.round_model.specs.Verdicts.{claims_in, verdict}
 use Rattle.run_model.specs.World.{Config}
 use Rattle.server_model.specs.Server.{same_tier}
 use Rattle.tier_laws.proofs.Lists.{get_cases, take_get}
@@ -40,12 +46,10 @@ use Rattle.log_model.proofs.Rows.{lead_ok}
 use Rattle.log_model.proofs.Votes.{offer_ok}
 use Rattle.log_model.proofs.Origin.{lead_from, offer_from}
 use Rattle.log_model.proofs.Invariant.{SendOk}
-use Rattle.tier_laws.proofs.Codes.{highest}
 use Rattle.tier_laws.proofs.Moves.{log_move, stays_ok}
-use Rattle.tier_laws.proofs.Codes.{code_of-at}
 use Rattle.tier_model.specs.Mid.{in_log, call_to}
 use Rattle.tier_model.specs.Moves.{log_packets, idles}
-use Rattle.tier_model.specs.MidRows.{leads, offers, offers_as, own_cause, have_to, settle_at, usable_here, floor_here, open_calls, put_parked, by_number, again, calls_again, haves, haves_again, own_batch, own_value, retry, settle_to}
+use Rattle.tier_model.specs.MidRows.{leads, offers, offers_as, own_cause, have_to, settle_at, open_calls, put_parked, by_number, again, calls_again, haves, haves_again, own_batch, own_value, retry, settle_to}
 use Rattle.tier_model.specs.Moves.{Packet, asks}
 
 -- OWN VALUES
@@ -81,11 +85,11 @@ batch_ok {B} c P h soup x σ v k o e = go (nat_lt σ.applied (half (open_at σ.l
 pub own_ok : {B : Type 0} (c : Config B) (P : Past B) (h : ℕ → List (LogFact AnyValue)) (soup : List Packet) (x : ℕ) (σ : Mid) (v : AnyValue) → Here c P h soup x σ → own_value c.u c.service.programs σ ≡ Some v → MidOk c P (open_at σ.log) v
 own_ok {B} c P h soup x σ v k e = go (odd (open_at σ.log)) refl e
   where
-    go : (b : Bool) → odd (open_at σ.log) ≡ b → cond b (and_then (verdict c.u σ.tally (half (open_at σ.log))) (λ v. Some (OfMid (Decided v)))) (own_batch c.service.programs σ (half (open_at σ.log))) ≡ Some v → MidOk c P (open_at σ.log) v
+    go : (b : Bool) → odd (open_at σ.log) ≡ b → cond b (and_then (verdict c.u (claims_in σ.tally (half (open_at σ.log)))) (λ v. Some (OfMid (Decided v)))) (own_batch c.service.programs σ (half (open_at σ.log))) ≡ Some v → MidOk c P (open_at σ.log) v
     go true o f =
-        let p = then_parts (verdict c.u σ.tally (half (open_at σ.log))) (λ v. Some (OfMid (Decided v))) v f in
+        let p = then_parts (verdict c.u (claims_in σ.tally (half (open_at σ.log)))) (λ v. Some (OfMid (Decided v))) v f in
         let s : OfMid (Decided p.0) ≡ v = let g = p.2 in cc in
-        subst (MidOk c P (open_at σ.log)) s (o, verdict_ok c P σ.tally (half (open_at σ.log)) p.0 k.known (record { at = k.other.tally }) p.1)
+        subst (MidOk c P (open_at σ.log)) s (o, verdict_ok c P (claims_in σ.tally (half (open_at σ.log))) (half (open_at σ.log)) p.0 k.known (record { at = k.other.tally (half (open_at σ.log)) }) p.1)
     go false o f = batch_ok c P h soup x σ v k o f
 
 -- the offer leaves what is learned
@@ -98,9 +102,9 @@ offer_learned {V} u x log (Some l) own = grind arith
 abbrev IsCall : {B : Type 0} → Past B → Parked → Type 0
 IsCall Q p = Q.server.calls p.tier p.num ≡ Some p.text
 
-open_every : (G : Parked → Type 0) (held : List Code) (t : Tier) (ps : List Parked) → Every G ps → Every G (open_calls held t ps)
+open_every : (G : Parked → Type 0) (held : HeldState) (t : Tier) (ps : List Parked) → Every G ps → Every G (open_calls held t ps)
 open_every G held t [] e = tt
-open_every G held t (p ∷ ps) e = cond_both (same_tier p.tier t && not (is_some (code_of held p.tier p.num))) (p ∷ open_calls held t ps) (open_calls held t ps) (Every G) (λ f. (e.0, open_every G held t ps e.1)) (λ f. open_every G held t ps e.1)
+open_every G held t (p ∷ ps) e = cond_both (same_tier p.tier t && not (is_some (held_code held p.tier p.num))) (p ∷ open_calls held t ps) (open_calls held t ps) (Every G) (λ f. (e.0, open_every G held t ps e.1)) (λ f. open_every G held t ps e.1)
 
 put_every : (G : Parked → Type 0) (p : Parked) (ps : List Parked) → G p → Every G ps → Every G (put_parked p ps)
 put_every G p [] g e = (g, tt)
@@ -119,53 +123,40 @@ calls_none : (u x : ℕ) (ps : List Parked) → NoLog (calls_again u x ps)
 calls_none u x [] = none_nil
 calls_none u x (p ∷ ps) = none_append (calls_to u x p.tier p.num p.text) (calls_again u x ps) (none_each (2 * u + 1) nobody (call_to x p.tier p.num p.text) (λ y. record { all = λ v. refl })) (calls_none u x ps)
 
--- codes that are kept in a sorted list
-insert_every : (G : Code → Type 0) (k : Code) (ks : List Code) → G k → Every G ks → Every G (insert k ks)
-insert_every G k [] g e = (g, tt)
-insert_every G k (d ∷ ds) g e = cond_both (nat_le k.num d.num) (k ∷ d ∷ ds) (d ∷ insert k ds) (Every G) (λ f. (g, (e.0, e.1))) (λ f. (e.0, insert_every G k ds g e.1))
-
-pub sorted_every : (G : Code → Type 0) (t : Tier) (ks : List Code) → Every G ks → Every G (sorted t ks)
-sorted_every G t [] e = tt
-sorted_every G t (k ∷ ks) e = cond_both (same_tier k.tier t) (insert k (sorted t ks)) (sorted t ks) (Every G) (λ f. insert_every G k (sorted t ks) e.0 (sorted_every G t ks e.1)) (λ f. sorted_every G t ks e.1)
-
 drop_every : {A : Type 0} (G : A → Type 0) (n : ℕ) (xs : List A) → Every G xs → Every G (drop n xs)
 drop_every G zero xs e = e
 drop_every G (suc n) [] e = tt
 drop_every G (suc n) (x ∷ xs) e = drop_every G n xs e.1
 
-pub highest_every : (G : Code → Type 0) (t : Tier) (ks : List Code) → Every G ks → Every G (highest t ks)
-highest_every G t ks e = drop_every G (length (sorted t ks) - 16) (sorted t ks) (sorted_every G t ks e)
+map_every : {A C : Type 0} (G : C → Type 0) (f : A → C) (xs : List A) → Every (λ a. G (f a)) xs → Every G (map f xs)
+map_every G f [] e = tt
+map_every G f (x ∷ xs) e = (e.0, map_every G f xs e.1)
 
 pub every_from : {A : Type 0} (G : A → Type 0) (xs : List A) → ((i : ℕ) (a : A) → slice_get xs i ≡ Some a → G a) → Every G xs
 every_from G [] k = tt
 every_from G (x ∷ xs) k = (k 0 x refl, every_from G xs (λ i a e. k (suc i) a e))
 
-abbrev HaveOk : {B : Type 0} → Past B → ℕ → Code → Type 0
-HaveOk Q x k = (Q.server.served k.tier k.num ≡ Some k.code) × (holds Q k.tier k.num x ≡ true)
+-- an answer of the tier, by number and code
+abbrev HaveOk : {B : Type 0} → Past B → ℕ → Tier → ℕ × ℕ → Type 0
+HaveOk Q x t e = (Q.server.served t e.0 ≡ Some e.1) × (holds Q t e.0 x ≡ true)
 
-haves_ok : {B : Type 0} (c : Config B) (Q : Past B) (x : ℕ) (ks : List Code) → Every (HaveOk Q x) ks → Every (SentOk c Q) (haves_again c.u x ks)
-haves_ok c Q x [] e = tt
-haves_ok c Q x (k ∷ ks) e = every-append (SentOk c Q) (haves c.u x k.tier k.num k.code) (haves_again c.u x ks) (every-each (SentOk c Q) (2 * c.u + 1) (is x) (have_to x k.tier k.num k.code) (λ y. e.0)) (haves_ok c Q x ks e.1)
+haves_ok : {B : Type 0} (c : Config B) (Q : Past B) (x : ℕ) (t : Tier) (es : List (ℕ × ℕ)) → Every (HaveOk Q x t) es → Every (SentOk c Q) (haves_again c.u x t es)
+haves_ok c Q x t [] k = tt
+haves_ok c Q x t (e ∷ es) k = every-append (SentOk c Q) (haves c.u x t e.0 e.1) (haves_again c.u x t es) (every-each (SentOk c Q) (2 * c.u + 1) (is x) (have_to x t e.0 e.1) (λ y. k.0)) (haves_ok c Q x t es k.1)
 
-haves_none : (u x : ℕ) (ks : List Code) → NoLog (haves_again u x ks)
-haves_none u x [] = none_nil
-haves_none u x (k ∷ ks) = none_append (haves u x k.tier k.num k.code) (haves_again u x ks) (none_each (2 * u + 1) (is x) (have_to x k.tier k.num k.code) (λ y. record { all = λ v. refl })) (haves_none u x ks)
+haves_none : (u x : ℕ) (t : Tier) (es : List (ℕ × ℕ)) → NoLog (haves_again u x t es)
+haves_none u x t [] = none_nil
+haves_none u x t (e ∷ es) = none_append (haves u x t e.0 e.1) (haves_again u x t es) (none_each (2 * u + 1) (is x) (have_to x t e.0 e.1) (λ y. record { all = λ v. refl })) (haves_none u x t es)
 
--- all numbers below the floor are usable
-least_below : (A : Tier → ℕ → Option ℕ) (t : Tier) (k n i : ℕ) → n ≤ i → i < least_open A t k n → (code : ℕ) × (A t i ≡ Some code)
-least_below A t zero n i a b = absurd (omega arith)
-least_below A t (suc k) n i a b = go (A t n) refl b (cases_eq i n) (least_below A t k (suc n) i)
-  where
-    go : (o : Option ℕ) → A t n ≡ o → i < cond (is_some (A t n)) (least_open A t k (suc n)) n → (i ≡ n) ⊎ (i ≡ n → ⊥) → (suc n ≤ i → i < least_open A t k (suc n) → (code : ℕ) × (A t i ≡ Some code)) → (code : ℕ) × (A t i ≡ Some code)
-    go None e f g r = absurd (let q : i < n = rw e at f in omega arith)
-    go (Some code) e f (inl g) r = (code, ap (A t) g ∙ e)
-    go (Some code) e f (inr g) r = let q : i < least_open A t k (suc n) = rw e at f in r (omega arith) q
-
-pub floor_ok : {B : Type 0} (c : Config B) (Q : Past B) (x : ℕ) (σ : Mid) (t : Tier) → Known c Q → MidOther c Q x σ → FloorOk c Q t (floor_here c.u x σ t)
-floor_ok c Q x σ t k o = record {
-  served = λ n a b. let q = least_below (usable_here c.u x σ) t (length σ.held) 1 n (omega arith) b in (q.0, (usable_ok c Q x σ t n q.0 k o q.1).0);
-  many = λ n a b. let q = least_below (usable_here c.u x σ) t (length σ.held) 1 n (omega arith) b in (usable_ok c Q x σ t n q.0 k o q.1).1;
+-- the floor of what is held
+pub floor_ok : {B : Type 0} (c : Config B) (Q : Past B) (x : ℕ) (σ : Mid) (t : Tier) → Known c Q → MidOther c Q x σ → FloorOk c Q t (floor σ.held t)
+floor_ok {B} c Q x σ t k o = record {
+  served = λ n a b. let q = at n a b in (q.0, (usable_ok c Q x σ t n q.0 k o q.1).0);
+  many = λ n a b. let q = at n a b in (usable_ok c Q x σ t n q.0 k o q.1).1;
 }
+  where
+    at : (n : ℕ) → 0 < n → n < floor σ.held t → (code : ℕ) × (usable σ.held t n ≡ Some code)
+    at n a b = some_of (usable σ.held t n) (floor_usable σ.held t n (omega arith) b)
 
 settle_ok : {B : Type 0} (c : Config B) (Q : Past B) (x : ℕ) (t : Tier) (g : ℕ) → FloorOk c Q t g → Every (SentOk c Q) (settle_to c.u x t g)
 settle_ok c Q x t g k = cond_both (nat_lt 1 g) (each (2 * c.u + 1) nobody (settle_at x t g)) [] (Every (SentOk c Q)) (λ e. every-each (SentOk c Q) (2 * c.u + 1) nobody (settle_at x t g) (λ y. k)) (λ e. tt)
@@ -173,26 +164,47 @@ settle_ok c Q x t g k = cond_both (nat_lt 1 g) (each (2 * c.u + 1) nobody (settl
 settle_none : (u x : ℕ) (t : Tier) (g : ℕ) → NoLog (settle_to u x t g)
 settle_none u x t g = cond_both (nat_lt 1 g) (each (2 * u + 1) nobody (settle_at x t g)) [] NoLog (λ e. none_each (2 * u + 1) nobody (settle_at x t g) (λ y. record { all = λ v. refl })) (λ e. none_nil)
 
-held_have : {B : Type 0} (c : Config B) (Q : Past B) (x : ℕ) (σ : Mid) → Known c Q → MidOther c Q x σ → Every (HaveOk Q x) σ.held
-held_have c Q x σ k o = every_from (HaveOk Q x) σ.held (λ i q e.
-    let f : slice_get (Q.codes MidTier x) i ≡ Some q = subst (λ z. slice_get z i ≡ Some q) o.held e in
-    (k.codes x i q f, code_of-at (Q.codes MidTier x) i q f))
+-- each entry of a table in order is found
+find_at : {A : Type 0} (m : ℕ) (es : List (ℕ × A)) (i : ℕ) (e : ℕ × A) → rises m es ≡ true → slice_get es i ≡ Some e → find es e.0 ≡ Some e.1
+find_at m [] i e h f = absurd (cc)
+find_at {A} m (d ∷ es) zero e h f =
+    let s : d ≡ e = cc in
+    subst (λ (z : ℕ × A). find (d ∷ es) z.0 ≡ Some z.1) s (cond-true (d.0 == d.0) (Some d.1) (find es d.0) (eq-eqb d.0 d.0 refl))
+find_at {A} m (d ∷ es) (suc i) e h f = go (d.0 == e.0) refl (find_at (suc d.0) es i e (risen m d es h).rest f)
+  where
+    go : (b : Bool) → (d.0 == e.0) ≡ b → find es e.0 ≡ Some e.1 → cond b (Some d.1) (find es e.0) ≡ Some e.1
+    go true g r =
+        let none : find es d.0 ≡ None = find_below (suc d.0) es d.0 (risen m d es h).rest (omega arith) in
+        absurd (let k : find es e.0 ≡ None = subst (λ z. find es z ≡ None) (eqb-true d.0 e.0 g) none in cc)
+    go false g r = r
+
+pub entries : {A : Type 0} (m : ℕ) (es : List (ℕ × A)) → rises m es ≡ true → Every (λ (e : ℕ × A). find es e.0 ≡ Some e.1) es
+entries m es h = every_from (λ e. find es e.0 ≡ Some e.1) es (λ i e f. find_at m es i e h f)
+
+held_have : {B : Type 0} (c : Config B) (Q : Past B) (x : ℕ) (σ : Mid) (t : Tier) → Known c Q → MidOther c Q x σ → Every (HaveOk Q x t) (highest σ.held t)
+held_have {B} c Q x σ t k o = map_every (HaveOk Q x t) with_code (last 16 (answers_of σ.held t)) (drop_every (λ e. HaveOk Q x t (with_code e)) (length (answers_of σ.held t) - 16) (answers_of σ.held t)
+    (every-weaker (λ (e : ℕ × Answer). find (answers_of σ.held t) e.0 ≡ Some e.1) (λ e. HaveOk Q x t (with_code e)) have (answers_of σ.held t) (entries 0 (answers_of σ.held t) (in_order σ.held t o.held.in_order))))
+  where
+    have : (e : ℕ × Answer) → find (answers_of σ.held t) e.0 ≡ Some e.1 → HaveOk Q x t (with_code e)
+    have e f =
+        let g : held_code σ.held t e.0 ≡ Some e.1.code = ap (λ z. and_then z (λ (q : Answer). Some q.code)) f in
+        ((held_right c Q x σ k o).at t e.0 e.1.code g, ap is_some (sym (o.held.codes t e.0)) ∙ ap is_some g)
 
 again_ok : {B : Type 0} (c : Config B) (Q : Past B) (x : ℕ) (σ : Mid) → Known c Q → MidOther c Q x σ → Every (SentOk c Q) (again c.u x σ)
 again_ok c Q x σ k o =
     every-append (SentOk c Q) (calls_again c.u x (by_number (open_calls σ.held Inv (concat σ.tables.queue)))) _ (calls_ok c Q x (by_number (open_calls σ.held Inv (concat σ.tables.queue))) (number_every (IsCall Q) (open_calls σ.held Inv (concat σ.tables.queue)) (open_every (IsCall Q) σ.held Inv (concat σ.tables.queue) (every_from (IsCall Q) (concat σ.tables.queue) o.tables.parked))))
     (every-append (SentOk c Q) (calls_again c.u x (by_number (open_calls σ.held Pay (concat σ.tables.queue)))) _ (calls_ok c Q x (by_number (open_calls σ.held Pay (concat σ.tables.queue))) (number_every (IsCall Q) (open_calls σ.held Pay (concat σ.tables.queue)) (open_every (IsCall Q) σ.held Pay (concat σ.tables.queue) (every_from (IsCall Q) (concat σ.tables.queue) o.tables.parked))))
-    (every-append (SentOk c Q) (haves_again c.u x (highest Inv σ.held)) _ (haves_ok c Q x (highest Inv σ.held) (highest_every (HaveOk Q x) Inv σ.held (held_have c Q x σ k o)))
-    (every-append (SentOk c Q) (haves_again c.u x (highest Pay σ.held)) _ (haves_ok c Q x (highest Pay σ.held) (highest_every (HaveOk Q x) Pay σ.held (held_have c Q x σ k o)))
-    (every-append (SentOk c Q) (settle_to c.u x Inv (floor_here c.u x σ Inv)) _ (settle_ok c Q x Inv (floor_here c.u x σ Inv) (floor_ok c Q x σ Inv k o)) (settle_ok c Q x Pay (floor_here c.u x σ Pay) (floor_ok c Q x σ Pay k o))))))
+    (every-append (SentOk c Q) (haves_again c.u x Inv (highest σ.held Inv)) _ (haves_ok c Q x Inv (highest σ.held Inv) (held_have c Q x σ Inv k o))
+    (every-append (SentOk c Q) (haves_again c.u x Pay (highest σ.held Pay)) _ (haves_ok c Q x Pay (highest σ.held Pay) (held_have c Q x σ Pay k o))
+    (every-append (SentOk c Q) (settle_to c.u x Inv (floor σ.held Inv)) _ (settle_ok c Q x Inv (floor σ.held Inv) (floor_ok c Q x σ Inv k o)) (settle_ok c Q x Pay (floor σ.held Pay) (floor_ok c Q x σ Pay k o))))))
 
 again_none : (u x : ℕ) (σ : Mid) → NoLog (again u x σ)
 again_none u x σ =
     none_append (calls_again u x (by_number (open_calls σ.held Inv (concat σ.tables.queue)))) _ (calls_none u x (by_number (open_calls σ.held Inv (concat σ.tables.queue))))
     (none_append (calls_again u x (by_number (open_calls σ.held Pay (concat σ.tables.queue)))) _ (calls_none u x (by_number (open_calls σ.held Pay (concat σ.tables.queue))))
-    (none_append (haves_again u x (highest Inv σ.held)) _ (haves_none u x (highest Inv σ.held))
-    (none_append (haves_again u x (highest Pay σ.held)) _ (haves_none u x (highest Pay σ.held))
-    (none_append (settle_to u x Inv (floor_here u x σ Inv)) _ (settle_none u x Inv (floor_here u x σ Inv)) (settle_none u x Pay (floor_here u x σ Pay))))))
+    (none_append (haves_again u x Inv (highest σ.held Inv)) _ (haves_none u x Inv (highest σ.held Inv))
+    (none_append (haves_again u x Pay (highest σ.held Pay)) _ (haves_none u x Pay (highest σ.held Pay))
+    (none_append (settle_to u x Inv (floor σ.held Inv)) _ (settle_none u x Inv (floor σ.held Inv)) (settle_none u x Pay (floor σ.held Pay))))))
 
 pub retry_ok : {B : Type 0} (c : Config B) (P : Past B) (h : ℕ → List (LogFact AnyValue)) (soup : List Packet) (x : ℕ) (σ : Mid) → Here c P h soup x σ → MoveOk c P h soup x [] (retry c.u x σ)
 retry_ok {B} c P h soup x σ k = record {
@@ -200,9 +212,9 @@ retry_ok {B} c P h soup x σ k = record {
   turn_ok = still c.u h (log_soup MidTier soup) x σ.log σ.log (asks c.u x (open_at σ.log)) None (knows c P h soup x σ k) k.log (λ g same m. every-each (SendOk c.u g (log_soup MidTier soup) x) (2 * c.u + 1) (is x) (λ y. (y, Ask (open_at σ.log))) (λ y. tt));
   good = λ p b w d. k.good x k.inside p b w d;
   is_facts = refl;
-  is_sends = log_soup-append MidTier (log_packets MidTier x (asks c.u x (open_at σ.log))) (again c.u x σ) ∙ ap (λ z. log_soup MidTier (log_packets MidTier x (asks c.u x (open_at σ.log))) ++ z) (no_mid _ (again_none c.u x σ)) ∙ append-nil (log_soup MidTier (log_packets MidTier x (asks c.u x (open_at σ.log)))) ∙ log_soup-own MidTier x (asks c.u x (open_at σ.log));
+  is_sends = log_soup-append MidTier (log_packets MidTier x (asks c.u x (open_at σ.log))) (again c.u x σ) ∙ ap (λ z. log_soup MidTier (log_packets MidTier x (asks c.u x (open_at σ.log))) ++ z) (no_log _ (again_none c.u x σ) MidTier) ∙ append-nil (log_soup MidTier (log_packets MidTier x (asks c.u x (open_at σ.log)))) ∙ log_soup-own MidTier x (asks c.u x (open_at σ.log));
   is_log = refl;
-  no_back = λ v. log_soup-append v (log_packets MidTier x (asks c.u x (open_at σ.log))) (again c.u x σ) ∙ ap (λ z. z ++ log_soup v (again c.u x σ)) (back_soup-mid v x (asks c.u x (open_at σ.log))) ∙ no_back _ (again_none c.u x σ) v;
+  others = λ v e. log_soup-append v (log_packets MidTier x (asks c.u x (open_at σ.log))) (again c.u x σ) ∙ ap (λ z. z ++ log_soup v (again c.u x σ)) (log_soup-other v MidTier x (asks c.u x (open_at σ.log)) (tier_sym v MidTier e)) ∙ no_log _ (again_none c.u x σ) v;
   codes = λ i q e. absurd (cc);
   runs = λ i r e. absurd (cc);
   later = λ Q g kn e rs.

@@ -1,13 +1,15 @@
 -- What is said of packets, values, votes and states: facts of a past that only grows.
 pub use Rattle.tier_laws.proofs.Invariant.Past.{Past, holds, Grows}
-pub use Rattle.tier_laws.proofs.Invariant.ValuesAreGood.{Submitted, BatchOk, MidOk, BackOk}
+pub use Rattle.tier_laws.proofs.Invariant.ValuesAreGood.{Submitted, BatchOk, MidOk, BackOk, ValueOk}
 pub use Rattle.tier_laws.proofs.Invariant.VerdictsHaveCauses.{DidRun, RunOk, has_run, VerdictBy, VerdictOk}
 pub use Rattle.tier_laws.proofs.Invariant.FloorsAreHeld.{ManyHold, FloorOk, JobHeld}
 pub use Rattle.tier_laws.proofs.Invariant.PacketsAreTrue.{SentBy, SentOk}
-pub use Rattle.tier_laws.proofs.Invariant.MiddleNodes.{MidOther}
-use Rattle.std.proofs.Common.{◌≡◌, ℕ, ◌+◌, ◌*◌, ◌<◌, List, length, sym, ◌∙◌, Some, arith}
+pub use Rattle.tier_laws.proofs.Invariant.MiddleNodes.{MidOther, HeldOk, vote_by}
+use Rattle.std.proofs.Common.{◌≡◌, ℕ, ◌+◌, ◌*◌, ◌<◌, List, length, sym, ap, ◌∙◌, Some, arith}
 use Rattle.std.specs.Prelude.{slice_get}
 use Rattle.aeg_base.specs.declared.names.Tier.{Tier}
+use Rattle.aeg_base.specs.declared.names.Tier.TheVariants.{Mid as MidTier, Inv, Pay}
+use Rattle.round_model.specs.Held.{HeldState}
 use Rattle.log_model.proofs.Basics.{Every, count-more, every-weaker}
 use Rattle.log_values.specs.declared.any_value.AnyValue.{AnyValue}
 use Rattle.log_values.specs.declared.any_value.AnyValue.TheVariants.{Back as OfBack, Mid as OfMid}
@@ -17,7 +19,7 @@ use Rattle.log_values.specs.declared.mid_value.MidValue.TheVariants.{Batch, Verd
 use Rattle.log_values.specs.declared.mid_value.Verdict.{Verdict}
 use Rattle.log_values.specs.declared.mid_value.Verdict.TheVariants.{Commit, Serial}
 use Rattle.round_model.specs.After.{Round, round}
-use Rattle.tier_laws.proofs.Codes.{Code}
+use Rattle.tier_laws.proofs.Codes.{Code, code_of}
 use Rattle.round_model.specs.Lists.{half}
 use Rattle.aeg_base.specs.declared.names.End.{End}
 use Rattle.frames.specs.declared.message.Msg.{Msg}
@@ -101,17 +103,31 @@ sent-more c P Q k g o = sent_by-more c P Q k.from k.to k.message g o
 pub parcels-more : {B : Type 0} (c : Config B) (P Q : Past B) (ks : List Packet) → Grows P Q → Every (SentOk c P) ks → Every (SentOk c Q) ks
 parcels-more c P Q ks g e = every-weaker (SentOk c P) (SentOk c Q) (λ k o. sent-more c P Q k g o) ks e
 
+pub value_ok-more : {B : Type 0} (c : Config B) (P Q : Past B) (t : Tier) (p : ℕ) (v : AnyValue) → Grows P Q → ValueOk c P t p v → ValueOk c Q t p v
+value_ok-more c P Q MidTier p v g k = mid_ok-more c P Q p v g k
+value_ok-more c P Q Inv p v g k = back_ok-more c P Q Inv p v g k
+value_ok-more c P Q Pay p v g k = back_ok-more c P Q Pay p v g k
+
 -- A MIDDLE NODE'S STATE, BESIDE ITS LOG
+
+pub held-more : {B : Type 0} (c : Config B) (P Q : Past B) (x : ℕ) (H : HeldState) → Grows P Q → Q.codes MidTier x ≡ P.codes MidTier x → HeldOk c P x H → HeldOk c Q x H
+held-more c P Q x H g e k = record {
+  faults = k.faults;
+  me = k.me;
+  in_order = k.in_order;
+  codes = λ t n. k.codes t n ∙ ap (λ z. code_of z t n) (sym e);
+  noted = λ y t n f. g.held y t n (k.noted y t n f);
+}
 
 pub other-more : {B : Type 0} (c : Config B) (P Q : Past B) (x : ℕ) (σ : Mid) → Grows P Q → Q.codes MidTier x ≡ P.codes MidTier x → MidOther c P x σ → MidOther c Q x σ
 other-more c P Q x σ g e k = record {
   is_after = after-more c.service c.depth P.log Q.log P.server.served Q.server.served σ.applied σ.tables g.log (answers-kept P.server Q.server g.kept) k.is_after;
   tables = tables-kept P.server Q.server σ.tables g.kept k.tables;
   pending = λ y e f. submitted-more P Q e g (k.pending y e f);
-  tally = λ i v f. run-more P Q v g (k.tally i v f);
+  tally = λ r y q f. run-more P Q (vote_by r y q) g (k.tally r y q f);
+  in_order = k.in_order;
   spec = λ v f. run-more P Q v g (k.spec v f);
-  held = k.held ∙ sym e;
-  noted = λ i k2 f. g.held k2.from k2.tier k2.num (k.noted i k2 f);
+  held = held-more c P Q x σ.held g e k.held;
 }
 
 -- what is known of the past, whatever the nodes
@@ -120,4 +136,4 @@ pub record Known {B : Type 0} (c : Config B) (P : Past B) : Type 0 where
   pub values : (p : ℕ) (v : AnyValue) → slice_get P.log p ≡ Some v → MidOk c P p v
   pub decided : (r : ℕ) → r < half (length P.log) → Decision c.service c.depth P.log P.server r
   pub runs : (i : ℕ) (v : Vote) → slice_get P.runs i ≡ Some v → RunOk c P v
-  pub codes : (x i : ℕ) (k : Code) → slice_get (P.codes MidTier x) i ≡ Some k → P.server.served k.tier k.num ≡ Some k.code
+  pub codes : (t : Tier) (x i : ℕ) (k : Code) → slice_get (P.codes t x) i ≡ Some k → P.server.served k.tier k.num ≡ Some k.code

@@ -23,7 +23,7 @@ use Rattle.server_model.specs.declared.history.Told.TheVariants.{Replied}
 use Rattle.server_model.specs.declared.progress.Progress.{Progress as Waiting}
 use Rattle.log_values.specs.declared.entry.Entry.{Entry}
 use Rattle.round_model.specs.Lists.{is_some}
-use Rattle.round_model.specs.Service.{Service, is_request, run}
+use Rattle.round_model.specs.Service.{Service, is_request, run, meaning}
 use Rattle.round_model.specs.Tables.{who_of}
 use Rattle.run_model.specs.World.{Config, World}
 use Rattle.run_model.specs.Histories.{put, HistoryStep}
@@ -227,10 +227,10 @@ made : {B : Type 0} (O P : Server B) (h : Hist) (asked : ReqId) (c n : ℕ) → 
 made O P h asked c n newer own leaves = record { leaves = leaves; other = λ k f. omega (arith, newer k (ap (λ (z : ReqId). z.client) (own f)), ap (λ (z : ReqId). z.seq) (own f)) }
 
 start_made : {B : Type 0} (m : Service B) (O P : Server B) (asked : ReqId) (num : ℕ) (body : List ℕ) (c n : ℕ) → start_at m O asked.client asked.seq num body ≡ Done P → Made O P (Start asked num) c n
-start_made {B} m O P asked num body c n e = made O P (Start asked num) asked c n newer (λ f. f) (ran_leaves O P asked.client asked.seq body num (run m (first_seg asked.client asked.seq body) O.store).store (run m (first_seg asked.client asked.seq body) O.store).ending c n newer four.1)
+start_made {B} m O P asked num body c n e = made O P (Start asked num) asked c n newer (λ f. f) (ran_leaves O P asked.client asked.seq body num (run m.programs (first_seg asked.client asked.seq body) O.store).store (run m.programs (first_seg asked.client asked.seq body) O.store).ending c n newer four.1)
   where
     last_row : Result (Server B)
-    last_row = ran O asked.client asked.seq body num (run m (first_seg asked.client asked.seq body) O.store).store (run m (first_seg asked.client asked.seq body) O.store).ending
+    last_row = ran O asked.client asked.seq body num (run m.programs (first_seg asked.client asked.seq body) O.store).store (run m.programs (first_seg asked.client asked.seq body) O.store).ending
 
     row3 : Result (Server B)
     row3 = cond (not (is_request m.programs (record { client = asked.client; seq = asked.seq }) body)) (Refused 3) last_row
@@ -275,7 +275,7 @@ resume_made {B} m O P asked num c n (Some g) f e = made O P (Resume asked num) a
 
     leaves : (a : Option ℕ) → resumes m O asked.client asked.seq num g a ≡ Done P → Leaves O P c n
     leaves None h = absurd (cc)
-    leaves (Some code) h = ran_leaves O P asked.client asked.seq g.body num (run m (next_seg asked.client g code) O.store).store (run m (next_seg asked.client g code) O.store).ending c n newer h
+    leaves (Some code) h = ran_leaves O P asked.client asked.seq g.body num (run m.programs (next_seg asked.client g code) O.store).store (run m.programs (next_seg asked.client g code) O.store).ending c n newer h
 
 step_made : {B : Type 0} (m : Service B) (O P : Server B) (h : Hist) (body : List ℕ) (c n : ℕ) → step_as m O h body ≡ Done P → Made O P h c n
 step_made m O P (Start asked num) body c n e = start_made m O P asked num body c n e

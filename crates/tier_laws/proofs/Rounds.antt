@@ -45,23 +45,23 @@ ran_done O w k store (Reply text) n = rw n refl
 ran_done O w k store (Call t stage text) n = rw (ne_eqb k 0 (omega arith), n.1) refl
 
 start_done : {B : Type 0} (m : Service B) (O : Server B) (c s : ℕ) (body : List ℕ) (k : ℕ) → s ≡ suc (O.last c) → O.progress c ≡ None → is_request m.programs (record { client = c; seq = s }) body ≡ true → c < 17
-    → step m O (Start (record { client = c; seq = s }) k, body) ≡ ran O c s body k (run m (first_seg c s body) O.store).store (run m (first_seg c s body) O.store).ending
+    → step m O (Start (record { client = c; seq = s }) k, body) ≡ ran O c s body k (run m.programs (first_seg c s body) O.store).store (run m.programs (first_seg c s body) O.store).ending
 start_done m O c s body k e f g l = rw (lt-ltb c 17 l, eq-eqb s (suc (O.last c)) e, f, g) refl
 
 resume_done : {B : Type 0} (m : Service B) (O : Server B) (c s k : ℕ) (g : Progress) (code : ℕ) → O.progress c ≡ Some g → g.seq ≡ s → O.served g.tier g.num ≡ Some code
-    → step m O (Resume (record { client = c; seq = s }) k, []) ≡ ran O c s g.body k (run m (next_seg c g code) O.store).store (run m (next_seg c g code) O.store).ending
+    → step m O (Resume (record { client = c; seq = s }) k, []) ≡ ran O c s g.body k (run m.programs (next_seg c g code) O.store).store (run m.programs (next_seg c g code) O.store).ending
 resume_done m O c s k g code e f h = rw (e, eq-eqb g.seq s f, h) refl
 
-pub act_done : {B : Type 0} (m : Service B) (O : Server B) (w : Want) (q : Option Number) (k : ℕ) (j : Seg) → WantOk m O w q → answered O.served w q ≡ Some j → NumberOk O (run m j O.store).ending k
-    → step m O (step_for w q k) ≡ Done (acted O w k (run m j O.store).ending (run m j O.store).store)
+pub act_done : {B : Type 0} (m : Service B) (O : Server B) (w : Want) (q : Option Number) (k : ℕ) (j : Seg) → WantOk m O w q → answered O.served w q ≡ Some j → NumberOk O (run m.programs j O.store).ending k
+    → step m O (step_for w q k) ≡ Done (acted O w k (run m.programs j O.store).ending (run m.programs j O.store).store)
 act_done m O w None k j o a n =
     let s : first_seg w.client w.seq w.body ≡ j = (λ i. record { who = record { client = w.client; seq = w.seq }; body = w.body; stage = sym o.3 i; answer = None }) ∙ cc in
-    start_done m O w.client w.seq w.body k o.0 o.1 o.2 o.4 ∙ ap (λ z. ran O w.client w.seq w.body k (run m z O.store).store (run m z O.store).ending) s ∙ ran_done O w k (run m j O.store).store (run m j O.store).ending n
+    start_done m O w.client w.seq w.body k o.0 o.1 o.2 o.4 ∙ ap (λ z. ran O w.client w.seq w.body k (run m.programs z O.store).store (run m.programs z O.store).ending) s ∙ ran_done O w k (run m.programs j O.store).store (run m.programs j O.store).ending n
 act_done m O w (Some c) k j o a n =
     let p = then_parts (O.served c.tier c.num) (λ code. Some (as_seg w (Some code))) j a in
     let s : next_seg w.client (record { seq = w.seq; body = w.body; stage = w.stage; tier = c.tier; num = c.num }) p.0 ≡ j = cc in
     resume_done m O w.client w.seq k (record { seq = w.seq; body = w.body; stage = w.stage; tier = c.tier; num = c.num }) p.0 o.1 refl p.1
-    ∙ ap (λ z. ran O w.client w.seq w.body k (run m z O.store).store (run m z O.store).ending) s ∙ ran_done O w k (run m j O.store).store (run m j O.store).ending n
+    ∙ ap (λ z. ran O w.client w.seq w.body k (run m.programs z O.store).store (run m.programs z O.store).ending) s ∙ ran_done O w k (run m.programs j O.store).store (run m.programs j O.store).ending n
 
 -- WHAT IS DONE SO FAR
 

@@ -20,7 +20,7 @@ use Rattle.server_model.specs.declared.history.Hist.TheVariants.{Start, Serve, R
 use Rattle.server_model.specs.declared.history.Told.{Told}
 use Rattle.server_model.specs.declared.history.Told.TheVariants.{Replied, Called, Answered}
 use Rattle.round_model.specs.Lists.{is_some}
-use Rattle.round_model.specs.Service.{Service, row_of, run}
+use Rattle.round_model.specs.Service.{Service, row_of, run, meaning}
 use Rattle.run_model.specs.Histories.{put, HistoryStep}
 use Rattle.tier_laws.proofs.Maps.{Progress, Server, Result, put_number, replied, called, ran, next_seg, coded, serves, resumes, resume, start_at, step_as, step, empty_server, result_or, IsDone, server_from, LegalFrom, Legal}
 use Rattle.tier_laws.proofs.Maps.Result.{Refused, Done}
@@ -244,7 +244,7 @@ inside m O s c g k e = go (cases_lt c 17)
     go (inr l) = absurd (let h = k.outside c l in cc)
 
 resumed_shows : {B : Type 0} (m : Service B) (O P : Server B) (s : real.Server B) (who : ReqId) (num : ℕ) (g : Progress) (code : ℕ) → ((body : List ℕ) (stage : ℕ) → GoesOn (m.programs.table who body stage) (m.programs.table who body)) → Shows m O s → O.progress who.client ≡ Some g → g.seq ≡ who.seq → O.served g.tier g.num ≡ Some code
-    → ran O who.client who.seq g.body num (run m (next_seg who.client g code) O.store).store (run m (next_seg who.client g code) O.store).ending ≡ Done P → Stepped m P (real.step (meaning m) s (Resume who num) [])
+    → ran O who.client who.seq g.body num (run m.programs (next_seg who.client g code) O.store).store (run m.programs (next_seg who.client g code) O.store).ending ≡ Done P → Stepped m P (real.step (meaning m) s (Resume who num) [])
 resumed_shows {B} m O P s who num g code again k e q v f = go (m.programs.table who g.body g.stage) refl (again g.body g.stage) staged ran_here
   where
     l : who.client < 17
@@ -298,17 +298,17 @@ served_shows m O P s t n body text k e g same state shows = record {
       (subst (λ y. Shows m (coded O t n ((m.backend t).serve y text)) (real.with_backend s t n ((m.backend t).serve (real.backend_of s t) text))) state shows);
 }
 
-serve_shows : {B : Type 0} (m : Service B) (O P : Server B) (s : real.Server B) (t : Tier) (n : ℕ) (body : List ℕ) → Shows m O s → serves (m.backend O) t n (O.calls t n) (O.served t n) ≡ Done P → Stepped m P (real.step (meaning m) s (Serve t n) body)
+serve_shows : {B : Type 0} (m : Service B) (O P : Server B) (s : real.Server B) (t : Tier) (n : ℕ) (body : List ℕ) → Shows m O s → serves m O t n (O.calls t n) (O.served t n) ≡ Done P → Stepped m P (real.step (meaning m) s (Serve t n) body)
 serve_shows m O P s Mid n body k f = absurd (cc)
 serve_shows {B} m O P s Inv n body k f = go (O.calls Inv n) refl (O.served Inv n) refl f
   where
-    go : (a : Option (List ℕ)) → O.calls Inv n ≡ a → (b : Option ℕ) → O.served Inv n ≡ b → serves (m.backend O) Inv n a b ≡ Done P → Stepped m P (real.step (meaning m) s (Serve Inv n) body)
+    go : (a : Option (List ℕ)) → O.calls Inv n ≡ a → (b : Option ℕ) → O.served Inv n ≡ b → serves m O Inv n a b ≡ Done P → Stepped m P (real.step (meaning m) s (Serve Inv n) body)
     go None e b g h = absurd (cc)
     go (Some text) e (Some code) g h = absurd (cc)
     go (Some text) e None g h = served_shows m O P s Inv n body text k e g (cc) k.inventory (serve_inv m O s n ((m.backend Inv).serve s.inventory text) g k)
 serve_shows {B} m O P s Pay n body k f = go (O.calls Pay n) refl (O.served Pay n) refl f
   where
-    go : (a : Option (List ℕ)) → O.calls Pay n ≡ a → (b : Option ℕ) → O.served Pay n ≡ b → serves (m.backend O) Pay n a b ≡ Done P → Stepped m P (real.step (meaning m) s (Serve Pay n) body)
+    go : (a : Option (List ℕ)) → O.calls Pay n ≡ a → (b : Option ℕ) → O.served Pay n ≡ b → serves m O Pay n a b ≡ Done P → Stepped m P (real.step (meaning m) s (Serve Pay n) body)
     go None e b g h = absurd (cc)
     go (Some text) e (Some code) g h = absurd (cc)
     go (Some text) e None g h = served_shows m O P s Pay n body text k e g (cc) k.payment (serve_pay m O s n ((m.backend Pay).serve s.payment text) g k)

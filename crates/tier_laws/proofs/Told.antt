@@ -14,7 +14,8 @@ use Rattle.log_model.proofs.Invariant.{PacketOk}
 use Rattle.log_model.specs.declared.message.PaxMsg.TheVariants.{Learn}
 use Rattle.log_model.specs.Chosen.{Meets}
 use Rattle.log_model.specs.Recover.{newest, learned_in}
-use Rattle.log_model.specs.World.{Packet as LogPacket, Mode}
+use Rattle.log_model.specs.Nodes.{Mode}
+use Rattle.log_model.specs.World.{Packet as LogPacket}
 use Rattle.log_model.specs.Nodes.Mode.{Down, Gone, Up}
 use Rattle.log_values.specs.declared.fact.Fact.{Fact}
 use Rattle.log_values.specs.declared.any_value.AnyValue.{AnyValue}
@@ -25,6 +26,7 @@ use Rattle.log_values.specs.declared.mid_value.Verdict.{Verdict}
 use Rattle.log_values.specs.declared.mid_value.Verdict.TheVariants.{Commit, Serial}
 use Rattle.frames.specs.declared.message.Msg.{Msg}
 use Rattle.frames.specs.declared.message.Msg.TheVariants as msgs
+use Rattle.round_model.specs.Service.{meaning}
 use Rattle.round_model.specs.After.{Round, round, after}
 use Rattle.tier_laws.proofs.Codes.{Code, code_of}
 use Rattle.round_model.specs.Tables.{Number, Want}

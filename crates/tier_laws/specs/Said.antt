@@ -17,24 +17,25 @@ use Rattle.server_model.specs.Server.{step as step_at}
 use Rattle.server_model.specs.declared.history.Hist.{Hist}
 use Rattle.server_model.specs.declared.history.Hist.TheVariants.{Start, Serve, Resume}
 use Rattle.server_model.specs.declared.history.Told.TheVariants.{Replied}
-use Rattle.log_model.specs.Log.{count_below}
+use Rattle.log_model.specs.Log.{LogState, count_below}
 use Rattle.log_model.specs.Recover.{newest, recover}
-use Rattle.log_model.specs.World.{Mode, Node}
+use Rattle.log_model.specs.Nodes.{Mode, Node}
 use Rattle.log_model.specs.Nodes.Mode.{Up, Down, Gone}
 use Rattle.log_values.specs.declared.any_value.AnyValue.{AnyValue}
 use Rattle.log_values.specs.declared.mid_value.Verdict.{Verdict}
 use Rattle.log_values.specs.declared.mid_value.Verdict.TheVariants.{Commit, Serial}
 use Rattle.log_values.specs.declared.fact.Fact.{Fact}
 use Rattle.round_model.specs.Lists.{tabulate}
-use Rattle.round_model.specs.Service.{Service, serial, serial_end, finish, is_order, token_of}
+use Rattle.round_model.specs.Service.{Programs, Backend, meaning, serial, serial_end, finish, is_order, token_of}
 use Rattle.round_model.specs.Tables.{Number, Want}
 use Rattle.round_model.specs.After.{Round, round, after}
 use Rattle.round_model.specs.Verdicts.{Vote}
-use Rattle.tier_laws.proofs.Codes.{code_of}
+use Rattle.round_model.specs.Held.{held_code}
+use Rattle.round_model.specs.Numbered.{find}
 use Rattle.tier_model.specs.Moves.{log_facts, held_in}
-use Rattle.tier_model.specs.Mid.{Mid}
 use Rattle.tier_model.specs.Back.{Back}
-use Rattle.run_model.specs.World.{Config, World}
+use Rattle.tier_model.specs.Kinds.{State}
+use Rattle.run_model.specs.World.{Config, World, log_at}
 use Rattle.run_model.specs.Histories.{HistoryStep, back_run, floor_of}
 use Rattle.run_model.specs.Runs.{served_of, world}
 use Rattle.run_model.specs.declared.trace.TraceEvent.{TraceEvent}
@@ -54,13 +55,13 @@ pub record IsJob (J : List Seg) : Type 0 where
 -- A run's order of finishing is an order of its job, and its store and ends are those of the segments one after another
 -- in that order. Stores stay stores, and a token is read as the outcome that it spells. A request whose segment calls has
 -- the stage that the call names.
-pub record Laws {B : Type 0} (m : Service B) : Type 0 where
-  pub orders : (J : List Seg) (s : Store) (schedule : List ℕ) → is_order (length J) (run_job m.programs.begins J s schedule).order ≡ true
-  pub store : (J : List Seg) (s : Store) (schedule : List ℕ) → (run_job m.programs.begins J s schedule).store ≡ serial m.programs J (run_job m.programs.begins J s schedule).order s
-  pub ends : (J : List Seg) (s : Store) (schedule : List ℕ) → (run_job m.programs.begins J s schedule).ends ≡ tabulate (length J) (serial_end m.programs J (run_job m.programs.begins J s schedule).order s)
-  pub stores : (J : List Seg) (order : List ℕ) (s : Store) → IsJob J → is_order (length J) order ≡ true → IsStore s → IsStore (serial m.programs J order s)
-  pub reads : (J : List Seg) (order : List ℕ) (s : Store) → IsJob J → is_order (length J) order ≡ true → IsStore s → m.programs.read (token_of m.programs s (finish m.programs J order s)) ≡ Some (changes.outcome s (finish m.programs J order s).store (finish m.programs J order s).ends)
-  pub again : (who : ReqId) (body : List ℕ) (stage : ℕ) → GoesOn (m.programs.table who body stage) (m.programs.table who body)
+pub record Laws (m : Programs) : Type 0 where
+  pub orders : (J : List Seg) (s : Store) (schedule : List ℕ) → is_order (length J) (run_job m.begins J s schedule).order ≡ true
+  pub store : (J : List Seg) (s : Store) (schedule : List ℕ) → (run_job m.begins J s schedule).store ≡ serial m J (run_job m.begins J s schedule).order s
+  pub ends : (J : List Seg) (s : Store) (schedule : List ℕ) → (run_job m.begins J s schedule).ends ≡ tabulate (length J) (serial_end m J (run_job m.begins J s schedule).order s)
+  pub stores : (J : List Seg) (order : List ℕ) (s : Store) → IsJob J → is_order (length J) order ≡ true → IsStore s → IsStore (serial m J order s)
+  pub reads : (J : List Seg) (order : List ℕ) (s : Store) → IsJob J → is_order (length J) order ≡ true → IsStore s → m.read (token_of m s (finish m J order s)) ≡ Some (changes.outcome s (finish m J order s).store (finish m J order s).ends)
+  pub again : (who : ReqId) (body : List ℕ) (stage : ℕ) → GoesOn (m.table who body stage) (m.table who body)
 
 -- THE HISTORY
 
@@ -99,25 +100,17 @@ IsFront {A} xs ys = (rest : List A) × (ys ≡ xs ++ rest)
 -- LOGS
 
 abbrev pub chosen_log : {B : Type 0} → World B → Tier → List AnyValue
-chosen_log w InMid = (w.logs InMid)
-chosen_log w Inv = w.logs Inv
-chosen_log w Pay = w.logs Pay
+chosen_log w t = w.logs t
 
-abbrev pub MidLearned : Mode Mid → ℕ → AnyValue → Type 0
-MidLearned (Up σ) p v = slice_get σ.log.learned p ≡ Some v
-MidLearned Down p v = ⊥
-MidLearned Gone p v = ⊥
-
-abbrev pub BackLearned : {B : Type 0} → Mode (Back B) → ℕ → AnyValue → Type 0
-BackLearned (Up σ) p v = slice_get σ.log.learned p ≡ Some v
-BackLearned Down p v = ⊥
-BackLearned Gone p v = ⊥
+-- in a state with this log the value was learned at p
+abbrev pub LearnedBy : {S : Type 0} → (S → LogState AnyValue) → Mode S → ℕ → AnyValue → Type 0
+LearnedBy log (Up σ) p v = slice_get (log σ).learned p ≡ Some v
+LearnedBy log Down p v = ⊥
+LearnedBy log Gone p v = ⊥
 
 -- the node x of the tier is up and has learned the value at p
-abbrev pub HasLearned : {B : Type 0} → World B → Tier → ℕ → ℕ → AnyValue → Type 0
-HasLearned w InMid x p v = MidLearned (w.nodes InMid x).mode p v
-HasLearned w Inv x p v = BackLearned (w.nodes Inv x).mode p v
-HasLearned w Pay x p v = BackLearned (w.nodes Pay x).mode p v
+abbrev pub HasLearned : {B : Type 0} → Config B → World B → Tier → ℕ → ℕ → AnyValue → Type 0
+HasLearned c w t x p v = LearnedBy (log_at c t) (w.nodes t x).mode p v
 
 -- the disk of a node that isn't gone may stand for these records
 abbrev pub StandsFor : {S : Type 0} → Node S Fact → Mode S → List (List Fact) → Type 0
@@ -126,9 +119,7 @@ StandsFor node Down records = (node.records ≡ records) ⊎ ((k : ℕ) × (slic
 StandsFor node Gone records = ⊥
 
 abbrev pub DiskStandsFor : {B : Type 0} → World B → Tier → ℕ → List (List Fact) → Type 0
-DiskStandsFor w InMid x records = StandsFor (w.nodes InMid x) (w.nodes InMid x).mode records
-DiskStandsFor w Inv x records = StandsFor (w.nodes Inv x) (w.nodes Inv x).mode records
-DiskStandsFor w Pay x records = StandsFor (w.nodes Pay x) (w.nodes Pay x).mode records
+DiskStandsFor w t x records = StandsFor (w.nodes t x) (w.nodes t x).mode records
 
 -- what a restart learns from these records
 abbrev pub learned_from : ℕ → List (List Fact) → List AnyValue
@@ -136,26 +127,27 @@ learned_from u records = (recover u (log_facts (newest records))).learned
 
 -- STATES
 
--- a middle node that is up has the store and tables of its applied rounds
-abbrev pub MidApplied : {B : Type 0} → Config B → World B → Mode Mid → Type 0
-MidApplied c w (Up σ) = after c.service.programs c.depth (w.logs InMid) (served_of c w) σ.applied ≡ Some σ.tables
-MidApplied c w Down = Unit {0}
-MidApplied c w Gone = Unit {0}
-
 -- A backend node has the backend of its learned calls, the first of each number. A code of these is kept or below the
 -- floor, a kept code is one of these and not below the floor, and the floor is the greatest that was settled.
-pub record BackApplied {B : Type 0} (m : Service B) (t : Tier) (σ : Back B) : Type 0 where
-  pub state : σ.state ≡ (back_run (m.backend t) σ.log.learned).state
-  pub codes : (n code : ℕ) → (back_run (m.backend t) σ.log.learned).code n ≡ Some code → (n < σ.floor) ⊎ (code_of σ.kept t n ≡ Some code)
-  pub kept : (n code : ℕ) → code_of σ.kept t n ≡ Some code → (back_run (m.backend t) σ.log.learned).code n ≡ Some code
-  pub above : (n code : ℕ) → code_of σ.kept t n ≡ Some code → σ.floor ≤ n
-  pub below : (n : ℕ) → 0 < n → n < σ.floor → (code : ℕ) × ((back_run (m.backend t) σ.log.learned).code n ≡ Some code)
-  pub floor : σ.floor ≡ floor_of σ.log.learned
+pub record BackApplied {B : Type 0} (b : Backend B) (σ : Back B) : Type 0 where
+  pub state : σ.state ≡ (back_run b σ.log.learned).state
+  pub codes : (n code : ℕ) → (back_run b σ.log.learned).code n ≡ Some code → (n < σ.shim.floor) ⊎ (find σ.shim.kept n ≡ Some code)
+  pub kept : (n code : ℕ) → find σ.shim.kept n ≡ Some code → (back_run b σ.log.learned).code n ≡ Some code
+  pub above : (n code : ℕ) → find σ.shim.kept n ≡ Some code → σ.shim.floor ≤ n
+  pub below : (n : ℕ) → 0 < n → n < σ.shim.floor → (code : ℕ) × ((back_run b σ.log.learned).code n ≡ Some code)
+  pub floor : σ.shim.floor ≡ floor_of σ.log.learned
 
-abbrev pub BackServes : {B : Type 0} → Config B → Tier → Mode (Back B) → Type 0
-BackServes c t (Up σ) = BackApplied c.service t σ
-BackServes c t Down = Unit {0}
-BackServes c t Gone = Unit {0}
+-- a middle node has the store and tables of its applied rounds
+abbrev pub IsApplied : {B : Type 0} → Config B → World B → (t : Tier) → State B t → Type 0
+IsApplied c w InMid σ = after c.service.programs c.depth (w.logs InMid) (served_of c w) σ.applied ≡ Some σ.tables
+IsApplied c w Inv σ = BackApplied (c.service.backend Inv) σ
+IsApplied c w Pay σ = BackApplied (c.service.backend Pay) σ
+
+-- a node that is up
+abbrev pub HasApplied : {B : Type 0} → Config B → World B → (t : Tier) → Mode (State B t) → Type 0
+HasApplied c w t (Up σ) = IsApplied c w t σ
+HasApplied c w t Down = Unit {0}
+HasApplied c w t Gone = Unit {0}
 
 -- VERDICTS AND DURABILITY
 
@@ -198,7 +190,7 @@ pub record Durable {B : Type 0} (c : Config B) (w : World B) (t : Tier) (n : ℕ
   pub here : is_gone (w.nodes InMid node).mode ≡ false
   pub code : ℕ
   pub is_served : HasAnswer c w t n code
-  pub is_held : (records : List (List Fact)) → StandsFor (w.nodes InMid node) (w.nodes InMid node).mode records → code_of (held_in (newest records)) t n ≡ Some code
+  pub is_held : (records : List (List Fact)) → StandsFor (w.nodes InMid node) (w.nodes InMid node).mode records → held_code (held_in c.u node (newest records)) t n ≡ Some code
 
 -- the round stands at the world, and each call that it waits for is durable there
 pub record UsedBefore {B : Type 0} (c : Config B) (w : World B) (r : ℕ) : Type 0 where
@@ -214,7 +206,7 @@ pub record Holds {B : Type 0} (c : Config B) (es : List TraceEvent) (t : Tier) (
   pub after : List TraceEvent
   pub is_all : es ≡ before ++ after
   pub here : is_gone ((world c before).nodes InMid x).mode ≡ false
-  pub had : (records : List (List Fact)) → StandsFor ((world c before).nodes InMid x) ((world c before).nodes InMid x).mode records → (code : ℕ) × (code_of (held_in (newest records)) t n ≡ Some code)
+  pub had : (records : List (List Fact)) → StandsFor ((world c before).nodes InMid x) ((world c before).nodes InMid x).mode records → (code : ℕ) × (held_code (held_in c.u x (newest records)) t n ≡ Some code)
 
 -- more than u of the middle nodes hold the answer
 abbrev pub ManyHolders : {B : Type 0} → Config B → List TraceEvent → Tier → ℕ → Type 0

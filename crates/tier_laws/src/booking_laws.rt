@@ -2,6 +2,7 @@
 ghost use Rattle.std.specs.Prelude.{◌≡◌, ℕ, ◌+◌, ◌*◌, ◌<◌, ◌≤◌, List, [], ◌∷◌, ◌++◌, length, Some, slice_get, true};
 ghost use Rattle.aeg_base.specs.declared.names.End.TheVariants.{Client};
 ghost use Rattle.aeg_base.specs.declared.names.ReqId.{ReqId};
+ghost use Rattle.aeg_base.specs.declared.names.Tier.TheVariants.{Mid as MidTier};
 ghost use Rattle.aeg_base.specs.declared.names.Tier.{Tier};
 ghost use Rattle.server_model.specs.Server.{Meaning};
 ghost use Rattle.server_model.specs.History.{Legal};
@@ -26,19 +27,19 @@ ghost use Rattle.tier_model.specs.Moves.{Packet, tier_of};
 ghost use Rattle.run_model.specs.declared.trace.TraceEvent.{TraceEvent};
 ghost use Rattle.run_model.specs.Histories.{HistoryStep};
 ghost use Rattle.run_model.specs.Runs.{world, is_in, log_soup, served_of};
-ghost use Rattle.tier_laws.specs.Said.{Laws, HasReply, HasCall, HasAnswer, WasSubmitted, RepliesAt, IsOf, chosen_log, HasLearned, DiskStandsFor, learned_from, MidApplied, BackServes, DidRun, IsRun, Caused, FewGone, Durable, UsedBefore, HeldBefore, ManyHolders};
+ghost use Rattle.tier_laws.specs.Said.{Laws, HasReply, HasCall, HasAnswer, WasSubmitted, RepliesAt, IsOf, chosen_log, HasLearned, DiskStandsFor, learned_from, HasApplied, DidRun, IsRun, Caused, FewGone, Durable, UsedBefore, HeldBefore, ManyHolders};
 ghost use Rattle.run_model.specs.BookingRuns.{booking_service};
 ghost use Rattle.tier_laws.specs.Services.{IsService, Setup, booking_run};
 
 /// A service whose programs come to its table within the limits, and whose tokens have the spelling of outcomes, gives
 /// all that the laws ask of one.
 pub fn programs_meet<B>()
-    ensures { (meaning : Meaning B) (begins : Beginnings) → IsService meaning begins → Laws (spelled meaning begins) }
+    ensures { (meaning : Meaning B) (begins : Beginnings) → IsService meaning begins → Laws (spelled meaning begins).programs }
 {}
 
 /// So does the booking service.
 pub fn booking_meets()
-    ensures { Laws booking_service }
+    ensures { Laws booking_service.programs }
 {}
 
 /// No two values at one position of a tier in any run of the booking service: what meets the condition of being chosen
@@ -46,7 +47,7 @@ pub fn booking_meets()
 /// has learned, whichever list it stands for. What stands there meets the condition.
 pub fn booking_agreement()
     ensures chosen { (a : Setup) (es : List TraceEvent) (t : Tier) (p : ℕ) (v : AnyValue) → a.u ≤ 2 → Meets a.u (log_soup t (world (booking_run a) es).soup) p v → slice_get (chosen_log (world (booking_run a) es) t) p ≡ Some v }
-    ensures learned { (a : Setup) (es : List TraceEvent) (t : Tier) (x p : ℕ) (v : AnyValue) → a.u ≤ 2 → x < 2 * a.u + 1 → HasLearned (world (booking_run a) es) t x p v → slice_get (chosen_log (world (booking_run a) es) t) p ≡ Some v }
+    ensures learned { (a : Setup) (es : List TraceEvent) (t : Tier) (x p : ℕ) (v : AnyValue) → a.u ≤ 2 → x < 2 * a.u + 1 → HasLearned (booking_run a) (world (booking_run a) es) t x p v → slice_get (chosen_log (world (booking_run a) es) t) p ≡ Some v }
     ensures told { (a : Setup) (es : List TraceEvent) (t : Tier) (i p : ℕ) (k : Packet) (v : AnyValue) → a.u ≤ 2 → is_in t k.from ≡ true → slice_get (world (booking_run a) es).soup i ≡ Some k → k.message ≡ messages.Log (Learn p v) → slice_get (chosen_log (world (booking_run a) es) t) p ≡ Some v }
     ensures on_disk { (a : Setup) (es : List TraceEvent) (t : Tier) (x p : ℕ) (v : AnyValue) (records : List (List Fact)) → a.u ≤ 2 → x < 2 * a.u + 1 → DiskStandsFor (world (booking_run a) es) t x records → slice_get (learned_from a.u records) p ≡ Some v → slice_get (chosen_log (world (booking_run a) es) t) p ≡ Some v }
     ensures sound { (a : Setup) (es : List TraceEvent) (t : Tier) (p : ℕ) (v : AnyValue) → a.u ≤ 2 → slice_get (chosen_log (world (booking_run a) es) t) p ≡ Some v → Meets a.u (log_soup t (world (booking_run a) es).soup) p v }
@@ -68,8 +69,7 @@ pub fn booking_headline()
 /// to at its number of applied rounds. A backend node has the backend, the kept answers and the floor of its learned
 /// positions.
 pub fn booking_applied()
-    ensures middle { (a : Setup) (es : List TraceEvent) (x : ℕ) → a.u ≤ 2 → x < 2 * a.u + 1 → MidApplied (booking_run a) (world (booking_run a) es) ((world (booking_run a) es).mids x).mode }
-    ensures backend { (a : Setup) (es : List TraceEvent) (t : Tier) (x : ℕ) → a.u ≤ 2 → x < 2 * a.u + 1 → BackServes (booking_run a) t ((world (booking_run a) es).backs t x).mode }
+    ensures nodes { (a : Setup) (es : List TraceEvent) (t : Tier) (x : ℕ) → a.u ≤ 2 → x < 2 * a.u + 1 → HasApplied (booking_run a) (world (booking_run a) es) t ((world (booking_run a) es).nodes t x).mode }
 {}
 
 /// In the booking service what is submitted later starts later, past all that the history had before. So where a client
@@ -88,7 +88,7 @@ pub fn booking_real_order()
 /// with its order. A chosen Serial has two nodes of the tier that ran it to different tokens. Each run is by a node of the
 /// tier, and its token is what the round's job comes to in the run's own order.
 pub fn booking_causes()
-    ensures causes { (a : Setup) (es : List TraceEvent) (r : ℕ) (v : Verdict) → a.u ≤ 2 → slice_get (world (booking_run a) es).log (2 * r + 1) ≡ Some (Mid (values.Verdict v)) → Caused (booking_run a) (world (booking_run a) es) r v }
+    ensures causes { (a : Setup) (es : List TraceEvent) (r : ℕ) (v : Verdict) → a.u ≤ 2 → slice_get ((world (booking_run a) es).logs MidTier) (2 * r + 1) ≡ Some (Mid (values.Verdict v)) → Caused (booking_run a) (world (booking_run a) es) r v }
     ensures runs { (a : Setup) (es : List TraceEvent) (v : Vote) → a.u ≤ 2 → DidRun (world (booking_run a) es) v → IsRun (booking_run a) (world (booking_run a) es) v }
 {}
 
@@ -97,9 +97,9 @@ pub fn booking_causes()
 /// isn't gone, in each list that its disk stands for. For a round's calls this holds before the event that chooses its
 /// verdict.
 pub fn booking_durability()
-    ensures used { (a : Setup) (es : List TraceEvent) (r j : ℕ) (v : Verdict) (made : Round) (q : Want) (k : Number) → a.u ≤ 2 → slice_get (world (booking_run a) es).log (2 * r + 1) ≡ Some (Mid (values.Verdict v))
-        → round booking_service a.depth (world (booking_run a) es).log (served_of (booking_run a) (world (booking_run a) es)) r ≡ Some made → slice_get made.wants j ≡ Some q → q.call ≡ Some k → FewGone (booking_run a) (world (booking_run a) es) → Durable (booking_run a) (world (booking_run a) es) k.tier k.num }
-    ensures before { (a : Setup) (es : List TraceEvent) (e : TraceEvent) (r : ℕ) (v : Verdict) → a.u ≤ 2 → length (world (booking_run a) es).log ≤ 2 * r + 1 → slice_get (world (booking_run a) (es ++ e ∷ [])).log (2 * r + 1) ≡ Some (Mid (values.Verdict v)) → FewGone (booking_run a) (world (booking_run a) es) → UsedBefore (booking_run a) (world (booking_run a) es) r }
+    ensures used { (a : Setup) (es : List TraceEvent) (r j : ℕ) (v : Verdict) (made : Round) (q : Want) (k : Number) → a.u ≤ 2 → slice_get ((world (booking_run a) es).logs MidTier) (2 * r + 1) ≡ Some (Mid (values.Verdict v))
+        → round booking_service.programs a.depth ((world (booking_run a) es).logs MidTier) (served_of (booking_run a) (world (booking_run a) es)) r ≡ Some made → slice_get made.wants j ≡ Some q → q.call ≡ Some k → FewGone (booking_run a) (world (booking_run a) es) → Durable (booking_run a) (world (booking_run a) es) k.tier k.num }
+    ensures before { (a : Setup) (es : List TraceEvent) (e : TraceEvent) (r : ℕ) (v : Verdict) → a.u ≤ 2 → length ((world (booking_run a) es).logs MidTier) ≤ 2 * r + 1 → slice_get ((world (booking_run a) (es ++ e ∷ [])).logs MidTier) (2 * r + 1) ≡ Some (Mid (values.Verdict v)) → FewGone (booking_run a) (world (booking_run a) es) → UsedBefore (booking_run a) (world (booking_run a) es) r }
     ensures floors { (a : Setup) (es : List TraceEvent) (i g n : ℕ) (k : Packet) → a.u ≤ 2 → slice_get (world (booking_run a) es).soup i ≡ Some k → k.message ≡ messages.Settle g → 0 < n → n < g → FewGone (booking_run a) (world (booking_run a) es) → Durable (booking_run a) (world (booking_run a) es) (tier_of k.to) n }
     ensures settled { (a : Setup) (es : List TraceEvent) (t : Tier) (p g n : ℕ) → a.u ≤ 2 → slice_get ((world (booking_run a) es).logs t) p ≡ Some (Back (Settle g)) → 0 < n → n < g → FewGone (booking_run a) (world (booking_run a) es) → Durable (booking_run a) (world (booking_run a) es) t n }
 {}
@@ -108,7 +108,7 @@ pub fn booking_durability()
 /// the round's verdict, each call below a floor that was sent, and each call below a floor that a backend's chosen log
 /// settles.
 pub fn booking_holders()
-    ensures used { (a : Setup) (es : List TraceEvent) (e : TraceEvent) (r : ℕ) (v : Verdict) → a.u ≤ 2 → length (world (booking_run a) es).log ≤ 2 * r + 1 → slice_get (world (booking_run a) (es ++ e ∷ [])).log (2 * r + 1) ≡ Some (Mid (values.Verdict v)) → HeldBefore (booking_run a) es r }
+    ensures used { (a : Setup) (es : List TraceEvent) (e : TraceEvent) (r : ℕ) (v : Verdict) → a.u ≤ 2 → length ((world (booking_run a) es).logs MidTier) ≤ 2 * r + 1 → slice_get ((world (booking_run a) (es ++ e ∷ [])).logs MidTier) (2 * r + 1) ≡ Some (Mid (values.Verdict v)) → HeldBefore (booking_run a) es r }
     ensures floors { (a : Setup) (es : List TraceEvent) (i g n : ℕ) (k : Packet) → a.u ≤ 2 → slice_get (world (booking_run a) es).soup i ≡ Some k → k.message ≡ messages.Settle g → 0 < n → n < g → ManyHolders (booking_run a) es (tier_of k.to) n }
     ensures settled { (a : Setup) (es : List TraceEvent) (t : Tier) (p g n : ℕ) → a.u ≤ 2 → slice_get ((world (booking_run a) es).logs t) p ≡ Some (Back (Settle g)) → 0 < n → n < g → ManyHolders (booking_run a) es t n }
 {}

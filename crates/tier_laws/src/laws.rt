@@ -17,6 +17,7 @@ ghost use Rattle.log_values.specs.declared.mid_value.Verdict.{Verdict};
 ghost use Rattle.log_values.specs.declared.entry.Entry.{Entry};
 ghost use Rattle.log_values.specs.declared.fact.Fact.{Fact};
 ghost use Rattle.frames.specs.declared.message.Msg.TheVariants as messages;
+ghost use Rattle.round_model.specs.Service.{meaning};
 ghost use Rattle.round_model.specs.Tables.{Number, Want, who_of};
 ghost use Rattle.round_model.specs.After.{Round, round};
 ghost use Rattle.round_model.specs.Verdicts.{Vote};
@@ -25,7 +26,7 @@ ghost use Rattle.run_model.specs.declared.trace.TraceEvent.{TraceEvent};
 ghost use Rattle.run_model.specs.World.{Config};
 ghost use Rattle.run_model.specs.Histories.{HistoryStep};
 ghost use Rattle.run_model.specs.Runs.{world, is_in, log_soup, served_of};
-ghost use Rattle.tier_laws.specs.Said.{Laws, HasReply, HasCall, HasAnswer, WasSubmitted, RepliesAt, IsOf, IsFront, chosen_log, HasLearned, DiskStandsFor, learned_from, MidApplied, BackServes, DidRun, IsRun, Caused, FewGone, Durable, UsedBefore, HeldBefore, ManyHolders};
+ghost use Rattle.tier_laws.specs.Said.{Laws, HasReply, HasCall, HasAnswer, WasSubmitted, RepliesAt, IsOf, IsFront, chosen_log, HasLearned, DiskStandsFor, learned_from, HasApplied, DidRun, IsRun, Caused, FewGone, Durable, UsedBefore, HeldBefore, ManyHolders};
 
 /// The history is legal on one server. Each reply, call and answer that was sent is one of this history, a reply goes to
 /// its own client, and so is each reply that a client took. What starts in it was submitted with that text.
@@ -44,7 +45,7 @@ pub fn headline<B>()
 /// stands for. What stands there meets the condition.
 pub fn agreement<B>()
     ensures chosen { (c : Config B) (es : List TraceEvent) (t : Tier) (p : ℕ) (v : AnyValue) → c.u ≤ 2 → Laws c.service.programs → Meets c.u (log_soup t (world c es).soup) p v → slice_get (chosen_log (world c es) t) p ≡ Some v }
-    ensures learned { (c : Config B) (es : List TraceEvent) (t : Tier) (x p : ℕ) (v : AnyValue) → c.u ≤ 2 → Laws c.service.programs → x < 2 * c.u + 1 → HasLearned (world c es) t x p v → slice_get (chosen_log (world c es) t) p ≡ Some v }
+    ensures learned { (c : Config B) (es : List TraceEvent) (t : Tier) (x p : ℕ) (v : AnyValue) → c.u ≤ 2 → Laws c.service.programs → x < 2 * c.u + 1 → HasLearned c (world c es) t x p v → slice_get (chosen_log (world c es) t) p ≡ Some v }
     ensures told { (c : Config B) (es : List TraceEvent) (t : Tier) (i p : ℕ) (k : Packet) (v : AnyValue) → c.u ≤ 2 → Laws c.service.programs → is_in t k.from ≡ true → slice_get (world c es).soup i ≡ Some k → k.message ≡ messages.Log (Learn p v) → slice_get (chosen_log (world c es) t) p ≡ Some v }
     ensures on_disk { (c : Config B) (es : List TraceEvent) (t : Tier) (x p : ℕ) (v : AnyValue) (records : List (List Fact)) → c.u ≤ 2 → Laws c.service.programs → x < 2 * c.u + 1 → DiskStandsFor (world c es) t x records → slice_get (learned_from c.u records) p ≡ Some v → slice_get (chosen_log (world c es) t) p ≡ Some v }
     ensures sound { (c : Config B) (es : List TraceEvent) (t : Tier) (p : ℕ) (v : AnyValue) → c.u ≤ 2 → Laws c.service.programs → slice_get (chosen_log (world c es) t) p ≡ Some v → Meets c.u (log_soup t (world c es).soup) p v }
@@ -59,8 +60,7 @@ pub fn growth<B>()
 /// A middle node that is up has the store and tables that the chosen log and the served answers come to at its number of
 /// applied rounds. A backend node has the backend, the kept answers and the floor of its learned positions.
 pub fn applied<B>()
-    ensures middle { (c : Config B) (es : List TraceEvent) (x : ℕ) → c.u ≤ 2 → Laws c.service.programs → x < 2 * c.u + 1 → MidApplied c (world c es) ((world c es).nodes MidTier x).mode }
-    ensures backend { (c : Config B) (es : List TraceEvent) (t : Tier) (x : ℕ) → c.u ≤ 2 → Laws c.service.programs → x < 2 * c.u + 1 → BackServes c t ((world c es).nodes t x).mode }
+    ensures nodes { (c : Config B) (es : List TraceEvent) (t : Tier) (x : ℕ) → c.u ≤ 2 → Laws c.service.programs → x < 2 * c.u + 1 → HasApplied c (world c es) t ((world c es).nodes t x).mode }
 {}
 
 /// What is submitted later starts later, past all that the history had before. So where a client took a reply before a

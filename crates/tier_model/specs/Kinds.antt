@@ -3,8 +3,6 @@ use Rattle.std.specs.Prelude.{ℕ, List}
 use Rattle.aeg_base.specs.declared.names.Tier.{Tier}
 use Rattle.aeg_base.specs.declared.names.Tier.TheVariants as tiers
 use Rattle.aeg_base.specs.declared.names.End.{End}
-use Rattle.log_model.specs.Log.{LogState}
-use Rattle.log_values.specs.declared.any_value.AnyValue.{AnyValue}
 use Rattle.log_values.specs.declared.fact.Fact.{Fact}
 use Rattle.frames.specs.declared.message.Msg.{Msg}
 use Rattle.round_model.specs.Service.{Programs, Backend, Service}
@@ -47,12 +45,6 @@ abbrev pub State : Type 0 → Tier → Type 0
 State B tiers.Mid = Mid
 State B tiers.Inv = Back B
 State B tiers.Pay = Back B
-
--- the log in a state
-abbrev pub log_of : {B : Type 0} (t : Tier) → State B t → LogState AnyValue
-log_of tiers.Mid σ = σ.log
-log_of tiers.Inv σ = σ.log
-log_of tiers.Pay σ = σ.log
 
 abbrev pub kind : {B : Type 0} → ℕ → Service B → ℕ → (t : Tier) → ℕ → Kind (State B t)
 kind u m depth tiers.Mid x = mid_kind u m.programs depth x

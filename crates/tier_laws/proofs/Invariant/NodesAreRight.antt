@@ -22,7 +22,8 @@ use Rattle.tier_laws.proofs.Invariant.MiddleNodes.{MidOther}
 use Rattle.tier_laws.proofs.Invariant.Past.{Past}
 use Rattle.tier_laws.proofs.Invariant.ValuesAreGood.{ValueOk}
 use Rattle.tier_model.specs.Back.{Back}
-use Rattle.tier_model.specs.Kinds.{State, log_of}
+use Rattle.tier_model.specs.Kinds.{State}
+use Rattle.run_model.specs.World.{log_at}
 use Rattle.tier_model.specs.Moves.{log_facts}
 
 pub record BackBeside {B : Type 0} (c : Config B) (P : Past B) (t : Tier) (σ : Back B) : Type 0 where
@@ -48,7 +49,7 @@ pub record Pending {B : Type 0} (c : Config B) (P : Past B) (t : Tier) (h : ℕ 
 pub record UpOk {B : Type 0} (c : Config B) (P : Past B) (t : Tier) (h : ℕ → List (LogFact AnyValue)) (soup : List (LogPacket AnyValue)) (x : ℕ) (R : List (List Fact)) (σ : State B t) : Type 0 where
   pub is_log : log_facts (newest R) ≡ h x
   pub is_held : codes_in (newest R) ≡ P.codes t x
-  pub log : StateOk c.u h (h x) soup x (log_of t σ)
+  pub log : StateOk c.u h (h x) soup x (log_at c t σ)
   pub beside : Beside c P t x σ
 
 pub record DownOk {B : Type 0} (c : Config B) (P : Past B) (t : Tier) (h : ℕ → List (LogFact AnyValue)) (soup : List (LogPacket AnyValue)) (x : ℕ) (R : List (List Fact)) (others : List (List (List Fact))) : Type 0 where

@@ -23,7 +23,7 @@ use Rattle.log_values.specs.Reading.{whole}
 use Rattle.log_values.proofs.OutcomeGrammar.{outcome_grammar}
 use Rattle.aeg_wire.specs.Fields.{Read}
 use Rattle.round_model.specs.Lists.{tabulate}
-use Rattle.round_model.specs.Service.{Service, segment, serial, serial_end, is_order, finish}
+use Rattle.round_model.specs.Service.{Programs, segment, serial, serial_end, is_order, finish}
 use Rattle.tier_laws.specs.Said.{IsStore, IsJob}
 use Rattle.aeg_base.proofs.ChangeLaws.{all_among, key_parts, same_itself, sorted_changes}
 use Rattle.svc_api.proofs.Pigeons.{has, IsOnce, Tells, no_longer}
@@ -100,12 +100,12 @@ few_changes s t wrote a b kept = omega (arith, length-map (changes s t) (λ (p :
 
 -- THE ENDS
 
-pub serial_end_in : {B : Type 0} (m : Service B) → Agrees m → (J : List Seg) → AreBounded (plan_at m.programs.begins J) → (order : List ℕ) (s : Store) (k : ℕ) → IsStore s → IsEnding (serial_end m.programs J order s k)
+pub serial_end_in : (m : Programs) → Agrees m → (J : List Seg) → AreBounded (plan_at m.begins J) → (order : List ℕ) (s : Store) (k : ℕ) → IsStore s → IsEnding (serial_end m J order s k)
 serial_end_in m a J b [] s k st = lit≤ tt
-serial_end_in {B} m a J b (i ∷ is) s k st = at (i == k) (serial_end_in m a J b is (segment m.programs (slice_get J i) s).store k (subst (λ (g : Segment). IsStore g.store) (segment_is m a J i s) (one_store_in (plan_at m.programs.begins J) b i s st)))
+serial_end_in m a J b (i ∷ is) s k st = at (i == k) (serial_end_in m a J b is (segment m (slice_get J i) s).store k (subst (λ (g : Segment). IsStore g.store) (segment_is m a J i s) (one_store_in (plan_at m.begins J) b i s st)))
   where
-    at : (c : Bool) → IsEnding (serial_end m.programs J is (segment m.programs (slice_get J i) s).store k) → IsEnding (cond c (segment m.programs (slice_get J i) s).ending (serial_end m.programs J is (segment m.programs (slice_get J i) s).store k))
-    at true r = subst (λ (g : Segment). IsEnding g.ending) (segment_is m a J i s) (one_end_in (plan_at m.programs.begins J) b i s st)
+    at : (c : Bool) → IsEnding (serial_end m J is (segment m (slice_get J i) s).store k) → IsEnding (cond c (segment m (slice_get J i) s).ending (serial_end m J is (segment m (slice_get J i) s).store k))
+    at true r = subst (λ (g : Segment). IsEnding g.ending) (segment_is m a J i s) (one_end_in (plan_at m.begins J) b i s st)
     at false r = r
 
 all_tabulate : {A : Type 0} (P : A → Type 0) (n : ℕ) (f : ℕ → A) → ((i : ℕ) → P (f i)) → AllByRecursion P (tabulate n f)
@@ -114,30 +114,30 @@ all_tabulate P (suc n) f h = (h 0, all_tabulate P n (λ i. f (suc i)) (λ i. h (
 
 -- THE OUTCOME
 
-pub store_is_in : {B : Type 0} (m : Service B) → Agrees m → AreProper m.programs.begins → (J : List Seg) (order : List ℕ) (s : Store) → IsJob J → IsStore s → IsStore (serial m.programs J order s)
-store_is_in m a p J order s job st = subst IsStore (serial_is m a J order s) (serial_in (plan_at m.programs.begins J) (bounded m.programs.begins p J job) order s st)
+pub store_is_in : (m : Programs) → Agrees m → AreProper m.begins → (J : List Seg) (order : List ℕ) (s : Store) → IsJob J → IsStore s → IsStore (serial m J order s)
+store_is_in m a p J order s job st = subst IsStore (serial_is m a J order s) (serial_in (plan_at m.begins J) (bounded m.begins p J job) order s st)
 
-pub outcome_fits : {B : Type 0} (m : Service B) → Agrees m → AreProper m.programs.begins → (J : List Seg) (order : List ℕ) (s : Store) → IsJob J → is_order (length J) order ≡ true → IsStore s
-    → FitsOutcome (outcomes.outcome s (finish m.programs J order s).store (finish m.programs J order s).ends)
-outcome_fits {B} m a p J order s job o st = record {
+pub outcome_fits : (m : Programs) → Agrees m → AreProper m.begins → (J : List Seg) (order : List ℕ) (s : Store) → IsJob J → is_order (length J) order ≡ true → IsStore s
+    → FitsOutcome (outcomes.outcome s (finish m J order s).store (finish m J order s).ends)
+outcome_fits m a p J order s job o st = record {
   count = omega (arith, few, short, order_short (length J) order o, job.short);
-  pairs = all_fit s (serial m.programs J order s) (changes s (serial m.programs J order s)) (changes_fit s (serial m.programs J order s) st after);
-  sorted = rises_sorted (changes s (serial m.programs J order s)) (sorted_changes s (serial m.programs J order s));
-  end_count = omega (arith, length-tabulate (length J) (serial_end m.programs J order s), job.short);
-  ends = all_tabulate IsEnding (length J) (serial_end m.programs J order s) (λ k. serial_end_in m a J b order s k st);
+  pairs = all_fit s (serial m J order s) (changes s (serial m J order s)) (changes_fit s (serial m J order s) st after);
+  sorted = rises_sorted (changes s (serial m J order s)) (sorted_changes s (serial m J order s));
+  end_count = omega (arith, length-tabulate (length J) (serial_end m J order s), job.short);
+  ends = all_tabulate IsEnding (length J) (serial_end m J order s) (λ k. serial_end_in m a J b order s k st);
 }
   where
-    b : AreBounded (plan_at m.programs.begins J)
-    b = bounded m.programs.begins p J job
+    b : AreBounded (plan_at m.begins J)
+    b = bounded m.begins p J job
 
-    after : IsStore (serial m.programs J order s)
+    after : IsStore (serial m J order s)
     after = store_is_in m a p J order s job st
 
-    few : length (changes s (serial m.programs J order s)) ≤ length (all_wrote (plan_at m.programs.begins J) s order)
-    few = few_changes s (serial m.programs J order s) (all_wrote (plan_at m.programs.begins J) s order) st after (λ q h. ap (λ (t : Store). value_at t q) (sym (serial_is m a J order s)) ∙ kept_value (plan_at m.programs.begins J) order s q h)
+    few : length (changes s (serial m J order s)) ≤ length (all_wrote (plan_at m.begins J) s order)
+    few = few_changes s (serial m J order s) (all_wrote (plan_at m.begins J) s order) st after (λ q h. ap (λ (t : Store). value_at t q) (sym (serial_is m a J order s)) ∙ kept_value (plan_at m.begins J) order s q h)
 
-    short : length (all_wrote (plan_at m.programs.begins J) s order) ≤ 8 * length order
-    short = few_keys (plan_at m.programs.begins J) b order s st
+    short : length (all_wrote (plan_at m.begins J) s order) ≤ 8 * length order
+    short = few_keys (plan_at m.begins J) b order s st
 
 pub token_read : (o : Outcome) → FitsOutcome o → whole (outcome_at (outcome o)) ≡ Some o
 token_read o fits = ap (λ (r : Read Outcome). whole r) (ap outcome_at (sym (append-nil (outcome o))) ∙ outcome_grammar.again o [] fits)
