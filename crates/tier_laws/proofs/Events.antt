@@ -35,23 +35,25 @@ use Rattle.run_model.specs.declared.trace.Fared.{Fared}
 use Rattle.run_model.specs.declared.trace.Found.{Found}
 use Rattle.run_model.specs.declared.trace.TraceEvent.{TraceEvent}
 use Rattle.run_model.specs.declared.trace.TraceEvent.TheVariants.{Submit, Deliver, Short, Lead, Offer, Work, Retry, Crash, Restart, Wipe}
-use Rattle.run_model.specs.World.{Config, World, ClientEnd, start, fate, unwritten, can_fare, no_run, request_to, requests, opens, is_client_number, submits, reopens, takes_reply, client_gets, node_gets, arrives, delivered, shortened, leads, offers, works, node_retries, retries, crashes, restarts, wipes, if_can, happens}
+use Rattle.run_model.specs.World.{Config, World, ClientEnd, start, fate, unwritten, can_fare, kind_at, list_of, ran, request_to, requests, opens, is_client_number, submits, reopens, takes_reply, client_gets, node_gets, arrives, delivered, shortened, leads, offers, works, node_retries, retries, crashes, restarts, wipes, if_can, happens}
 use Rattle.run_model.specs.Runs.{is_in, log_part, log_soup, grows, run, world}
 use Rattle.tier_laws.specs.Said.{Laws}
 use Rattle.tier_laws.proofs.Lists.{put_here, put_there, get_end, get_left, get_right, pushed}
 use Rattle.tier_laws.proofs.Apply.{every-each}
 use Rattle.tier_laws.proofs.BackMoves.{back_move, back_retry_ok, back_leads_ok, back_offers_ok, one_msg}
 use Rattle.tier_laws.proofs.BackRows.{BackHere, BackMoveOk, back_knows, back_stays, call_ok, settle_ok}
-use Rattle.tier_laws.proofs.BackSteps.{at_back_ok, back_crash, back_restart, back_wipe}
+use Rattle.tier_laws.proofs.BackSteps.{inv_here, inv_restores, inv_step, pay_here, pay_restores, pay_step}
+use Rattle.tier_laws.proofs.Steps.{MoveFits, Restores, at_node_ok, crash_keeps, restart_keeps, wipe_keeps}
+use Rattle.tier_laws.proofs.Ledger.{Ledger}
 use Rattle.tier_laws.proofs.Backs.{ledger_start}
-use Rattle.tier_laws.proofs.Core.{Inv as WorldOk, Mid_event, back_mode-more, mid_mode-more, past, same_back, same_mid, soup_back, soup_mid, unchanged}
+use Rattle.tier_laws.proofs.Core.{Inv as WorldOk, Mid_event, back_logs, node-more, past, same_log, soup_log, unchanged}
 use Rattle.tier_laws.proofs.Grow.{grows_ok}
 use Rattle.tier_laws.proofs.Logs.{Complete, LogPart, log_weaker, nearly}
-use Rattle.tier_laws.proofs.MidSteps.{at_mid_ok, mid_crash, mid_restart, mid_wipe, start_tables}
+use Rattle.tier_laws.proofs.MidSteps.{here, mid_restores, mid_step, start_tables}
 use Rattle.tier_laws.proofs.Mirrors.{mirrors_start}
 use Rattle.tier_laws.proofs.Moves.{Here, MoveOk, knows, log_move, stays_ok}
 use Rattle.tier_laws.proofs.Offers.{retry_ok, leads_ok, offers_ok}
-use Rattle.tier_laws.proofs.Past.{BackOk, Grows, MidOk, SentBy, SentOk, Past, Submitted, back_ok-more, mid_ok-more, more-refl, parcels-more, run_ok-more, submitted-more}
+use Rattle.tier_laws.proofs.Past.{Grows, MidOk, SentBy, SentOk, Past, Submitted, ValueOk, more-refl, parcels-more, run_ok-more, submitted-more, value_ok-more}
 use Rattle.tier_laws.proofs.Rows.{answer_ok, have_ok, request_ok, token_ok, work_ok}
 use Rattle.tier_laws.proofs.Soups.{NoLog, no_log, none_each}
 use Rattle.run_model.specs.Runs.{log_soup}
@@ -69,27 +71,22 @@ client_changed : {B : Type 0} (c : Config B) (w : World B) (cl : ℕ → ClientE
 client_changed {B} c w cl ks sub td i none more sends clients told = record {
   codes = i.codes;
   h = i.h;
-  k = i.k;
   core = record {
     laws = i.core.laws;
-    mid_log = subst (λ z. LogPart c.u i.h z (w.logs MidTier) (MidOk c Q)) (sym (same_mid w.soup ks (no_mid ks none))) (log_weaker c.u i.h (log_soup MidTier w.soup) (w.logs MidTier) (MidOk c P) (MidOk c Q) (λ p v o. mid_ok-more c P Q p v gr o) i.core.mid_log);
-    back_log = λ t. subst (λ z. LogPart c.u (i.k t) z (w.logs t) (BackOk c Q t)) (sym (same_back t w.soup ks (no_back ks none t))) (log_weaker c.u (i.k t) (log_soup t w.soup) (w.logs t) (BackOk c P t) (BackOk c Q t) (λ p v o. back_ok-more c P Q t p v gr o) (i.core.back_log t));
+    logs = λ t. subst (λ z. LogPart c.u (i.h t) z (w.logs t) (ValueOk c Q t)) (sym (same_log t w.soup ks (no_log ks none t)))
+        (log_weaker c.u (i.h t) (log_soup t w.soup) (w.logs t) (ValueOk c P t) (ValueOk c Q t) (λ p v o. value_ok-more c P Q t p v gr o) (i.core.logs t));
     ledger = i.core.ledger;
     runs = λ j v e. run_ok-more c P Q v gr (i.core.runs j v e);
     right = i.core.right;
     packets = every-append (SentOk c Q) w.soup ks (parcels-more c P Q w.soup gr i.core.packets) sends;
-    mids = λ x l. mid_mode-more c P Q i.h i.h (log_soup MidTier w.soup) (log_soup MidTier (w.soup ++ ks)) x (w.nodes MidTier x) (w.nodes MidTier x).mode gr (all_same i.h) (soup_mid c.u w.soup ks) refl refl (i.core.mids x l);
-    backs = λ t x l. back_mode-more c P Q t (i.k t) (i.k t) (log_soup t w.soup) (log_soup t (w.soup ++ ks)) x (w.nodes t x) (w.nodes t x).mode gr (all_same (i.k t)) (soup_back c.u t w.soup ks) refl (i.core.backs t x l);
+    nodes = λ t x l. node-more c P Q t (i.h t) (i.h t) (log_soup t w.soup) (log_soup t (w.soup ++ ks)) x (w.nodes t x) (w.nodes t x).mode gr (all_same (i.h t)) (soup_log c.u t w.soup ks) refl refl (i.core.nodes t x l);
     clients = clients;
     starts = λ j n who body e. submitted-more P Q _ gr (i.core.starts j n who body e);
     told = told;
   };
-  before = subst (λ z. LogPart c.u i.h z (w.logs MidTier) (MidOk c P)) (sym (same_mid w.soup ks (no_mid ks none))) i.core.mid_log;
-  gone_codes = λ y g. refl;
-  near = record {
-    mid = nearly c.u (log_soup MidTier (w.soup ++ ks)) (w.logs MidTier) (subst (λ z. Complete c.u z (w.logs MidTier)) (sym (same_mid w.soup ks (no_mid ks none))) i.done.mid);
-    back = λ t. nearly c.u (log_soup t (w.soup ++ ks)) (w.logs t) (subst (λ z. Complete c.u z (w.logs t)) (sym (same_back t w.soup ks (no_back ks none t))) (i.done.back t));
-  };
+  before = subst (λ z. LogPart c.u (i.h MidTier) z (w.logs MidTier) (MidOk c P)) (sym (same_log MidTier w.soup ks (no_log ks none MidTier))) (i.core.logs MidTier);
+  gone_codes = λ t y g. refl;
+  near = record { all = λ t. nearly c.u (log_soup t (w.soup ++ ks)) (w.logs t) (subst (λ z. Complete c.u z (w.logs t)) (sym (same_log t w.soup ks (no_log ks none t))) (i.done.all t)) };
 }
   where
     P : Past B
@@ -162,24 +159,21 @@ takes_ok {B} c w y s text said i = cond_both (is_some (w.clients y).opened && (s
     closed = record {
       codes = i.codes;
       h = i.h;
-      k = i.k;
       core = record {
         laws = i.core.laws;
-        mid_log = i.core.mid_log;
-        back_log = i.core.back_log;
+        logs = i.core.logs;
         ledger = i.core.ledger;
         runs = i.core.runs;
         right = i.core.right;
         packets = i.core.packets;
-        mids = i.core.mids;
-        backs = i.core.backs;
+        nodes = i.core.nodes;
         clients = λ z t e. clients z t (cases_eq z y) e;
         starts = i.core.starts;
         told = pushed (λ (e : Entry). (server c.service w.hist).replies e.client e.seq ≡ Some e.body) w.told (record { client = y; seq = s; body = text }) i.core.told said;
       };
-      before = i.core.mid_log;
-      gone_codes = λ y g. refl;
-      near = record { mid = nearly c.u (log_soup MidTier w.soup) (w.logs MidTier) i.done.mid; back = λ t. nearly c.u (log_soup t w.soup) (w.logs t) (i.done.back t) };
+      before = i.core.logs MidTier;
+      gone_codes = λ t y g. refl;
+      near = record { all = λ t. nearly c.u (log_soup t w.soup) (w.logs t) (i.done.all t) };
     }
 
 -- DELIVERIES
@@ -195,61 +189,56 @@ log_place t (k ∷ soup) zero from to p b e =
     (0, subst (λ (z : Packet). slice_get (log_part t z.from z.to z.message ++ log_soup t soup) 0 ≡ Some (record { from = end_index from; to = end_index to; msg = p })) s (log_part-first t from to p (log_soup t soup) b))
 log_place t (k ∷ soup) (suc i) from to p b e = let r = log_place t soup i from to p b e in get_right (log_part t k.from k.to k.message) (log_soup t soup) r.0 _ r.1
 
-pub back_place : (t : Tier) (soup : List Packet) (i : ℕ) (from to : End) (p : PaxMsg AnyValue) → same_tier t MidTier ≡ false → is_in t from ≡ true → slice_get soup i ≡ Some (record { from = from; to = to; message = msgs.Log p }) → (j : ℕ) × (slice_get (log_soup t soup) j ≡ Some (record { from = end_index from; to = end_index to; msg = p }))
-back_place MidTier soup i from to p m b e = absurd (cc)
-back_place Inv soup i from to p m b e = log_place Inv soup i from to p b e
-back_place Pay soup i from to p m b e = log_place Pay soup i from to p b e
-
 node_in : (u : ℕ) (t : Tier) (from : End) → is_node_of u t from ≡ true → is_in t from ≡ true
 node_in u t (Node n) e = (and_parts (same_tier n.tier t) (nat_lt n.index (2 * u + 1)) e).0
 node_in u t (Client y) e = absurd (cc)
 
-mid_frame_ok : {B : Type 0} (c : Config B) (w : World B) (place : ℕ) (from to : End) (message : Msg) (x : ℕ) (σ : Mid) → (i : WorldOk c w) → slice_get w.soup place ≡ Some (record { from = from; to = to; message = message }) → SentBy c (past c w i.codes) from to message → Here c (past c w i.codes) i.h w.soup x σ
-    → MoveOk c (past c w i.codes) i.h w.soup x [] (on_frame c.u c.service.programs x σ from message)
-mid_frame_ok {B} c w place from to (msgs.Log p) x σ i e sent k = cond_both (is_node_of c.u MidTier from) (in_log c.u c.service.programs x σ (on_msg c.u σ.log (end_index from) p)) (drops σ 7) (MoveOk c (past c w i.codes) i.h w.soup x []) taken (λ f. stays_ok c (past c w i.codes) i.h w.soup x σ k)
+mid_frame_ok : {B : Type 0} (c : Config B) (w : World B) (place : ℕ) (from to : End) (message : Msg) (x : ℕ) (σ : Mid) → (i : WorldOk c w) → slice_get w.soup place ≡ Some (record { from = from; to = to; message = message }) → SentBy c (past c w i.codes) from to message → Here c (past c w i.codes) (i.h MidTier) w.soup x σ
+    → MoveOk c (past c w i.codes) (i.h MidTier) w.soup x [] (on_frame c.u c.service.programs x σ from message)
+mid_frame_ok {B} c w place from to (msgs.Log p) x σ i e sent k = cond_both (is_node_of c.u MidTier from) (in_log c.u c.service.programs x σ (on_msg c.u σ.log (end_index from) p)) (drops σ 7) (MoveOk c (past c w i.codes) (i.h MidTier) w.soup x []) taken (λ f. stays_ok c (past c w i.codes) (i.h MidTier) w.soup x σ k)
   where
-    taken : is_node_of c.u MidTier from ≡ true → MoveOk c (past c w i.codes) i.h w.soup x [] (in_log c.u c.service.programs x σ (on_msg c.u σ.log (end_index from) p))
+    taken : is_node_of c.u MidTier from ≡ true → MoveOk c (past c w i.codes) (i.h MidTier) w.soup x [] (in_log c.u c.service.programs x σ (on_msg c.u σ.log (end_index from) p))
     taken f =
         let q = log_place MidTier w.soup place from to p (node_in c.u MidTier from f) e in
         let j : LogPacket AnyValue = record { from = end_index from; to = end_index to; msg = p } in
-        let right : PacketOk c.u i.h (log_soup MidTier w.soup) j = every-get (PacketOk c.u i.h (log_soup MidTier w.soup)) (log_soup MidTier w.soup) q.0 j i.core.mid_log.history.packets q.1 in
-        log_move c (past c w i.codes) i.h w.soup x σ (on_msg c.u σ.log (end_index from) p) None k
-        (on_msg_ok c.u i.h (log_soup MidTier w.soup) x σ.log q.0 j p (knows c (past c w i.codes) i.h w.soup x σ k) q.1 refl right)
-        (msg_from c.u i.h (log_soup MidTier w.soup) x σ.log (end_index from) p k.inside right) (λ v f. absurd (cc))
-mid_frame_ok c w place from to (msgs.Request seq text) x σ i e sent k = cond_both (not (is_client from)) (drops σ 7) _ (MoveOk c (past c w i.codes) i.h w.soup x []) (λ f. stays_ok c (past c w i.codes) i.h w.soup x σ k)
-    (λ f. cond_both (not (is_request c.service.programs (record { client = end_index from; seq = seq }) text)) (drops σ 8) (on_request x σ (end_index from) seq text) (MoveOk c (past c w i.codes) i.h w.soup x []) (λ g. stays_ok c (past c w i.codes) i.h w.soup x σ k)
-    (λ g. request_ok c (past c w i.codes) i.h w.soup x σ (end_index from) seq text k sent))
-mid_frame_ok c w place from to (msgs.Token r token order) x σ i e sent k = cond_both (is_node_of c.u MidTier from) (on_token σ (record { round = r; from = end_index from; token = token; order = order })) (drops σ 7) (MoveOk c (past c w i.codes) i.h w.soup x [])
-    (λ f. token_ok c (past c w i.codes) i.h w.soup x σ (record { round = r; from = end_index from; token = token; order = order }) k sent) (λ f. stays_ok c (past c w i.codes) i.h w.soup x σ k)
-mid_frame_ok c w place from to (msgs.Answer n code) x σ i e sent k = cond_both (is_backend_node c.u from) (on_answer c.u x σ (tier_of from) n code) (drops σ 7) (MoveOk c (past c w i.codes) i.h w.soup x [])
-    (λ f. answer_ok c (past c w i.codes) i.h w.soup x σ (tier_of from) n code k sent) (λ f. stays_ok c (past c w i.codes) i.h w.soup x σ k)
-mid_frame_ok c w place from to (msgs.Have t n code) x σ i e sent k = cond_both (is_node_of c.u MidTier from) (on_have c.u x σ (end_index from) t n code) (drops σ 7) (MoveOk c (past c w i.codes) i.h w.soup x [])
-    (λ f. have_ok c (past c w i.codes) i.h w.soup x σ (end_index from) t n code k sent.0 sent.1) (λ f. stays_ok c (past c w i.codes) i.h w.soup x σ k)
-mid_frame_ok c w place from to (msgs.Reply who text) x σ i e sent k = stays_ok c (past c w i.codes) i.h w.soup x σ k
-mid_frame_ok c w place from to (msgs.Call n text) x σ i e sent k = stays_ok c (past c w i.codes) i.h w.soup x σ k
-mid_frame_ok c w place from to (msgs.Settle g) x σ i e sent k = stays_ok c (past c w i.codes) i.h w.soup x σ k
+        let right : PacketOk c.u (i.h MidTier) (log_soup MidTier w.soup) j = every-get (PacketOk c.u (i.h MidTier) (log_soup MidTier w.soup)) (log_soup MidTier w.soup) q.0 j (i.core.logs MidTier).history.packets q.1 in
+        log_move c (past c w i.codes) (i.h MidTier) w.soup x σ (on_msg c.u σ.log (end_index from) p) None k
+        (on_msg_ok c.u (i.h MidTier) (log_soup MidTier w.soup) x σ.log q.0 j p (knows c (past c w i.codes) (i.h MidTier) w.soup x σ k) q.1 refl right)
+        (msg_from c.u (i.h MidTier) (log_soup MidTier w.soup) x σ.log (end_index from) p k.inside right) (λ v f. absurd (cc))
+mid_frame_ok c w place from to (msgs.Request seq text) x σ i e sent k = cond_both (not (is_client from)) (drops σ 7) _ (MoveOk c (past c w i.codes) (i.h MidTier) w.soup x []) (λ f. stays_ok c (past c w i.codes) (i.h MidTier) w.soup x σ k)
+    (λ f. cond_both (not (is_request c.service.programs (record { client = end_index from; seq = seq }) text)) (drops σ 8) (on_request x σ (end_index from) seq text) (MoveOk c (past c w i.codes) (i.h MidTier) w.soup x []) (λ g. stays_ok c (past c w i.codes) (i.h MidTier) w.soup x σ k)
+    (λ g. request_ok c (past c w i.codes) (i.h MidTier) w.soup x σ (end_index from) seq text k sent))
+mid_frame_ok c w place from to (msgs.Token r token order) x σ i e sent k = cond_both (is_node_of c.u MidTier from) (on_token σ (record { round = r; from = end_index from; token = token; order = order })) (drops σ 7) (MoveOk c (past c w i.codes) (i.h MidTier) w.soup x [])
+    (λ f. token_ok c (past c w i.codes) (i.h MidTier) w.soup x σ (record { round = r; from = end_index from; token = token; order = order }) k sent) (λ f. stays_ok c (past c w i.codes) (i.h MidTier) w.soup x σ k)
+mid_frame_ok c w place from to (msgs.Answer n code) x σ i e sent k = cond_both (is_backend_node c.u from) (on_answer c.u x σ (tier_of from) n code) (drops σ 7) (MoveOk c (past c w i.codes) (i.h MidTier) w.soup x [])
+    (λ f. answer_ok c (past c w i.codes) (i.h MidTier) w.soup x σ (tier_of from) n code k sent) (λ f. stays_ok c (past c w i.codes) (i.h MidTier) w.soup x σ k)
+mid_frame_ok c w place from to (msgs.Have t n code) x σ i e sent k = cond_both (is_node_of c.u MidTier from) (on_have c.u x σ (end_index from) t n code) (drops σ 7) (MoveOk c (past c w i.codes) (i.h MidTier) w.soup x [])
+    (λ f. have_ok c (past c w i.codes) (i.h MidTier) w.soup x σ (end_index from) t n code k sent.0 sent.1) (λ f. stays_ok c (past c w i.codes) (i.h MidTier) w.soup x σ k)
+mid_frame_ok c w place from to (msgs.Reply who text) x σ i e sent k = stays_ok c (past c w i.codes) (i.h MidTier) w.soup x σ k
+mid_frame_ok c w place from to (msgs.Call n text) x σ i e sent k = stays_ok c (past c w i.codes) (i.h MidTier) w.soup x σ k
+mid_frame_ok c w place from to (msgs.Settle g) x σ i e sent k = stays_ok c (past c w i.codes) (i.h MidTier) w.soup x σ k
 
 back_frame_ok : {B : Type 0} (c : Config B) (w : World B) (place : ℕ) (from : End) (message : Msg) (t : Tier) (x : ℕ) (σ : Back B) → (i : WorldOk c w) → slice_get w.soup place ≡ Some (record { from = from; to = node t x; message = message }) → SentBy c (past c w i.codes) from (node t x) message
-    → BackHere c (past c w i.codes) t (w.logs t) (i.k t) w.soup x σ → BackMoveOk c (past c w i.codes) t (i.k t) w.soup x (backs.on_frame c.u (c.service.backend t) t x σ from message)
-back_frame_ok {B} c w place from (msgs.Log p) t x σ i e sent k = cond_both (is_node_of c.u t from) (back.in_log c.u (c.service.backend t) t x σ (on_msg c.u σ.log (end_index from) p)) (drops σ 7) (BackMoveOk c (past c w i.codes) t (i.k t) w.soup x) taken (λ f. back_stays c (past c w i.codes) t (w.logs t) (i.k t) w.soup x σ k)
+    → BackHere c (past c w i.codes) t (w.logs t) (i.h t) w.soup x σ → BackMoveOk c (past c w i.codes) t (i.h t) w.soup x (backs.on_frame c.u (c.service.backend t) t x σ from message)
+back_frame_ok {B} c w place from (msgs.Log p) t x σ i e sent k = cond_both (is_node_of c.u t from) (back.in_log c.u (c.service.backend t) t x σ (on_msg c.u σ.log (end_index from) p)) (drops σ 7) (BackMoveOk c (past c w i.codes) t (i.h t) w.soup x) taken (λ f. back_stays c (past c w i.codes) t (w.logs t) (i.h t) w.soup x σ k)
   where
-    taken : is_node_of c.u t from ≡ true → BackMoveOk c (past c w i.codes) t (i.k t) w.soup x (back.in_log c.u (c.service.backend t) t x σ (on_msg c.u σ.log (end_index from) p))
+    taken : is_node_of c.u t from ≡ true → BackMoveOk c (past c w i.codes) t (i.h t) w.soup x (back.in_log c.u (c.service.backend t) t x σ (on_msg c.u σ.log (end_index from) p))
     taken f =
-        let q = back_place t w.soup place from (node t x) p k.backend (node_in c.u t from f) e in
+        let q = log_place t w.soup place from (node t x) p (node_in c.u t from f) e in
         let j : LogPacket AnyValue = record { from = end_index from; to = x; msg = p } in
-        let right : PacketOk c.u (i.k t) (log_soup t w.soup) j = every-get (PacketOk c.u (i.k t) (log_soup t w.soup)) (log_soup t w.soup) q.0 j (i.core.back_log t).history.packets q.1 in
-        back_move c (past c w i.codes) t (w.logs t) (i.k t) w.soup x σ (on_msg c.u σ.log (end_index from) p) None k
-        (on_msg_ok c.u (i.k t) (log_soup t w.soup) x σ.log q.0 j p (back_knows c (past c w i.codes) t (w.logs t) (i.k t) w.soup x σ k) q.1 refl right)
-        (msg_from c.u (i.k t) (log_soup t w.soup) x σ.log (end_index from) p k.inside right) (one_msg c.u σ.log (end_index from) p) (λ q v f. absurd (cc))
-back_frame_ok c w place from (msgs.Call n text) t x σ i e sent k = cond_both (is_node_of c.u MidTier from) (on_call t x σ (end_index from) n text) (drops σ 7) (BackMoveOk c (past c w i.codes) t (i.k t) w.soup x)
-    (λ f. call_ok c (past c w i.codes) t (w.logs t) (i.k t) w.soup x σ (end_index from) n text k sent) (λ f. back_stays c (past c w i.codes) t (w.logs t) (i.k t) w.soup x σ k)
-back_frame_ok c w place from (msgs.Settle g) t x σ i e sent k = cond_both (is_node_of c.u MidTier from) (on_settle σ (end_index from) g) (drops σ 7) (BackMoveOk c (past c w i.codes) t (i.k t) w.soup x)
-    (λ f. settle_ok c (past c w i.codes) t (w.logs t) (i.k t) w.soup x σ (end_index from) g k sent) (λ f. back_stays c (past c w i.codes) t (w.logs t) (i.k t) w.soup x σ k)
-back_frame_ok c w place from (msgs.Request seq text) t x σ i e sent k = back_stays c (past c w i.codes) t (w.logs t) (i.k t) w.soup x σ k
-back_frame_ok c w place from (msgs.Reply who text) t x σ i e sent k = back_stays c (past c w i.codes) t (w.logs t) (i.k t) w.soup x σ k
-back_frame_ok c w place from (msgs.Token r token order) t x σ i e sent k = back_stays c (past c w i.codes) t (w.logs t) (i.k t) w.soup x σ k
-back_frame_ok c w place from (msgs.Answer n code) t x σ i e sent k = back_stays c (past c w i.codes) t (w.logs t) (i.k t) w.soup x σ k
-back_frame_ok c w place from (msgs.Have v n code) t x σ i e sent k = back_stays c (past c w i.codes) t (w.logs t) (i.k t) w.soup x σ k
+        let right : PacketOk c.u (i.h t) (log_soup t w.soup) j = every-get (PacketOk c.u (i.h t) (log_soup t w.soup)) (log_soup t w.soup) q.0 j (i.core.logs t).history.packets q.1 in
+        back_move c (past c w i.codes) t (w.logs t) (i.h t) w.soup x σ (on_msg c.u σ.log (end_index from) p) None k
+        (on_msg_ok c.u (i.h t) (log_soup t w.soup) x σ.log q.0 j p (back_knows c (past c w i.codes) t (w.logs t) (i.h t) w.soup x σ k) q.1 refl right)
+        (msg_from c.u (i.h t) (log_soup t w.soup) x σ.log (end_index from) p k.inside right) (one_msg c.u σ.log (end_index from) p) (λ q v f. absurd (cc))
+back_frame_ok c w place from (msgs.Call n text) t x σ i e sent k = cond_both (is_node_of c.u MidTier from) (on_call t x σ (end_index from) n text) (drops σ 7) (BackMoveOk c (past c w i.codes) t (i.h t) w.soup x)
+    (λ f. call_ok c (past c w i.codes) t (w.logs t) (i.h t) w.soup x σ (end_index from) n text k sent) (λ f. back_stays c (past c w i.codes) t (w.logs t) (i.h t) w.soup x σ k)
+back_frame_ok c w place from (msgs.Settle g) t x σ i e sent k = cond_both (is_node_of c.u MidTier from) (on_settle σ (end_index from) g) (drops σ 7) (BackMoveOk c (past c w i.codes) t (i.h t) w.soup x)
+    (λ f. settle_ok c (past c w i.codes) t (w.logs t) (i.h t) w.soup x σ (end_index from) g k sent) (λ f. back_stays c (past c w i.codes) t (w.logs t) (i.h t) w.soup x σ k)
+back_frame_ok c w place from (msgs.Request seq text) t x σ i e sent k = back_stays c (past c w i.codes) t (w.logs t) (i.h t) w.soup x σ k
+back_frame_ok c w place from (msgs.Reply who text) t x σ i e sent k = back_stays c (past c w i.codes) t (w.logs t) (i.h t) w.soup x σ k
+back_frame_ok c w place from (msgs.Token r token order) t x σ i e sent k = back_stays c (past c w i.codes) t (w.logs t) (i.h t) w.soup x σ k
+back_frame_ok c w place from (msgs.Answer n code) t x σ i e sent k = back_stays c (past c w i.codes) t (w.logs t) (i.h t) w.soup x σ k
+back_frame_ok c w place from (msgs.Have v n code) t x σ i e sent k = back_stays c (past c w i.codes) t (w.logs t) (i.h t) w.soup x σ k
 
 client_ok : {B : Type 0} (c : Config B) (w : World B) (from : End) (message : Msg) (y : ℕ) → (i : WorldOk c w) → SentBy c (past c w i.codes) from (Client y) message → Mid_event c (past c w i.codes) (client_gets w y message)
 client_ok {B} c w from (msgs.Reply who text) y i sent =
@@ -264,11 +253,15 @@ client_ok c w from (msgs.Answer n code) y i sent = unchanged c w i
 client_ok c w from (msgs.Have t n code) y i sent = unchanged c w i
 client_ok c w from (msgs.Settle g) y i sent = unchanged c w i
 
+frame_fits : {B : Type 0} (c : Config B) (w : World B) (place : ℕ) (from : End) (message : Msg) (t : Tier) (x : ℕ) → c.u < 128 → (i : WorldOk c w) → slice_get w.soup place ≡ Some (record { from = from; to = node t x; message = message })
+    → SentBy c (past c w i.codes) from (node t x) message → MoveFits c w i t x ((kind_at c t x).on_frame from message) (λ σ. [])
+frame_fits c w place from message MidTier x few i e sent = λ σ lx up. mid_step c (past c w i.codes) (i.h MidTier) w.soup x [] (mids.on_frame c.u c.service.programs x σ from message) (mid_frame_ok c w place from (node MidTier x) message x σ i e sent (here c w x σ few lx i up))
+frame_fits c w place from message Inv x few i e sent = λ σ lx up. inv_step c (past c w i.codes) (i.h Inv) w.soup x (backs.on_frame c.u (c.service.backend Inv) Inv x σ from message) (back_frame_ok c w place from message Inv x σ i e sent (inv_here c w x σ few lx i up))
+frame_fits c w place from message Pay x few i e sent = λ σ lx up. pay_step c (past c w i.codes) (i.h Pay) w.soup x (backs.on_frame c.u (c.service.backend Pay) Pay x σ from message) (back_frame_ok c w place from message Pay x σ i e sent (pay_here c w x σ few lx i up))
+
 node_gets_ok : {B : Type 0} (c : Config B) (w : World B) (fared : Fared) (place : ℕ) (from : End) (message : Msg) (t : Tier) (x : ℕ) → c.u < 128 → (i : WorldOk c w) → slice_get w.soup place ≡ Some (record { from = from; to = node t x; message = message }) → SentBy c (past c w i.codes) from (node t x) message
     → Mid_event c (past c w i.codes) (node_gets c w fared from message t x)
-node_gets_ok c w fared place from message MidTier x few i e sent = at_mid_ok c w x (fate c fared) (λ σ. on_frame c.u c.service.programs x σ from message) no_run few i.core.laws i (λ σ k. mid_frame_ok c w place from (node MidTier x) message x σ i e sent k)
-node_gets_ok c w fared place from message Inv x few i e sent = at_back_ok c w Inv x (fate c fared) (λ σ. backs.on_frame c.u (c.service.backend Inv) Inv x σ from message) few refl i (λ σ k. back_frame_ok c w place from message Inv x σ i e sent k)
-node_gets_ok c w fared place from message Pay x few i e sent = at_back_ok c w Pay x (fate c fared) (λ σ. backs.on_frame c.u (c.service.backend Pay) Pay x σ from message) few refl i (λ σ k. back_frame_ok c w place from message Pay x σ i e sent k)
+node_gets_ok c w fared place from message t x few i e sent = at_node_ok c w t x (fate c fared) ((kind_at c t x).on_frame from message) (λ σ. []) few i (frame_fits c w place from message t x few i e sent)
 
 arrives_ok : {B : Type 0} (c : Config B) (w : World B) (fared : Fared) (place : ℕ) (from : End) (message : Msg) (to : End) → c.u < 128 → (i : WorldOk c w) → slice_get w.soup place ≡ Some (record { from = from; to = to; message = message }) → Mid_event c (past c w i.codes) (arrives c w fared from message to)
 arrives_ok c w fared place from message (Node n) few i e = node_gets_ok c w fared place from message n.tier n.index few i e (every-get (SentOk c (past c w i.codes)) w.soup place (record { from = from; to = Node n; message = message }) i.core.packets e)
@@ -284,22 +277,37 @@ shortened_ok c w fared bytes place (Some k) few i e = cond_both (nat_le (c.frame
 
 -- COMMANDS
 
+lead_fits : {B : Type 0} (c : Config B) (w : World B) (t : Tier) (x : ℕ) → c.u < 128 → (i : WorldOk c w) → MoveFits c w i t x (kind_at c t x).leads (λ σ. [])
+lead_fits c w MidTier x few i = λ σ lx up. mid_step c (past c w i.codes) (i.h MidTier) w.soup x [] (mids.leads c.u c.service.programs x σ) (leads_ok c (past c w i.codes) (i.h MidTier) w.soup x σ (here c w x σ few lx i up))
+lead_fits c w Inv x few i = λ σ lx up. inv_step c (past c w i.codes) (i.h Inv) w.soup x (backs.leads c.u (c.service.backend Inv) Inv x σ) (back_leads_ok c (past c w i.codes) Inv (w.logs Inv) (i.h Inv) w.soup x σ (inv_here c w x σ few lx i up))
+lead_fits c w Pay x few i = λ σ lx up. pay_step c (past c w i.codes) (i.h Pay) w.soup x (backs.leads c.u (c.service.backend Pay) Pay x σ) (back_leads_ok c (past c w i.codes) Pay (w.logs Pay) (i.h Pay) w.soup x σ (pay_here c w x σ few lx i up))
+
 lead_event : {B : Type 0} (c : Config B) (w : World B) (fared : Fared) (t : Tier) (x : ℕ) → c.u < 128 → (i : WorldOk c w) → Mid_event c (past c w i.codes) (leads c w fared t x)
-lead_event c w fared MidTier x few i = at_mid_ok c w x (fate c fared) (λ σ. mids.leads c.u c.service.programs x σ) no_run few i.core.laws i (λ σ k. leads_ok c (past c w i.codes) i.h w.soup x σ k)
-lead_event c w fared Inv x few i = at_back_ok c w Inv x (fate c fared) (λ σ. backs.leads c.u (c.service.backend Inv) Inv x σ) few refl i (λ σ k. back_leads_ok c (past c w i.codes) Inv (w.logs Inv) (i.k Inv) w.soup x σ k)
-lead_event c w fared Pay x few i = at_back_ok c w Pay x (fate c fared) (λ σ. backs.leads c.u (c.service.backend Pay) Pay x σ) few refl i (λ σ k. back_leads_ok c (past c w i.codes) Pay (w.logs Pay) (i.k Pay) w.soup x σ k)
+lead_event c w fared t x few i = at_node_ok c w t x (fate c fared) (kind_at c t x).leads (λ σ. []) few i (lead_fits c w t x few i)
+
+offer_fits : {B : Type 0} (c : Config B) (w : World B) (t : Tier) (x : ℕ) → c.u < 128 → (i : WorldOk c w) → MoveFits c w i t x (kind_at c t x).offers (λ σ. [])
+offer_fits c w MidTier x few i = λ σ lx up. mid_step c (past c w i.codes) (i.h MidTier) w.soup x [] (mids.offers c.u c.service.programs x σ) (offers_ok c (past c w i.codes) (i.h MidTier) w.soup x σ (here c w x σ few lx i up))
+offer_fits c w Inv x few i = λ σ lx up. inv_step c (past c w i.codes) (i.h Inv) w.soup x (backs.offers c.u (c.service.backend Inv) Inv x σ) (back_offers_ok c (past c w i.codes) Inv (w.logs Inv) (i.h Inv) w.soup x σ (inv_here c w x σ few lx i up))
+offer_fits c w Pay x few i = λ σ lx up. pay_step c (past c w i.codes) (i.h Pay) w.soup x (backs.offers c.u (c.service.backend Pay) Pay x σ) (back_offers_ok c (past c w i.codes) Pay (w.logs Pay) (i.h Pay) w.soup x σ (pay_here c w x σ few lx i up))
 
 offer_event : {B : Type 0} (c : Config B) (w : World B) (fared : Fared) (t : Tier) (x : ℕ) → c.u < 128 → (i : WorldOk c w) → Mid_event c (past c w i.codes) (offers c w fared t x)
-offer_event c w fared MidTier x few i = at_mid_ok c w x (fate c fared) (λ σ. mids.offers c.u c.service.programs x σ) no_run few i.core.laws i (λ σ k. offers_ok c (past c w i.codes) i.h w.soup x σ k)
-offer_event c w fared Inv x few i = at_back_ok c w Inv x (fate c fared) (λ σ. backs.offers c.u (c.service.backend Inv) Inv x σ) few refl i (λ σ k. back_offers_ok c (past c w i.codes) Inv (w.logs Inv) (i.k Inv) w.soup x σ k)
-offer_event c w fared Pay x few i = at_back_ok c w Pay x (fate c fared) (λ σ. backs.offers c.u (c.service.backend Pay) Pay x σ) few refl i (λ σ k. back_offers_ok c (past c w i.codes) Pay (w.logs Pay) (i.k Pay) w.soup x σ k)
+offer_event c w fared t x few i = at_node_ok c w t x (fate c fared) (kind_at c t x).offers (λ σ. []) few i (offer_fits c w t x few i)
 
 work_event : {B : Type 0} (c : Config B) (w : World B) (t : Tier) (x : ℕ) (schedule : List ℕ) → c.u < 128 → (i : WorldOk c w) → Mid_event c (past c w i.codes) (works c w t x schedule)
-work_event c w MidTier x schedule few i = at_mid_ok c w x unwritten (λ σ. work c.u c.service.programs x σ schedule) (λ σ. work_run c.u c.service.programs x σ schedule) few i.core.laws i (λ σ k. work_ok c (past c w i.codes) i.h w.soup x σ schedule k)
+work_event c w MidTier x schedule few i = at_node_ok c w MidTier x unwritten (λ σ. work c.u c.service.programs x σ schedule) (ran c x schedule) few i
+    (λ σ lx up. mid_step c (past c w i.codes) (i.h MidTier) w.soup x (ran c x schedule σ) (work c.u c.service.programs x σ schedule) (work_ok c (past c w i.codes) (i.h MidTier) w.soup x σ schedule (here c w x σ few lx i up)))
 work_event c w Inv x schedule few i = unchanged c w i
 work_event c w Pay x schedule few i = unchanged c w i
 
+retry_fits : {B : Type 0} (c : Config B) (w : World B) (t : Tier) (x : ℕ) → c.u < 128 → (i : WorldOk c w) → MoveFits c w i t x (kind_at c t x).retry (λ σ. [])
+retry_fits c w MidTier x few i = λ σ lx up. mid_step c (past c w i.codes) (i.h MidTier) w.soup x [] (mids.retry c.u x σ) (retry_ok c (past c w i.codes) (i.h MidTier) w.soup x σ (here c w x σ few lx i up))
+retry_fits c w Inv x few i = λ σ lx up. inv_step c (past c w i.codes) (i.h Inv) w.soup x (backs.retry c.u Inv x σ) (back_retry_ok c (past c w i.codes) Inv (w.logs Inv) (i.h Inv) w.soup x σ (inv_here c w x σ few lx i up))
+retry_fits c w Pay x few i = λ σ lx up. pay_step c (past c w i.codes) (i.h Pay) w.soup x (backs.retry c.u Pay x σ) (back_retry_ok c (past c w i.codes) Pay (w.logs Pay) (i.h Pay) w.soup x σ (pay_here c w x σ few lx i up))
+
 node_retry_event : {B : Type 0} (c : Config B) (w : World B) (t : Tier) (x : ℕ) → c.u < 128 → (i : WorldOk c w) → Mid_event c (past c w i.codes) (node_retries c w t x)
+node_retry_event c w t x few i = at_node_ok c w t x unwritten (kind_at c t x).retry (λ σ. []) few i (retry_fits c w t x few i)
+
+retry_event : {B : Type 0} (c : Config B) (w : World B) (t : Tier) (x : ℕ) → c.u < 128 → (i : WorldOk c w) → Mid_event c (past c w i.codes) (node_retries c w t x)
 node_retry_event c w MidTier x few i = at_mid_ok c w x unwritten (λ σ. mids.retry c.u x σ) no_run few i.core.laws i (λ σ k. retry_ok c (past c w i.codes) i.h w.soup x σ k)
 node_retry_event c w Inv x few i = at_back_ok c w Inv x unwritten (λ σ. backs.retry c.u Inv x σ) few refl i (λ σ k. back_retry_ok c (past c w i.codes) Inv (w.logs Inv) (i.k Inv) w.soup x σ k)
 node_retry_event c w Pay x few i = at_back_ok c w Pay x unwritten (λ σ. backs.retry c.u Pay x σ) few refl i (λ σ k. back_retry_ok c (past c w i.codes) Pay (w.logs Pay) (i.k Pay) w.soup x σ k)
@@ -308,20 +316,10 @@ retry_event : {B : Type 0} (c : Config B) (w : World B) (end : End) → c.u < 12
 retry_event c w (Node n) few i = node_retry_event c w n.tier n.index few i
 retry_event c w (Client y) few i = reopens_ok c w y (w.clients y).opened refl i
 
-crash_event : {B : Type 0} (c : Config B) (w : World B) (t : Tier) (x : ℕ) → (i : WorldOk c w) → Mid_event c (past c w i.codes) (crashes c w t x)
-crash_event c w MidTier x i = mid_crash c w x i
-crash_event c w Inv x i = back_crash c w Inv x i
-crash_event c w Pay x i = back_crash c w Pay x i
-
-restart_event : {B : Type 0} (c : Config B) (w : World B) (found : Found) (t : Tier) (x : ℕ) → (i : WorldOk c w) → Mid_event c (past c w i.codes) (restarts c w found t x)
-restart_event c w found MidTier x i = mid_restart c w x found i
-restart_event c w found Inv x i = back_restart c w Inv x found i
-restart_event c w found Pay x i = back_restart c w Pay x found i
-
-wipe_event : {B : Type 0} (c : Config B) (w : World B) (t : Tier) (x : ℕ) → (i : WorldOk c w) → Mid_event c (past c w i.codes) (wipes c w t x)
-wipe_event c w MidTier x i = mid_wipe c w x i
-wipe_event c w Inv x i = back_wipe c w Inv x i
-wipe_event c w Pay x i = back_wipe c w Pay x i
+restores : {B : Type 0} (c : Config B) (w : World B) (i : WorldOk c w) (t : Tier) (x : ℕ) → Restores c w i t x (kind_at c t x).recovered
+restores c w i MidTier x = mid_restores c w i x
+restores c w i Inv x = inv_restores c w i x
+restores c w i Pay x = pay_restores c w i x
 
 -- EVENTS
 
@@ -336,45 +334,44 @@ happens_ok c w (Lead n fared) few i = if_can_ok c w _ fared i (lead_event c w fa
 happens_ok c w (Offer n fared) few i = if_can_ok c w _ fared i (offer_event c w fared n.tier n.index few i)
 happens_ok c w (Work n schedule) few i = work_event c w n.tier n.index schedule few i
 happens_ok c w (Retry end) few i = retry_event c w end few i
-happens_ok c w (Crash n) few i = crash_event c w n.tier n.index i
-happens_ok c w (Restart n found) few i = restart_event c w found n.tier n.index i
-happens_ok c w (Wipe n) few i = wipe_event c w n.tier n.index i
+happens_ok c w (Crash n) few i = crash_keeps c w n.tier n.index i
+happens_ok c w (Restart n found) few i = restart_keeps c w n.tier n.index (kind_at c n.tier n.index).recovered (list_of found) i (restores c w i n.tier n.index)
+happens_ok c w (Wipe n) few i = wipe_keeps c w n.tier n.index i
 
 pub start_ok : {B : Type 0} (c : Config B) → Laws c.service.programs → WorldOk c (start {B = B})
 start_ok {B} c laws = record {
-  codes = λ x. [];
-  h = λ x. [];
-  k = λ t x. [];
+  codes = λ t x. [];
+  h = λ t x. [];
   core = record {
     laws = laws;
-    mid_log = record { history = empty_history c.u; good = λ x l p b v d. absurd d; sound = λ p v e. absurd (cc) };
-    back_log = back_log;
-    ledger = ledger_start c.service c.depth (mirrors_start c.service c.depth) (start_tables c.service c.depth (empty_server c.service));
+    logs = λ t. record { history = empty_history c.u; good = λ x l p b v d. absurd d; sound = λ p v e. absurd (cc) };
+    ledger = subst (λ K. Ledger c.service c.depth [] K []) no_logs (ledger_start c.service c.depth (mirrors_start c.service c.depth) (start_tables c.depth (empty_server c.service)));
     runs = λ i v e. absurd (cc);
-    right = λ x i q e. absurd (cc);
+    right = λ t x i q e. absurd (cc);
     packets = tt;
-    mids = λ x l. record { is_log = refl; is_held = refl; pending = λ n Q q. absurd (cc) };
-    backs = λ t x l. record { is_log = refl; pending = λ n Q q. absurd (cc) };
+    nodes = λ t x l. record { is_log = refl; is_held = refl; pending = λ n Q q. absurd (cc) };
     clients = λ y text e. absurd (cc);
     starts = λ j n who body e. absurd (cc);
     told = λ j e f. absurd (cc);
   };
-  done = record { mid = record { at = λ p v m. absurd (let e = m.is_sent in cc) }; back = complete };
+  done = record { all = λ t. record { at = λ p v m. absurd (let e = m.is_sent in cc) } };
 }
   where
     empty_history : {V : Type 0} (u : ℕ) → History {V = V} u (λ x. []) []
     empty_history u = record { orderly = λ x l. tt; votes = λ x l p b v d. absurd d; learned = λ x l p v e. absurd (cc); packets = tt }
 
-    back_log : (t : Tier) → LogPart c.u (λ x. []) (log_soup t []) [] (BackOk c (past c (start {B = B}) (λ x. [])) t)
-    back_log t = subst (λ z. LogPart c.u (λ x. []) z [] (BackOk c (past c (start {B = B}) (λ x. [])) t)) (sym (back_nil t)) (record { history = empty_history c.u; good = λ x l p b v d. absurd d; sound = λ p v e. absurd (cc) })
-
-    complete : (t : Tier) → Complete {V = AnyValue} c.u (log_soup t []) []
-    complete t = subst (λ z. Complete c.u z []) (sym (back_nil t)) (record { at = λ p v m. absurd (let e = m.is_sent in cc) })
+    no_logs : (λ (t : Tier). []) ≡ back_logs (λ t. [])
+    no_logs = λ i s. at s i
+      where
+        at : (s : Tier) → [] ≡ back_logs (λ t. []) s
+        at MidTier = refl
+        at Inv = refl
+        at Pay = refl
 
 -- no node holds anything
-pub start_codes : {B : Type 0} (c : Config B) (laws : Laws c.service.programs) (x : ℕ) → (start_ok c laws).codes x ≡ []
+pub start_codes : {B : Type 0} (c : Config B) (laws : Laws c.service.programs) (t : Tier) (x : ℕ) → (start_ok c laws).codes t x ≡ []
 unfolding start_ok
-start_codes c laws x = refl
+start_codes c laws t x = refl
 
 pub run_ok : {B : Type 0} (c : Config B) (es : List TraceEvent) (w : World B) → c.u < 128 → WorldOk c w → WorldOk c (run c es w)
 run_ok c [] w few i = i

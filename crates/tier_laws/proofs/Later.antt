@@ -10,7 +10,7 @@ use Rattle.aeg_base.specs.declared.names.End.{End}
 use Rattle.aeg_base.specs.declared.names.End.TheVariants.{Node as OfNode, Client}
 use Rattle.server_model.specs.declared.history.Hist.TheVariants.{Start}
 use Rattle.log_model.specs.Chosen.{chosen_among}
-use Rattle.log_model.specs.Nodes.{Device, Mode, Node, stands}
+use Rattle.log_model.specs.Nodes.{Mode, Node}
 use Rattle.log_model.specs.Nodes.Mode.{Down, Gone, Up}
 use Rattle.log_values.specs.declared.fact.Fact.{Fact}
 use Rattle.log_values.specs.declared.any_value.AnyValue.{AnyValue}
@@ -18,19 +18,15 @@ use Rattle.frames.specs.declared.message.Msg.{Msg}
 use Rattle.frames.specs.declared.message.Msg.TheVariants as msgs
 use Rattle.round_model.specs.Lists.{is_some}
 use Rattle.round_model.specs.Service.{is_request}
-use Rattle.tier_model.specs.Mid.{Mid}
-use Rattle.tier_model.specs.MidRows.{Running}
+use Rattle.tier_model.specs.Kinds.{State}
+use Rattle.round_model.specs.Verdicts.{Vote}
 use Rattle.tier_model.specs.MidRows as mids
-use Rattle.tier_model.specs.BackRows as backs
-use Rattle.tier_model.specs.Back.{Back}
 use Rattle.tier_model.specs.Moves.{Move, Packet}
 use Rattle.run_model.specs.declared.trace.Fared.{Fared}
-use Rattle.run_model.specs.declared.trace.Found.{Found}
 use Rattle.run_model.specs.declared.trace.TraceEvent.{TraceEvent}
 use Rattle.run_model.specs.declared.trace.TraceEvent.TheVariants.{Submit, Deliver, Short, Lead, Offer, Work, Retry, Crash, Restart, Wipe}
-use Rattle.run_model.specs.World.{Config, World, start, fate, unwritten, no_run, crashed, restarted, at_mid, mid_up, at_back, back_up, mid_node, back_node, with_mid, with_back, opens, is_client_number, submits, reopens, takes_reply, client_gets, node_gets, arrives, delivered, shortened, leads, offers, works, node_retries, retries, crashes, restarts, wipes, can_fare, if_can, happens}
-use Rattle.run_model.specs.Runs.{back_chosen, back_grows, grows, mid_chosen, mid_grows, run, served_of, world}
-use Rattle.run_model.specs.Histories.{back_steps, value_steps}
+use Rattle.run_model.specs.World.{Config, World, Fate, start, fate, unwritten, kind_at, ran, node_up, at_node, placed, with_node, opens, is_client_number, submits, reopens, takes_reply, client_gets, node_gets, arrives, delivered, shortened, leads, offers, works, node_retries, retries, can_fare, if_can, happens}
+use Rattle.run_model.specs.Runs.{chosen_next, grown, grows, grows_at, run, steps_at, world}
 use Rattle.run_model.proofs.Appending.{run-append}
 use Rattle.tier_laws.specs.Said.{Laws, IsFront, WasSubmitted, chosen_log}
 use Rattle.tier_laws.proofs.Events.{world_ok}
@@ -41,43 +37,31 @@ use Rattle.tier_laws.proofs.Lists.{by_tier, get_left, get_within}
 
 pub record Keeps {B : Type 0} (w z : World B) : Type 0 where
   pub hist : z.hist ≡ w.hist
-  pub log : z.log ≡ (w.logs MidTier)
   pub logs : z.logs ≡ w.logs
 
 keeps_refl : {B : Type 0} (w : World B) → Keeps w w
-keeps_refl w = record { hist = refl; log = refl; logs = refl }
+keeps_refl w = record { hist = refl; logs = refl }
 
-mid_up_keeps : {B : Type 0} (w : World B) (x : ℕ) (d : List (List Fact) → List Fact → Device) (move : Mid → Move Mid) (r : Mid → Option Running) (m : Mode Mid) → Keeps w (mid_up w x d move r m)
-mid_up_keeps w x d move r (Up σ) = record { hist = refl; log = refl; logs = refl }
-mid_up_keeps w x d move r Down = keeps_refl w
-mid_up_keeps w x d move r Gone = keeps_refl w
+node_up_keeps : {B : Type 0} (w : World B) (t : Tier) (x : ℕ) (d : Fate) (move : State B t → Move (State B t)) (ran : State B t → List Vote) (m : Mode (State B t)) → Keeps w (node_up w t x d move ran m)
+node_up_keeps w t x d move ran (Up σ) = record { hist = refl; logs = refl }
+node_up_keeps w t x d move ran Down = keeps_refl w
+node_up_keeps w t x d move ran Gone = keeps_refl w
 
-at_mid_keeps : {B : Type 0} (c : Config B) (w : World B) (x : ℕ) (d : List (List Fact) → List Fact → Device) (move : Mid → Move Mid) (r : Mid → Option Running) → Keeps w (at_mid c w x d move r)
-at_mid_keeps c w x d move r = cond_both (nat_lt x (2 * c.u + 1)) (mid_up w x d move r (w.nodes MidTier x).mode) w (Keeps w) (λ e. mid_up_keeps w x d move r (w.nodes MidTier x).mode) (λ e. keeps_refl w)
+at_node_keeps : {B : Type 0} (c : Config B) (w : World B) (t : Tier) (x : ℕ) (d : Fate) (move : State B t → Move (State B t)) (ran : State B t → List Vote) → Keeps w (at_node c w t x d move ran)
+at_node_keeps c w t x d move ran = cond_both (nat_lt x (2 * c.u + 1)) (node_up w t x d move ran (w.nodes t x).mode) w (Keeps w) (λ e. node_up_keeps w t x d move ran (w.nodes t x).mode) (λ e. keeps_refl w)
 
-back_up_keeps : {B : Type 0} (w : World B) (t : Tier) (x : ℕ) (d : List (List Fact) → List Fact → Device) (move : Back B → Move (Back B)) (m : Mode (Back B)) → Keeps w (back_up w t x d move m)
-back_up_keeps w t x d move (Up σ) = record { hist = refl; log = refl; logs = refl }
-back_up_keeps w t x d move Down = keeps_refl w
-back_up_keeps w t x d move Gone = keeps_refl w
-
-at_back_keeps : {B : Type 0} (c : Config B) (w : World B) (t : Tier) (x : ℕ) (d : List (List Fact) → List Fact → Device) (move : Back B → Move (Back B)) → Keeps w (at_back c w t x d move)
-at_back_keeps c w t x d move = cond_both (nat_lt x (2 * c.u + 1)) (back_up w t x d move (w.nodes t x).mode) w (Keeps w) (λ e. back_up_keeps w t x d move (w.nodes t x).mode) (λ e. keeps_refl w)
-
-mid_node_keeps : {B : Type 0} (c : Config B) (w : World B) (x : ℕ) (node : Node Mid Fact) → Keeps w (mid_node c w x node)
-mid_node_keeps c w x node = cond_both (nat_lt x (2 * c.u + 1)) (with_mid w x node [] []) w (Keeps w) (λ e. record { hist = refl; log = refl; logs = refl }) (λ e. keeps_refl w)
-
-back_node_keeps : {B : Type 0} (c : Config B) (w : World B) (t : Tier) (x : ℕ) (node : Node (Back B) Fact) → Keeps w (back_node c w t x node)
-back_node_keeps c w t x node = cond_both (nat_lt x (2 * c.u + 1)) (with_back w t x node []) w (Keeps w) (λ e. record { hist = refl; log = refl; logs = refl }) (λ e. keeps_refl w)
+placed_keeps : {B : Type 0} (c : Config B) (w : World B) (t : Tier) (x : ℕ) (node : Node (State B t) Fact) → Keeps w (placed c w t x node)
+placed_keeps c w t x node = cond_both (nat_lt x (2 * c.u + 1)) (with_node w t x node [] []) w (Keeps w) (λ e. record { hist = refl; logs = refl }) (λ e. keeps_refl w)
 
 takes_keeps : {B : Type 0} (w : World B) (y s : ℕ) (text : List ℕ) → Keeps w (takes_reply w y s text)
-takes_keeps w y s text = cond_both (is_some (w.clients y).opened && (s == (w.clients y).last)) _ w (Keeps w) (λ e. record { hist = refl; log = refl; logs = refl }) (λ e. keeps_refl w)
+takes_keeps w y s text = cond_both (is_some (w.clients y).opened && (s == (w.clients y).last)) _ w (Keeps w) (λ e. record { hist = refl; logs = refl }) (λ e. keeps_refl w)
 
 submits_keeps : {B : Type 0} (c : Config B) (w : World B) (y : ℕ) (text : List ℕ) → Keeps w (submits c w y text)
-submits_keeps c w y text = cond_both (is_client_number y && (is_request c.service.programs (record { client = y; seq = suc (w.clients y).last }) text && (not (is_some (w.clients y).opened) && nat_lt (w.clients y).last 65536))) (opens c.u w y text) w (Keeps w) (λ e. record { hist = refl; log = refl; logs = refl }) (λ e. keeps_refl w)
+submits_keeps c w y text = cond_both (is_client_number y && (is_request c.service.programs (record { client = y; seq = suc (w.clients y).last }) text && (not (is_some (w.clients y).opened) && nat_lt (w.clients y).last 65536))) (opens c.u w y text) w (Keeps w) (λ e. record { hist = refl; logs = refl }) (λ e. keeps_refl w)
 
 reopens_keeps : {B : Type 0} (c : Config B) (w : World B) (y : ℕ) (o : Option (List ℕ)) → Keeps w (reopens c w y o)
 reopens_keeps c w y None = keeps_refl w
-reopens_keeps c w y (Some text) = record { hist = refl; log = refl; logs = refl }
+reopens_keeps c w y (Some text) = record { hist = refl; logs = refl }
 
 client_keeps : {B : Type 0} (w : World B) (y : ℕ) (message : Msg) → Keeps w (client_gets w y message)
 client_keeps w y (msgs.Reply who text) = takes_keeps w y who.seq text
@@ -90,9 +74,7 @@ client_keeps w y (msgs.Have t n code) = keeps_refl w
 client_keeps w y (msgs.Settle g) = keeps_refl w
 
 node_gets_keeps : {B : Type 0} (c : Config B) (w : World B) (fared : Fared) (from : End) (message : Msg) (t : Tier) (x : ℕ) → Keeps w (node_gets c w fared from message t x)
-node_gets_keeps c w fared from message MidTier x = at_mid_keeps c w x (fate c fared) (λ σ. mids.on_frame c.u c.service.programs x σ from message) no_run
-node_gets_keeps c w fared from message Inv x = at_back_keeps c w Inv x (fate c fared) (λ σ. backs.on_frame c.u (c.service.backend Inv) Inv x σ from message)
-node_gets_keeps c w fared from message Pay x = at_back_keeps c w Pay x (fate c fared) (λ σ. backs.on_frame c.u (c.service.backend Pay) Pay x σ from message)
+node_gets_keeps c w fared from message t x = at_node_keeps c w t x (fate c fared) ((kind_at c t x).on_frame from message) (λ σ. [])
 
 arrives_keeps : {B : Type 0} (c : Config B) (w : World B) (fared : Fared) (from : End) (message : Msg) (to : End) → Keeps w (arrives c w fared from message to)
 arrives_keeps c w fared from message (OfNode n) = node_gets_keeps c w fared from message n.tier n.index
@@ -107,43 +89,22 @@ shortened_keeps c w fared bytes None = keeps_refl w
 shortened_keeps c w fared bytes (Some k) = cond_both (nat_le (c.frame_length k.from k.message) bytes) (arrives c w fared k.from k.message k.to) w (Keeps w) (λ e. arrives_keeps c w fared k.from k.message k.to) (λ e. keeps_refl w)
 
 lead_keeps : {B : Type 0} (c : Config B) (w : World B) (fared : Fared) (t : Tier) (x : ℕ) → Keeps w (leads c w fared t x)
-lead_keeps c w fared MidTier x = at_mid_keeps c w x (fate c fared) (λ σ. mids.leads c.u c.service.programs x σ) no_run
-lead_keeps c w fared Inv x = at_back_keeps c w Inv x (fate c fared) (λ σ. backs.leads c.u (c.service.backend Inv) Inv x σ)
-lead_keeps c w fared Pay x = at_back_keeps c w Pay x (fate c fared) (λ σ. backs.leads c.u (c.service.backend Pay) Pay x σ)
+lead_keeps c w fared t x = at_node_keeps c w t x (fate c fared) (kind_at c t x).leads (λ σ. [])
 
 offer_keeps : {B : Type 0} (c : Config B) (w : World B) (fared : Fared) (t : Tier) (x : ℕ) → Keeps w (offers c w fared t x)
-offer_keeps c w fared MidTier x = at_mid_keeps c w x (fate c fared) (λ σ. mids.offers c.u c.service.programs x σ) no_run
-offer_keeps c w fared Inv x = at_back_keeps c w Inv x (fate c fared) (λ σ. backs.offers c.u (c.service.backend Inv) Inv x σ)
-offer_keeps c w fared Pay x = at_back_keeps c w Pay x (fate c fared) (λ σ. backs.offers c.u (c.service.backend Pay) Pay x σ)
+offer_keeps c w fared t x = at_node_keeps c w t x (fate c fared) (kind_at c t x).offers (λ σ. [])
 
 work_keeps : {B : Type 0} (c : Config B) (w : World B) (t : Tier) (x : ℕ) (schedule : List ℕ) → Keeps w (works c w t x schedule)
-work_keeps c w MidTier x schedule = at_mid_keeps c w x unwritten (λ σ. mids.work c.u c.service.programs x σ schedule) (λ σ. mids.work_run c.u c.service.programs x σ schedule)
+work_keeps c w MidTier x schedule = at_node_keeps c w MidTier x unwritten (λ σ. mids.work c.u c.service.programs x σ schedule) (ran c x schedule)
 work_keeps c w Inv x schedule = keeps_refl w
 work_keeps c w Pay x schedule = keeps_refl w
 
 node_retry_keeps : {B : Type 0} (c : Config B) (w : World B) (t : Tier) (x : ℕ) → Keeps w (node_retries c w t x)
-node_retry_keeps c w MidTier x = at_mid_keeps c w x unwritten (λ σ. mids.retry c.u x σ) no_run
-node_retry_keeps c w Inv x = at_back_keeps c w Inv x unwritten (λ σ. backs.retry c.u Inv x σ)
-node_retry_keeps c w Pay x = at_back_keeps c w Pay x unwritten (λ σ. backs.retry c.u Pay x σ)
+node_retry_keeps c w t x = at_node_keeps c w t x unwritten (kind_at c t x).retry (λ σ. [])
 
 retry_keeps : {B : Type 0} (c : Config B) (w : World B) (end : End) → Keeps w (retries c w end)
 retry_keeps c w (OfNode n) = node_retry_keeps c w n.tier n.index
 retry_keeps c w (Client y) = reopens_keeps c w y (w.clients y).opened
-
-crash_keeps : {B : Type 0} (c : Config B) (w : World B) (t : Tier) (x : ℕ) → Keeps w (crashes c w t x)
-crash_keeps c w MidTier x = mid_node_keeps c w x (crashed (w.nodes MidTier x) (w.nodes MidTier x).mode)
-crash_keeps c w Inv x = back_node_keeps c w Inv x (crashed (w.nodes Inv x) (w.nodes Inv x).mode)
-crash_keeps c w Pay x = back_node_keeps c w Pay x (crashed (w.nodes Pay x) (w.nodes Pay x).mode)
-
-restart_keeps : {B : Type 0} (c : Config B) (w : World B) (found : Found) (t : Tier) (x : ℕ) → Keeps w (restarts c w found t x)
-restart_keeps c w found MidTier x = mid_node_keeps c w x (restarted (mids.recovered c.u c.service c.depth) (w.nodes MidTier x) found (w.nodes MidTier x).mode)
-restart_keeps c w found Inv x = back_node_keeps c w Inv x (restarted (backs.recovered c.u c.service Inv) (w.nodes Inv x) found (w.nodes Inv x).mode)
-restart_keeps c w found Pay x = back_node_keeps c w Pay x (restarted (backs.recovered c.u c.service Pay) (w.nodes Pay x) found (w.nodes Pay x).mode)
-
-wipe_keeps : {B : Type 0} (c : Config B) (w : World B) (t : Tier) (x : ℕ) → Keeps w (wipes c w t x)
-wipe_keeps c w MidTier x = mid_node_keeps c w x (stands Gone [])
-wipe_keeps c w Inv x = back_node_keeps c w Inv x (stands Gone [])
-wipe_keeps c w Pay x = back_node_keeps c w Pay x (stands Gone [])
 
 if_can_keeps : {B : Type 0} (fared : Fared) (new w : World B) → Keeps w new → Keeps w (if_can fared new w)
 if_can_keeps fared new w k = cond_both (can_fare fared) new w (Keeps w) (λ e. k) (λ e. keeps_refl w)
@@ -156,9 +117,9 @@ happens_keeps c w (Lead n fared) = if_can_keeps fared _ w (lead_keeps c w fared 
 happens_keeps c w (Offer n fared) = if_can_keeps fared _ w (offer_keeps c w fared n.tier n.index)
 happens_keeps c w (Work n schedule) = work_keeps c w n.tier n.index schedule
 happens_keeps c w (Retry end) = retry_keeps c w end
-happens_keeps c w (Crash n) = crash_keeps c w n.tier n.index
-happens_keeps c w (Restart n found) = restart_keeps c w found n.tier n.index
-happens_keeps c w (Wipe n) = wipe_keeps c w n.tier n.index
+happens_keeps c w (Crash n) = placed_keeps c w n.tier n.index _
+happens_keeps c w (Restart n found) = placed_keeps c w n.tier n.index _
+happens_keeps c w (Wipe n) = placed_keeps c w n.tier n.index _
 
 -- A RUN GOES ON
 
@@ -174,44 +135,36 @@ front_at xs ys f i a e = ap (λ z. slice_get z i) f.1 ∙ get_left xs f.0 i a e
 -- what was chosen in w begins what was chosen in z
 pub record Longer {B : Type 0} (w z : World B) : Type 0 where
   pub hist : IsFront w.hist z.hist
-  pub log : IsFront (w.logs MidTier) z.log
   pub logs : (t : Tier) → IsFront (w.logs t) (z.logs t)
 
 longer_refl : {B : Type 0} (w : World B) → Longer w w
-longer_refl w = record { hist = front_refl w.hist; log = front_refl (w.logs MidTier); logs = λ t. front_refl (w.logs t) }
+longer_refl w = record { hist = front_refl w.hist; logs = λ t. front_refl (w.logs t) }
 
 longer_then : {B : Type 0} (w y z : World B) → Longer w y → Longer y z → Longer w z
-longer_then w y z a b = record { hist = front_then w.hist y.hist z.hist a.hist b.hist; log = front_then (w.logs MidTier) y.log z.log a.log b.log; logs = λ t. front_then (w.logs t) (y.logs t) (z.logs t) (a.logs t) (b.logs t) }
+longer_then w y z a b = record { hist = front_then w.hist y.hist z.hist a.hist b.hist; logs = λ t. front_then (w.logs t) (y.logs t) (z.logs t) (a.logs t) (b.logs t) }
 
 keeps_longer : {B : Type 0} (w z : World B) → Keeps w z → Longer w z
 keeps_longer w z k = record {
   hist = subst (IsFront w.hist) (sym k.hist) (front_refl w.hist);
-  log = subst (IsFront (w.logs MidTier)) (sym k.log) (front_refl (w.logs MidTier));
   logs = λ t. subst (λ K. IsFront (w.logs t) (K t)) (sym k.logs) (front_refl (w.logs t));
 }
 
-mid_longer : {B : Type 0} (c : Config B) (w : World B) (o : Option AnyValue) → Longer w (mid_chosen c w o)
-mid_longer c w None = longer_refl w
-mid_longer c w (Some v) = record { hist = (value_steps c.service.programs c.depth (w.logs MidTier) (served_of c w) v, refl); log = (v ∷ [], refl); logs = λ t. front_refl (w.logs t) }
-
-back_longer : {B : Type 0} (w : World B) (t : Tier) (o : Option AnyValue) → Longer w (back_chosen w t o)
-back_longer w t None = longer_refl w
-back_longer w t (Some v) = record {
-  hist = (back_steps t (w.logs t) v, refl);
-  log = front_refl (w.logs MidTier);
+grown_longer : {B : Type 0} (c : Config B) (w : World B) (t : Tier) (o : Option AnyValue) → Longer w (grown c w t o)
+grown_longer c w t None = longer_refl w
+grown_longer c w t (Some v) = record {
+  hist = (steps_at c w t v, refl);
   logs = by_tier (λ y K. IsFront (w.logs y) K) w.logs t (w.logs t ++ v ∷ []) (v ∷ [], refl) (λ y f. front_refl (w.logs y));
 }
 
 grows_longer : {B : Type 0} (c : Config B) (w : World B) → Longer w (grows c w)
-grows_longer {B} c w = longer_then w one (grows c w) (mid_longer c w (chosen_among c.u (log_soup MidTier w.soup) (length (w.logs MidTier)) (log_soup MidTier w.soup)))
-    (longer_then one two (grows c w) (back_longer one Inv (chosen_among c.u (log_soup Inv one.soup) (length (one.logs Inv)) (log_soup Inv one.soup)))
-    (back_longer two Pay (chosen_among c.u (log_soup Pay two.soup) (length (two.logs Pay)) (log_soup Pay two.soup))))
+grows_longer {B} c w = longer_then w one (grows c w) (grown_longer c w MidTier (chosen_next c w MidTier))
+    (longer_then one two (grows c w) (grown_longer c one Inv (chosen_next c one Inv)) (grown_longer c two Pay (chosen_next c two Pay)))
   where
     one : World B
-    one = mid_grows c w
+    one = grows_at c MidTier w
 
     two : World B
-    two = back_grows c Inv one
+    two = grows_at c Inv one
 
 run_longer : {B : Type 0} (c : Config B) (es : List TraceEvent) (w : World B) → Longer w (run c es w)
 run_longer c [] w = longer_refl w
@@ -223,9 +176,7 @@ pub goes_on : {B : Type 0} (c : Config B) (es fs : List TraceEvent) → Longer (
 goes_on c es fs = subst (Longer (world c es)) (sym (run-append c es fs start)) (run_longer c fs (world c es))
 
 pub log_goes_on : {B : Type 0} (c : Config B) (es fs : List TraceEvent) (t : Tier) → IsFront (chosen_log (world c es) t) (chosen_log (world c (es ++ fs)) t)
-log_goes_on c es fs MidTier = (goes_on c es fs).log
-log_goes_on c es fs Inv = (goes_on c es fs).logs Inv
-log_goes_on c es fs Pay = (goes_on c es fs).logs Pay
+log_goes_on c es fs t = (goes_on c es fs).logs t
 
 -- a start that was not submitted after es stands past the history of es
 pub starts_later : {B : Type 0} (c : Config B) (es fs : List TraceEvent) (i n : ℕ) (who : ReqId) (body : List ℕ) → c.u < 128 → Laws c.service.programs → slice_get (world c (es ++ fs)).hist i ≡ Some (Start who n, body)

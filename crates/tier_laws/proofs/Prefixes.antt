@@ -17,7 +17,8 @@ use Rattle.frames.specs.declared.message.Msg.TheVariants as msgs
 use Rattle.round_model.specs.After.{round}
 use Rattle.tier_laws.proofs.Codes.{code_of}
 use Rattle.round_model.specs.Lists.{is_some}
-use Rattle.run_model.specs.Runs.{back_chosen, back_grows, grows, log_soup, mid_chosen, mid_grows, run, world}
+use Rattle.run_model.specs.Runs.{chosen_next, grown, grows, grows_at, run, world}
+use Rattle.round_model.specs.Held.{held_code}
 use Rattle.run_model.specs.World.{Config, World, happens, start}
 use Rattle.run_model.specs.declared.trace.TraceEvent.{TraceEvent}
 use Rattle.tier_model.specs.Moves.{Packet, held_in, tier_of}
@@ -34,7 +35,7 @@ use Rattle.tier_laws.proofs.Lists.{some_of}
 -- the nodes' codes are held, by prefixes of the events
 record HeldAt {B : Type 0} (c : Config B) (es : List TraceEvent) (w : World B) : Type 0 where
   inv : WorldOk c w
-  hold : (x : ℕ) (t : Tier) (n code : ℕ) → x < 2 * c.u + 1 → code_of (inv.codes x) t n ≡ Some code → Holds c es t n x
+  hold : (x : ℕ) (t : Tier) (n code : ℕ) → x < 2 * c.u + 1 → code_of (inv.codes Mid x) t n ≡ Some code → Holds c es t n x
 
 -- ONE EVENT
 
@@ -42,42 +43,35 @@ later : {B : Type 0} (c : Config B) (es : List TraceEvent) (e : TraceEvent) (t :
 later c es e t n x k = record { before = k.before; after = k.after ++ e ∷ []; is_all = ap (λ z. z ++ e ∷ []) k.is_all ∙ append_assoc k.before k.after (e ∷ []); here = k.here; had = k.had }
 
 -- what a node that isn't gone has at the world after the events
-HasNow : {B : Type 0} → World B → Tier → ℕ → ℕ → Type 0
-HasNow w t n x = (is_gone (w.nodes Mid x).mode ≡ false) × ((records : List (List Fact)) → StandsFor (w.nodes Mid x) (w.nodes Mid x).mode records → (code : ℕ) × (code_of (held_in (newest records)) t n ≡ Some code))
+HasNow : {B : Type 0} → Config B → World B → Tier → ℕ → ℕ → Type 0
+HasNow c w t n x = (is_gone (w.nodes Mid x).mode ≡ false) × ((records : List (List Fact)) → StandsFor (w.nodes Mid x) (w.nodes Mid x).mode records → (code : ℕ) × (held_code (held_in c.u x (newest records)) t n ≡ Some code))
 
-now : {B : Type 0} (c : Config B) (es : List TraceEvent) (w : World B) → w ≡ world c es → (t : Tier) (n x : ℕ) → HasNow w t n x → Holds c es t n x
+now : {B : Type 0} (c : Config B) (es : List TraceEvent) (w : World B) → w ≡ world c es → (t : Tier) (n x : ℕ) → HasNow c w t n x → Holds c es t n x
 unfolding HasNow
 now {B} c es w e t n x k =
-    let h : HasNow (world c es) t n x = subst (λ (z : World B). HasNow z t n x) e k in
+    let h : HasNow c (world c es) t n x = subst (λ (z : World B). HasNow c z t n x) e k in
     record { before = es; after = []; is_all = sym (append-nil es); here = h.0; had = h.1 }
 
-has_now : {B : Type 0} (c : Config B) (w : World B) (i : WorldOk c w) (x : ℕ) (t : Tier) (n code : ℕ) → x < 2 * c.u + 1 → code_of (i.codes x) t n ≡ Some code → is_gone (w.nodes Mid x).mode ≡ false → HasNow w t n x
+has_now : {B : Type 0} (c : Config B) (w : World B) (i : WorldOk c w) (x : ℕ) (t : Tier) (n code : ℕ) → x < 2 * c.u + 1 → code_of (i.codes Mid x) t n ≡ Some code → is_gone (w.nodes Mid x).mode ≡ false → HasNow c w t n x
 unfolding HasNow
-has_now c w i x t n code l e g = (g, λ R s. (code, held_for c w i x t n code (w.nodes Mid x).mode (i.core.mids x l) e R s))
+has_now c w i x t n code l e g = (g, λ R s. (code, held_for c w i x t n code (w.nodes Mid x).mode (i.core.nodes Mid x l) e R s))
 
-mid_same : {B : Type 0} (c : Config B) (w : World B) (o : Option AnyValue) → (mid_chosen c w o).mids ≡ w.nodes Mid
-mid_same c w None = refl
-mid_same c w (Some v) = refl
-
-back_same : {B : Type 0} (w : World B) (t : Tier) (o : Option AnyValue) → (back_chosen w t o).mids ≡ w.nodes Mid
-back_same w t None = refl
-back_same w t (Some v) = refl
+grown_same : {B : Type 0} (c : Config B) (w : World B) (t : Tier) (o : Option AnyValue) → (grown c w t o).nodes Mid ≡ w.nodes Mid
+grown_same c w t None = refl
+grown_same c w t (Some v) = refl
 
 -- the growth of the logs changes no node
-grows_same : {B : Type 0} (c : Config B) (w : World B) → (grows c w).mids ≡ w.nodes Mid
-grows_same {B} c w =
-    back_same two Pay (chosen_among c.u (log_soup Pay two.soup) (length (two.logs Pay)) (log_soup Pay two.soup))
-    ∙ back_same one Inv (chosen_among c.u (log_soup Inv one.soup) (length (one.logs Inv)) (log_soup Inv one.soup))
-    ∙ mid_same c w (chosen_among c.u (log_soup Mid w.soup) (length (w.logs Mid)) (log_soup Mid w.soup))
+grows_same : {B : Type 0} (c : Config B) (w : World B) → (grows c w).nodes Mid ≡ w.nodes Mid
+grows_same {B} c w = grown_same c two Pay (chosen_next c two Pay) ∙ grown_same c one Inv (chosen_next c one Inv) ∙ grown_same c w Mid (chosen_next c w Mid)
   where
     one : World B
-    one = mid_grows c w
+    one = grows_at c Mid w
 
     two : World B
-    two = back_grows c Inv one
+    two = grows_at c Inv one
 
 held_step : {B : Type 0} (c : Config B) (es : List TraceEvent) (w : World B) (e : TraceEvent) → c.u < 128 → w ≡ world c es → HeldAt c es w → HeldAt c (es ++ e ∷ []) (grows c (happens c w e))
-held_step {B} c es w e few same k = record { inv = after; hold = λ x t n code l f. one x t n code l f (is_gone ((grows c (happens c w e)).mids x).mode) refl }
+held_step {B} c es w e few same k = record { inv = after; hold = λ x t n code l f. one x t n code l f (is_gone ((grows c (happens c w e)).nodes Mid x).mode) refl }
   where
     event : Mid_event c (past c w k.inv.codes) (happens c w e)
     event = happens_ok c w e few k.inv
@@ -91,11 +85,11 @@ held_step {B} c es w e few same k = record { inv = after; hold = λ x t n code l
     reached : grows c (happens c w e) ≡ world c (es ++ e ∷ [])
     reached = ap (λ (z : World B). grows c (happens c z e)) same ∙ sym (run-append c es (e ∷ []) start)
 
-    one : (x : ℕ) (t : Tier) (n code : ℕ) → x < 2 * c.u + 1 → code_of (after.codes x) t n ≡ Some code → (b : Bool) → is_gone ((grows c (happens c w e)).mids x).mode ≡ b → Holds c (es ++ e ∷ []) t n x
+    one : (x : ℕ) (t : Tier) (n code : ℕ) → x < 2 * c.u + 1 → code_of (after.codes Mid x) t n ≡ Some code → (b : Bool) → is_gone ((grows c (happens c w e)).nodes Mid x).mode ≡ b → Holds c (es ++ e ∷ []) t n x
     one x t n code l f false g = now c (es ++ e ∷ []) (grows c (happens c w e)) reached t n x (has_now c (grows c (happens c w e)) after x t n code l f g)
     one x t n code l f true g =
-        let gone : is_gone ((happens c w e).mids x).mode ≡ true = ap (λ ms. is_gone (ms x).mode) (sym (grows_same c (happens c w e))) ∙ g in
-        let old : code_of (k.inv.codes x) t n ≡ Some code = ap (λ cs. code_of cs t n) (sym (event.gone_codes x gone)) ∙ ap (λ cs. code_of (cs x) t n) (sym codes_same) ∙ f in
+        let gone : is_gone ((happens c w e).nodes Mid x).mode ≡ true = ap (λ ms. is_gone (ms x).mode) (sym (grows_same c (happens c w e))) ∙ g in
+        let old : code_of (k.inv.codes Mid x) t n ≡ Some code = ap (λ cs. code_of cs t n) (sym (event.gone_codes Mid x gone)) ∙ ap (λ cs. code_of (cs Mid x) t n) (sym codes_same) ∙ f in
         later c es e t n x (k.hold x t n code l old)
 
 -- ALL EVENTS
@@ -107,17 +101,17 @@ held_from {B} c (e ∷ es) done w few same k =
     (held_from c es (done ++ e ∷ []) (grows c (happens c w e)) few (ap (λ (z : World B). grows c (happens c z e)) same ∙ sym (run-append c done (e ∷ []) start)) (held_step c done w e few same k))
 
 held_now : {B : Type 0} (c : Config B) (es : List TraceEvent) → c.u < 128 → Laws c.service.programs → HeldAt c es (world c es)
-held_now c es few laws = held_from c es [] start few refl (record { inv = start_ok c laws; hold = λ x t n code l e. absurd (let f : None ≡ Some code = sym (ap (λ cs. code_of cs t n) (start_codes c laws x)) ∙ e in cc) })
+held_now c es few laws = held_from c es [] start few refl (record { inv = start_ok c laws; hold = λ x t n code l e. absurd (let f : None ≡ Some code = sym (ap (λ cs. code_of cs t n) (start_codes c laws Mid x)) ∙ e in cc) })
 
 many_holders : {B : Type 0} (c : Config B) (es : List TraceEvent) (k : HeldAt c es (world c es)) (t : Tier) (n : ℕ) → ManyHold c (past c (world c es) k.inv.codes) t n → ManyHolders c es t n
-many_holders c es k t n many = ((λ x. is_some (code_of (k.inv.codes x) t n)), many, λ x l e. let a = some_of (code_of (k.inv.codes x) t n) e in k.hold x t n a.0 l a.1)
+many_holders c es k t n many = ((λ x. is_some (code_of (k.inv.codes Mid x) t n)), many, λ x l e. let a = some_of (code_of (k.inv.codes Mid x) t n) e in k.hold x t n a.0 l a.1)
 
 -- WHO HOLDS WHAT IS USED, TOLD OR SETTLED
 
 pub round_holders : {B : Type 0} (c : Config B) (es : List TraceEvent) (e : TraceEvent) (r : ℕ) (v : Verdict) → c.u < 128 → Laws c.service.programs → length ((world c es).logs Mid) ≤ 2 * r + 1 → slice_get ((world c (es ++ e ∷ [])).logs Mid) (2 * r + 1) ≡ Some (OfMid (Decided v)) → HeldBefore c es r
 round_holders {B} c es e r v few laws l f = record {
   made = o.made;
-  is_round = subst (λ A. round c.service.programs c.depth ((world c es).logs Mid) A r ≡ Some o.made) (sym (served_same c (world c es) k.inv.codes k.inv.h k.inv.k k.inv.core)) o.is_round;
+  is_round = subst (λ A. round c.service.programs c.depth ((world c es).logs Mid) A r ≡ Some o.made) (sym (served_same c (world c es) k.inv.codes k.inv.h k.inv.core)) o.is_round;
   held = λ j q n g h. many_holders c es k n.tier n.num (o.held.at j q n g h);
 }
   where

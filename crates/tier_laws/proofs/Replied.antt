@@ -208,7 +208,7 @@ ran_leaves {B} O P d s body num store (Call t stage text) c n newer e =
     let q = not_refused (is_some (O.calls t num)) 8 (Done (called O d s body num store t stage text)) P p.1 in
     subst (λ z. Leaves O z c n) (same_done (called O d s body num store t stage text) P q.1) (record { over = λ k. called_over O d s body num store t stage text c n (newer k) k; new = λ u f. inl (u, f) })
 
-serve_leaves : {B : Type 0} (m : Service B) (O P : Server B) (t : Tier) (num : ℕ) (a : Option (List ℕ)) (b : Option ℕ) (c n : ℕ) → serves (m.backend O) t num a b ≡ Done P → Leaves O P c n
+serve_leaves : {B : Type 0} (m : Service B) (O P : Server B) (t : Tier) (num : ℕ) (a : Option (List ℕ)) (b : Option ℕ) (c n : ℕ) → serves m O t num a b ≡ Done P → Leaves O P c n
 serve_leaves m O P Mid num a b c n e = absurd (cc)
 serve_leaves m O P Inv num None b c n e = absurd (cc)
 serve_leaves m O P Inv num (Some text) (Some code) c n e = absurd (cc)

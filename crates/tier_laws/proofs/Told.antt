@@ -28,22 +28,24 @@ use Rattle.frames.specs.declared.message.Msg.{Msg}
 use Rattle.frames.specs.declared.message.Msg.TheVariants as msgs
 use Rattle.round_model.specs.Service.{meaning}
 use Rattle.round_model.specs.After.{Round, round, after}
-use Rattle.tier_laws.proofs.Codes.{Code, code_of}
+use Rattle.tier_laws.proofs.Codes.{Code, code_of, codes_in}
 use Rattle.round_model.specs.Tables.{Number, Want}
 use Rattle.round_model.specs.Verdicts.{Vote}
-use Rattle.run_model.specs.World.{Config, World}
+use Rattle.run_model.specs.World.{Config, World, log_at}
 use Rattle.run_model.specs.Runs.{is_in, log_soup, served_of}
 use Rattle.tier_model.specs.Back.{Back}
 use Rattle.tier_model.specs.Mid.{Mid}
 use Rattle.tier_model.specs.Moves.{tier_of, Packet, log_facts, held_in}
 use Rattle.frames.specs.Headers.{end_index}
-use Rattle.tier_laws.specs.Said.{HasReply, HasCall, HasAnswer, chosen_log, MidLearned, BackLearned, HasLearned, StandsFor, DiskStandsFor, learned_from, MidApplied, BackServes, DidRun, IsRun, RanTo, Caused, is_gone, FewGone, Durable}
+use Rattle.tier_laws.specs.Said.{HasReply, HasCall, HasAnswer, chosen_log, LearnedBy, HasLearned, StandsFor, DiskStandsFor, learned_from, BackApplied, IsApplied, HasApplied, DidRun, IsRun, RanTo, Caused, is_gone, FewGone, Durable}
 use Rattle.tier_laws.proofs.Apply.{half-odd}
-use Rattle.tier_laws.proofs.Core.{BackMode, Inv as WorldOk, MidMode, past}
-use Rattle.tier_laws.proofs.Events.{log_place, back_place}
+use Rattle.tier_laws.proofs.Core.{AllCodes, BackBeside, Beside, Inv as WorldOk, NodeOk, past, values}
+use Rattle.tier_laws.proofs.Events.{log_place}
 use Rattle.tier_laws.proofs.Grow.{served_same}
-use Rattle.tier_laws.proofs.MidSteps.{values}
-use Rattle.tier_laws.proofs.Past.{BackOk, FloorOk, ManyHold, MidOk, RunOk, SentBy, SentOk, Past, VerdictBy, VerdictOk, holds}
+use Rattle.round_model.specs.Held.{held_code}
+use Rattle.tier_laws.proofs.Holding.{held_codes}
+use Rattle.tier_model.specs.Kinds.{State}
+use Rattle.tier_laws.proofs.Past.{FloorOk, ValueOk, ManyHold, MidOk, RunOk, SentBy, SentOk, Past, VerdictBy, VerdictOk, holds}
 use Rattle.tier_laws.proofs.Shows.{Shown, shown}
 use Rattle.run_model.specs.Runs.{log_soup}
 use Rattle.tier_laws.proofs.Verdicts.{count-gap}
@@ -82,101 +84,67 @@ reply_sent c w place k who text i e f = let s = sent c w place k (msgs.Reply who
 -- AGREEMENT
 
 pub chosen_here : {B : Type 0} (c : Config B) (w : World B) (t : Tier) (p : ℕ) (v : AnyValue) → WorldOk c w → Meets c.u (log_soup t w.soup) p v → slice_get (chosen_log w t) p ≡ Some v
-chosen_here c w MidTier p v i m = i.done.mid.at p v m
-chosen_here c w Inv p v i m = (i.done.back Inv).at p v m
-chosen_here c w Pay p v i m = (i.done.back Pay).at p v m
+chosen_here c w t p v i m = (i.done.all t).at p v m
 
 pub sound_here : {B : Type 0} (c : Config B) (w : World B) (t : Tier) (p : ℕ) (v : AnyValue) → WorldOk c w → slice_get (chosen_log w t) p ≡ Some v → Meets c.u (log_soup t w.soup) p v
-sound_here c w MidTier p v i e = i.core.mid_log.sound p v e
-sound_here c w Inv p v i e = (i.core.back_log Inv).sound p v e
-sound_here c w Pay p v i e = (i.core.back_log Pay).sound p v e
+sound_here c w t p v i e = (i.core.logs t).sound p v e
 
-mid_learned : {B : Type 0} (c : Config B) (w : World B) (i : WorldOk c w) (x p : ℕ) (v : AnyValue) (m : Mode Mid) → x < 2 * c.u + 1 → MidMode c (past c w i.codes) i.h (log_soup MidTier w.soup) x (w.nodes MidTier x) m → MidLearned m p v → slice_get (w.logs MidTier) p ≡ Some v
-mid_learned c w i x p v (Up σ) l k e = i.done.mid.at p v (i.core.mid_log.history.learned x l p v (rw (← k.log.learned) e))
-mid_learned c w i x p v Down l k e = absurd e
-mid_learned c w i x p v Gone l k e = absurd e
+learned_up : {B : Type 0} (c : Config B) (w : World B) (i : WorldOk c w) (t : Tier) (x p : ℕ) (v : AnyValue) (m : Mode (State B t)) → x < 2 * c.u + 1 → NodeOk c (past c w i.codes) t (i.h t) (log_soup t w.soup) x (w.nodes t x) m
+    → LearnedBy (log_at c t) m p v → slice_get (w.logs t) p ≡ Some v
+learned_up c w i t x p v (Up σ) l k e = (i.done.all t).at p v ((i.core.logs t).history.learned x l p v (rw (← k.log.learned) e))
+learned_up c w i t x p v Down l k e = absurd e
+learned_up c w i t x p v Gone l k e = absurd e
 
-back_learned : {B : Type 0} (c : Config B) (w : World B) (i : WorldOk c w) (t : Tier) (x p : ℕ) (v : AnyValue) (m : Mode (Back B)) → x < 2 * c.u + 1 → BackMode c (past c w i.codes) t (i.k t) (log_soup t w.soup) x (w.nodes t x) m → BackLearned m p v → slice_get (w.logs t) p ≡ Some v
-back_learned c w i t x p v (Up σ) l k e = (i.done.back t).at p v ((i.core.back_log t).history.learned x l p v (rw (← k.log.learned) e))
-back_learned c w i t x p v Down l k e = absurd e
-back_learned c w i t x p v Gone l k e = absurd e
-
-pub learned : {B : Type 0} (c : Config B) (w : World B) (t : Tier) (x p : ℕ) (v : AnyValue) → WorldOk c w → x < 2 * c.u + 1 → HasLearned w t x p v → slice_get (chosen_log w t) p ≡ Some v
-learned c w MidTier x p v i l e = mid_learned c w i x p v (w.nodes MidTier x).mode l (i.core.mids x l) e
-learned c w Inv x p v i l e = back_learned c w i Inv x p v (w.nodes Inv x).mode l (i.core.backs Inv x l) e
-learned c w Pay x p v i l e = back_learned c w i Pay x p v (w.nodes Pay x).mode l (i.core.backs Pay x l) e
+pub learned : {B : Type 0} (c : Config B) (w : World B) (t : Tier) (x p : ℕ) (v : AnyValue) → WorldOk c w → x < 2 * c.u + 1 → HasLearned c w t x p v → slice_get (chosen_log w t) p ≡ Some v
+learned c w t x p v i l e = learned_up c w i t x p v (w.nodes t x).mode l (i.core.nodes t x l) e
 
 -- a Learn tells what was chosen
-mid_told : {B : Type 0} (c : Config B) (w : World B) (place : ℕ) (from to : End) (p : ℕ) (v : AnyValue) → WorldOk c w → is_in MidTier from ≡ true → slice_get w.soup place ≡ Some (record { from = from; to = to; message = msgs.Log (Learn p v) }) → slice_get (w.logs MidTier) p ≡ Some v
-mid_told c w place from to p v i b e =
-    let q = log_place MidTier w.soup place from to (Learn p v) b e in
-    let j : LogPacket AnyValue = record { from = end_index from; to = end_index to; msg = Learn p v } in
-    let right : PacketOk c.u i.h (log_soup MidTier w.soup) j = every-get (PacketOk c.u i.h (log_soup MidTier w.soup)) (log_soup MidTier w.soup) q.0 j i.core.mid_log.history.packets q.1 in
-    i.done.mid.at p v right
-
-back_told : {B : Type 0} (c : Config B) (w : World B) (t : Tier) (place : ℕ) (from to : End) (p : ℕ) (v : AnyValue) → WorldOk c w → same_tier t MidTier ≡ false → is_in t from ≡ true → slice_get w.soup place ≡ Some (record { from = from; to = to; message = msgs.Log (Learn p v) }) → slice_get (w.logs t) p ≡ Some v
-back_told c w t place from to p v i n b e =
-    let q = back_place t w.soup place from to (Learn p v) n b e in
-    let j : LogPacket AnyValue = record { from = end_index from; to = end_index to; msg = Learn p v } in
-    let right : PacketOk c.u (i.k t) (log_soup t w.soup) j = every-get (PacketOk c.u (i.k t) (log_soup t w.soup)) (log_soup t w.soup) q.0 j (i.core.back_log t).history.packets q.1 in
-    (i.done.back t).at p v right
-
-pub learn_told : {B : Type 0} (c : Config B) (w : World B) (t : Tier) (place : ℕ) (k : Packet) (p : ℕ) (v : AnyValue) → WorldOk c w → is_in t k.from ≡ true → slice_get w.soup place ≡ Some k → k.message ≡ msgs.Log (Learn p v) → slice_get (chosen_log w t) p ≡ Some v
-learn_told {B} c w t place k p v i b e f = by t b
-  where
-    g : slice_get w.soup place ≡ Some (record { from = k.from; to = k.to; message = msgs.Log (Learn p v) })
-    g = e ∙ (λ j. Some (record { from = k.from; to = k.to; message = f j }))
-
-    by : (t : Tier) → is_in t k.from ≡ true → slice_get (chosen_log w t) p ≡ Some v
-    by MidTier b = mid_told c w place k.from k.to p v i b g
-    by Inv b = back_told c w Inv place k.from k.to p v i refl b g
-    by Pay b = back_told c w Pay place k.from k.to p v i refl b g
+pub learn_told : {B : Type 0} (c : Config B) (w : World B) (t : Tier) (place : ℕ) (k : Packet) (p : ℕ) (v : AnyValue) → WorldOk c w → is_in t k.from ≡ true → slice_get w.soup place ≡ Some k → k.message ≡ msgs.Log (Learn p v)
+    → slice_get (chosen_log w t) p ≡ Some v
+learn_told {B} c w t place k p v i b e f =
+    let q = log_place t w.soup place k.from k.to (Learn p v) b (e ∙ (λ j. Some (record { from = k.from; to = k.to; message = f j }))) in
+    let j : LogPacket AnyValue = record { from = end_index k.from; to = end_index k.to; msg = Learn p v } in
+    let right : PacketOk c.u (i.h t) (log_soup t w.soup) j = every-get (PacketOk c.u (i.h t) (log_soup t w.soup)) (log_soup t w.soup) q.0 j (i.core.logs t).history.packets q.1 in
+    (i.done.all t).at p v right
 
 -- what a disk has learned was chosen
-mid_disk : {B : Type 0} (c : Config B) (w : World B) (i : WorldOk c w) (x : ℕ) (records : List (List Fact)) (m : Mode Mid) → x < 2 * c.u + 1 → MidMode c (past c w i.codes) i.h (log_soup MidTier w.soup) x (w.nodes MidTier x) m → StandsFor (w.nodes MidTier x) m records → MoreLog (learned_from c.u records) (w.logs MidTier)
-mid_disk c w i x R m l = disk_of (λ n m. MidMode c (past c w i.codes) i.h (log_soup MidTier w.soup) x n m) (λ Q. MoreLog (learned_from c.u Q) (w.logs MidTier)) (w.nodes MidTier x) m R (λ σ k. own k.is_log) (λ k. own k.is_log)
-    (λ k n Q e. let q = k.pending n Q e in subst (λ z. MoreLog (learned_in z) (w.logs MidTier)) (sym q.is_log) (turn_more c.u i.h (log_soup MidTier w.soup) (w.logs MidTier) x q.turn q.ok i.done.mid))
+disk_more : {B : Type 0} (c : Config B) (w : World B) (i : WorldOk c w) (t : Tier) (x : ℕ) (records : List (List Fact)) (m : Mode (State B t)) → x < 2 * c.u + 1 → NodeOk c (past c w i.codes) t (i.h t) (log_soup t w.soup) x (w.nodes t x) m
+    → StandsFor (w.nodes t x) m records → MoreLog (learned_from c.u records) (w.logs t)
+disk_more c w i t x R m l = disk_of (λ n m. NodeOk c (past c w i.codes) t (i.h t) (log_soup t w.soup) x n m) (λ Q. MoreLog (learned_from c.u Q) (w.logs t)) (w.nodes t x) m R (λ σ k. own k.is_log) (λ k. own k.is_log)
+    (λ k n Q e. let q = k.pending n Q e in subst (λ z. MoreLog (learned_in z) (w.logs t)) (sym q.is_log) (turn_more c.u (i.h t) (log_soup t w.soup) (w.logs t) x q.turn q.ok (i.done.all t)))
   where
-    own : log_facts (newest (w.nodes MidTier x).records) ≡ i.h x → MoreLog (learned_from c.u (w.nodes MidTier x).records) (w.logs MidTier)
-    own e = subst (λ z. MoreLog (learned_in z) (w.logs MidTier)) (sym e) (learned_more c.u i.h (log_soup MidTier w.soup) (w.logs MidTier) x l i.core.mid_log.history i.done.mid)
+    own : log_facts (newest (w.nodes t x).records) ≡ i.h t x → MoreLog (learned_from c.u (w.nodes t x).records) (w.logs t)
+    own e = subst (λ z. MoreLog (learned_in z) (w.logs t)) (sym e) (learned_more c.u (i.h t) (log_soup t w.soup) (w.logs t) x l (i.core.logs t).history (i.done.all t))
 
-back_disk : {B : Type 0} (c : Config B) (w : World B) (i : WorldOk c w) (t : Tier) (x : ℕ) (records : List (List Fact)) (m : Mode (Back B)) → x < 2 * c.u + 1 → BackMode c (past c w i.codes) t (i.k t) (log_soup t w.soup) x (w.nodes t x) m → StandsFor (w.nodes t x) m records → MoreLog (learned_from c.u records) (w.logs t)
-back_disk c w i t x R m l = disk_of (λ n m. BackMode c (past c w i.codes) t (i.k t) (log_soup t w.soup) x n m) (λ Q. MoreLog (learned_from c.u Q) (w.logs t)) (w.nodes t x) m R (λ σ k. own k.is_log) (λ k. own k.is_log)
-    (λ k n Q e. let q = k.pending n Q e in subst (λ z. MoreLog (learned_in z) (w.logs t)) (sym q.is_log) (turn_more c.u (i.k t) (log_soup t w.soup) (w.logs t) x q.turn q.ok (i.done.back t)))
-  where
-    own : log_facts (newest (w.nodes t x).records) ≡ i.k t x → MoreLog (learned_from c.u (w.nodes t x).records) (w.logs t)
-    own e = subst (λ z. MoreLog (learned_in z) (w.logs t)) (sym e) (learned_more c.u (i.k t) (log_soup t w.soup) (w.logs t) x l (i.core.back_log t).history (i.done.back t))
-
-pub disk_learned : {B : Type 0} (c : Config B) (w : World B) (t : Tier) (x p : ℕ) (v : AnyValue) (records : List (List Fact)) → WorldOk c w → x < 2 * c.u + 1 → DiskStandsFor w t x records → slice_get (learned_from c.u records) p ≡ Some v → slice_get (chosen_log w t) p ≡ Some v
-disk_learned c w MidTier x p v R i l s e = (mid_disk c w i x R (w.nodes MidTier x).mode l (i.core.mids x l) s).at p v e
-disk_learned c w Inv x p v R i l s e = (back_disk c w i Inv x R (w.nodes Inv x).mode l (i.core.backs Inv x l) s).at p v e
-disk_learned c w Pay x p v R i l s e = (back_disk c w i Pay x R (w.nodes Pay x).mode l (i.core.backs Pay x l) s).at p v e
+pub disk_learned : {B : Type 0} (c : Config B) (w : World B) (t : Tier) (x p : ℕ) (v : AnyValue) (records : List (List Fact)) → WorldOk c w → x < 2 * c.u + 1 → DiskStandsFor w t x records → slice_get (learned_from c.u records) p ≡ Some v
+    → slice_get (chosen_log w t) p ≡ Some v
+disk_learned c w t x p v R i l s e = (disk_more c w i t x R (w.nodes t x).mode l (i.core.nodes t x l) s).at p v e
 
 -- STATES
 
 served_now : {B : Type 0} (c : Config B) (w : World B) (i : WorldOk c w) → served_of c w ≡ (server c.service w.hist).served
-served_now c w i = served_same c w i.codes i.h i.k i.core
+served_now c w i = served_same c w i.codes i.h i.core
 
-mid_applied : {B : Type 0} (c : Config B) (w : World B) (i : WorldOk c w) (x : ℕ) (m : Mode Mid) → MidMode c (past c w i.codes) i.h (log_soup MidTier w.soup) x (w.nodes MidTier x) m → MidApplied c w m
-mid_applied c w i x (Up σ) k = subst (λ A. after c.service.programs c.depth (w.logs MidTier) A σ.applied ≡ Some σ.tables) (sym (served_now c w i)) k.other.is_after
-mid_applied c w i x Down k = tt
-mid_applied c w i x Gone k = tt
+back_applied : {B : Type 0} (c : Config B) (P : Past B) (t : Tier) (σ : Back B) → BackBeside c P t σ → BackApplied (c.service.backend t) σ
+back_applied c P t σ k = record { state = k.tied.state; codes = k.tied.codes; kept = k.tied.kept; above = k.tied.above; below = k.tied.floor; floor = k.tied.greatest }
 
-pub applied : {B : Type 0} (c : Config B) (w : World B) (x : ℕ) → WorldOk c w → x < 2 * c.u + 1 → MidApplied c w (w.nodes MidTier x).mode
-applied c w x i l = mid_applied c w i x (w.nodes MidTier x).mode (i.core.mids x l)
+is_applied : {B : Type 0} (c : Config B) (w : World B) (i : WorldOk c w) (t : Tier) (x : ℕ) (σ : State B t) → Beside c (past c w i.codes) t x σ → IsApplied c w t σ
+is_applied c w i MidTier x σ k = subst (λ A. after c.service.programs c.depth (w.logs MidTier) A σ.applied ≡ Some σ.tables) (sym (served_now c w i)) k.is_after
+is_applied c w i Inv x σ k = back_applied c (past c w i.codes) Inv σ k
+is_applied c w i Pay x σ k = back_applied c (past c w i.codes) Pay σ k
 
-back_applied : {B : Type 0} (c : Config B) (w : World B) (i : WorldOk c w) (t : Tier) (x : ℕ) (m : Mode (Back B)) → BackMode c (past c w i.codes) t (i.k t) (log_soup t w.soup) x (w.nodes t x) m → BackServes c t m
-back_applied c w i t x (Up σ) k = record { state = k.tied.state; codes = k.tied.codes; kept = k.tied.kept; above = k.tied.above; below = k.tied.floor; floor = k.tied.greatest }
-back_applied c w i t x Down k = tt
-back_applied c w i t x Gone k = tt
+applied_up : {B : Type 0} (c : Config B) (w : World B) (i : WorldOk c w) (t : Tier) (x : ℕ) (m : Mode (State B t)) → NodeOk c (past c w i.codes) t (i.h t) (log_soup t w.soup) x (w.nodes t x) m → HasApplied c w t m
+applied_up c w i t x (Up σ) k = is_applied c w i t x σ k.beside
+applied_up c w i t x Down k = tt
+applied_up c w i t x Gone k = tt
 
-pub served_state : {B : Type 0} (c : Config B) (w : World B) (t : Tier) (x : ℕ) → WorldOk c w → x < 2 * c.u + 1 → BackServes c t (w.nodes t x).mode
-served_state c w t x i l = back_applied c w i t x (w.nodes t x).mode (i.core.backs t x l)
+pub applied : {B : Type 0} (c : Config B) (w : World B) (t : Tier) (x : ℕ) → WorldOk c w → x < 2 * c.u + 1 → HasApplied c w t (w.nodes t x).mode
+applied c w t x i l = applied_up c w i t x (w.nodes t x).mode (i.core.nodes t x l)
 
 -- VERDICTS HAVE CAUSES
 
 -- the nodes that are counted, and the one whose order is taken
-by_caused : {B : Type 0} (c : Config B) (w : World B) (codes : ℕ → List Code) (r : ℕ) (R : Round) (v : Verdict) → ((a : Vote) → DidRun w a → a.from < 2 * c.u + 1) → VerdictBy c (past c w codes) r R v → Caused c w r v
+by_caused : {B : Type 0} (c : Config B) (w : World B) (codes : AllCodes) (r : ℕ) (R : Round) (v : Verdict) → ((a : Vote) → DidRun w a → a.from < 2 * c.u + 1) → VerdictBy c (past c w codes) r R v → Caused c w r v
 by_caused {B} c w codes r R (Commit token order) inside k = (
   ys,
   omega (arith, k.2.1, k.2.2.1, count-more (2 * c.u + 1) k.2.2.0 ys (λ y e. or_left (k.2.2.0 y) (y == k.3.0.from) e)),
@@ -201,7 +169,7 @@ at_round c P r v k = subst (λ z. VerdictOk c P z v) (half-odd r) k.1
 
 pub caused : {B : Type 0} (c : Config B) (w : World B) (r : ℕ) (v : Verdict) → WorldOk c w → slice_get (w.logs MidTier) (2 * r + 1) ≡ Some (OfMid (Decided v)) → Caused c w r v
 caused c w r v i e =
-    let k : VerdictOk c (past c w i.codes) r v = at_round c (past c w i.codes) r v (values c w i.codes i.h i.k i.core (2 * r + 1) (OfMid (Decided v)) e) in
+    let k : VerdictOk c (past c w i.codes) r v = at_round c (past c w i.codes) r v (values c w i.codes i.h i.core (2 * r + 1) (OfMid (Decided v)) e) in
     by_caused c w i.codes r k.made v (λ a d. (i.core.runs d.0 a d.1).inside) k.by
 
 pub is_run : {B : Type 0} (c : Config B) (w : World B) (v : Vote) → WorldOk c w → DidRun w v → IsRun c w v
@@ -211,28 +179,29 @@ is_run {B} c w v i d =
 
 -- DURABILITY
 
-code_right : {B : Type 0} (c : Config B) (w : World B) (i : WorldOk c w) (x : ℕ) (t : Tier) (n code : ℕ) → code_of (i.codes x) t n ≡ Some code → (server c.service w.hist).served t n ≡ Some code
+code_right : {B : Type 0} (c : Config B) (w : World B) (i : WorldOk c w) (x : ℕ) (t : Tier) (n code : ℕ) → code_of (i.codes MidTier x) t n ≡ Some code → (server c.service w.hist).served t n ≡ Some code
 code_right c w i x t n code e =
-    let q = code_at (i.codes x) t n code e in
-    let s = i.core.right x q.0 q.1 q.2 in
+    let q = code_at (i.codes MidTier x) t n code e in
+    let s = i.core.right MidTier x q.0 q.1 q.2 in
     subst (λ z. (server c.service w.hist).served z n ≡ Some code) q.3 (subst (λ z. (server c.service w.hist).served q.1.tier z ≡ Some code) q.4 (s ∙ ap Some q.5))
 
-pub held_for : {B : Type 0} (c : Config B) (w : World B) (i : WorldOk c w) (x : ℕ) (t : Tier) (n code : ℕ) (m : Mode Mid) → MidMode c (past c w i.codes) i.h (log_soup MidTier w.soup) x (w.nodes MidTier x) m → code_of (i.codes x) t n ≡ Some code
-    → (R : List (List Fact)) → StandsFor (w.nodes MidTier x) m R → code_of (held_in (newest R)) t n ≡ Some code
-held_for c w i x t n code m k e R s = disk_of (λ n m. MidMode c (past c w i.codes) i.h (log_soup MidTier w.soup) x n m) (λ Q. code_of (held_in (newest Q)) t n ≡ Some code) (w.nodes MidTier x) m R (λ σ k. ap (λ z. code_of z t n) k.is_held ∙ e) (λ k. ap (λ z. code_of z t n) k.is_held ∙ e)
-    (λ k p Q f. let q = k.pending p Q f in ap (λ z. code_of z t n) q.is_held ∙ code_of-left (i.codes x) q.codes t n code e) k s
+pub held_for : {B : Type 0} (c : Config B) (w : World B) (i : WorldOk c w) (x : ℕ) (t : Tier) (n code : ℕ) (m : Mode Mid) → NodeOk c (past c w i.codes) MidTier (i.h MidTier) (log_soup MidTier w.soup) x (w.nodes MidTier x) m
+    → code_of (i.codes MidTier x) t n ≡ Some code → (R : List (List Fact)) → StandsFor (w.nodes MidTier x) m R → held_code (held_in c.u x (newest R)) t n ≡ Some code
+held_for c w i x t n code m k e R s = held_codes c.u x (newest R) t n ∙ disk_of (λ n m. NodeOk c (past c w i.codes) MidTier (i.h MidTier) (log_soup MidTier w.soup) x n m) (λ Q. code_of (codes_in (newest Q)) t n ≡ Some code) (w.nodes MidTier x) m R
+    (λ σ k. ap (λ z. code_of z t n) k.is_held ∙ e) (λ k. ap (λ z. code_of z t n) k.is_held ∙ e)
+    (λ k p Q f. let q = k.pending p Q f in ap (λ z. code_of z t n) q.is_held ∙ code_of-left (i.codes MidTier x) q.codes t n code e) k s
 
 pub durable : {B : Type 0} (c : Config B) (w : World B) (t : Tier) (n : ℕ) (i : WorldOk c w) → ManyHold c (past c w i.codes) t n → FewGone c w → Durable c w t n
 durable {B} c w t n i many few =
     let z = count-gap (2 * c.u + 1) (λ x. is_gone (w.nodes MidTier x).mode) (holds (past c w i.codes) t n) (omega arith) in
-    let a = some_of (code_of (i.codes z.0) t n) z.2 in
+    let a = some_of (code_of (i.codes MidTier z.0) t n) z.2 in
     record {
       node = z.0;
       inside = z.1;
       here = z.3;
       code = a.0;
       is_served = has_answer c w t n a.0 i (code_right c w i z.0 t n a.0 a.1);
-      is_held = held_for c w i z.0 t n a.0 (w.nodes MidTier z.0).mode (i.core.mids z.0 z.1) a.1;
+      is_held = held_for c w i z.0 t n a.0 (w.nodes MidTier z.0).mode (i.core.nodes MidTier z.0 z.1) a.1;
     }
 
 -- each call below a floor that was sent is durable
@@ -241,9 +210,12 @@ floor_durable c w place k g n i e f a b few = durable c w (tier_of k.to) n i ((s
 
 -- a floor that a backend's chosen log settles
 pub settled_floor : {B : Type 0} (c : Config B) (w : World B) (t : Tier) (p g : ℕ) (i : WorldOk c w) → slice_get (w.logs t) p ≡ Some (OfBack (Settle g)) → FloorOk c (past c w i.codes) t g
-settled_floor {B} c w t p g i e =
-    let part = i.core.back_log t in
-    meets_good c.u (i.k t) (log_soup t w.soup) (w.logs t) (BackOk c (past c w i.codes) t) p (OfBack (Settle g)) part (part.sound p (OfBack (Settle g)) e)
+settled_floor {B} c w t p g i e = floor_in t (meets_good c.u (i.h t) (log_soup t w.soup) (w.logs t) (ValueOk c (past c w i.codes) t) p (OfBack (Settle g)) (i.core.logs t) ((i.core.logs t).sound p (OfBack (Settle g)) e))
+  where
+    floor_in : (t : Tier) → ValueOk c (past c w i.codes) t p (OfBack (Settle g)) → FloorOk c (past c w i.codes) t g
+    floor_in MidTier k = absurd k
+    floor_in Inv k = k
+    floor_in Pay k = k
 
 -- each call below such a floor is durable
 pub settled_durable : {B : Type 0} (c : Config B) (w : World B) (t : Tier) (p g n : ℕ) → WorldOk c w → slice_get (w.logs t) p ≡ Some (OfBack (Settle g)) → 0 < n → n < g → FewGone c w → Durable c w t n
@@ -253,7 +225,7 @@ settled_durable c w t p g n i e a b few = durable c w t n i ((settled_floor c w 
 pub used_durable : {B : Type 0} (c : Config B) (w : World B) (r : ℕ) (v : Verdict) (R : Round) (j : ℕ) (q : Want) (k : Number) → WorldOk c w → slice_get (w.logs MidTier) (2 * r + 1) ≡ Some (OfMid (Decided v)) → round c.service.programs c.depth (w.logs MidTier) (served_of c w) r ≡ Some R
     → slice_get R.wants j ≡ Some q → q.call ≡ Some k → FewGone c w → Durable c w k.tier k.num
 used_durable {B} c w r v R j q k i e f g h few =
-    let o : VerdictOk c (past c w i.codes) r v = at_round c (past c w i.codes) r v (values c w i.codes i.h i.k i.core (2 * r + 1) (OfMid (Decided v)) e) in
+    let o : VerdictOk c (past c w i.codes) r v = at_round c (past c w i.codes) r v (values c w i.codes i.h i.core (2 * r + 1) (OfMid (Decided v)) e) in
     let is = o.is_round in
     let there : round c.service.programs c.depth (w.logs MidTier) (server c.service w.hist).served r ≡ Some R = subst (λ A. round c.service.programs c.depth (w.logs MidTier) A r ≡ Some R) (served_now c w i) f in
     let same : o.made ≡ R = cc in
