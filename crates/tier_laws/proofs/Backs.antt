@@ -128,7 +128,7 @@ ledger_served {B} m D L K h t n text g b c none = record {
   ledger = record {
     legal = legal-append m (empty_server m) h ((Serve t n, []) ∷ []) g.legal (subst (λ z. IsDone z × Unit {0}) (sym done) (tt, tt));
     tables = g.tables;
-    is_after = subst (λ (z : Server B). after m D L z.served (half (length L)) ≡ Some g.tables) (sym next) (after-more m D L L O.served new.served (half (length L)) g.tables (record { at = λ i v e. e }) (answers-kept O new kept) g.is_after);
+    is_after = subst (λ (z : Server B). after m.programs D L z.served (half (length L)) ≡ Some g.tables) (sym next) (after-more m D L L O.served new.served (half (length L)) g.tables (record { at = λ i v e. e }) (answers-kept O new kept) g.is_after);
     mirrors = subst (Mirrors m g.tables) (sym next) (coded_mirrors m g.tables O t n ((m.backend t).serve (O.backs t) text) g.mirrors);
     tables_ok = subst (λ z. TablesOk z g.tables) (sym next) (tables-kept O new g.tables kept g.tables_ok);
     decided = λ r l. subst (λ z. Decision m D L z r) (sym next) (decision-more m D L L O new r (record { at = λ i v e. e }) kept (g.decided r l));
