@@ -2,7 +2,7 @@
 pub use Rattle.log_model.proofs.Step.{put_same as put_here}
 pub use Rattle.log_model.proofs.Basics.{get_left, get_cases, get_within, get_end, get_push, length_push}
 pub use Rattle.server_model.proofs.Tiers.{tier_same, tier_eq}
-use Rattle.std.proofs.Common.{◌≡◌, ℕ, Bool, true, false, cond, List, [], ◌∷◌, ◌++◌, length, map, refl, sym, ap, subst, inl, inr, Option, Some, None, zero, suc, ◌<◌, arith}
+use Rattle.std.proofs.Common.{◌≡◌, ℕ, Bool, true, false, List, [], ◌∷◌, ◌++◌, length, map, refl, sym, ap, subst, inl, inr, Option, Some, None, zero, suc, ◌<◌, arith}
 use Rattle.std.specs.Prelude.{slice_get, ◌⊎◌, replicate, take}
 use Rattle.std.proofs.lemmas.Bool.{cond-true, cond-false, ne_eqb}
 use Rattle.log_model.proofs.Step.{put_other}
@@ -58,12 +58,6 @@ get-tabulate (suc n) f (suc i) l = get-tabulate n (λ i. f (suc i)) i (omega ari
 pub length-tabulate : {A : Type 0} (n : ℕ) (f : ℕ → A) → length (tabulate n f) ≡ n
 length-tabulate zero f = refl
 length-tabulate (suc n) f = omega (arith, length-tabulate n (λ i. f (suc i)))
-
--- an item of a list that leaves some out is one of the list
-pub kept_at : {A : Type 0} (out : Bool) (x : A) (kept xs : List A) (i : ℕ) (a : A) → slice_get (cond out kept (x ∷ kept)) i ≡ Some a → ((i : ℕ) → slice_get kept i ≡ Some a → (j : ℕ) × (slice_get xs j ≡ Some a)) → (j : ℕ) × (slice_get (x ∷ xs) j ≡ Some a)
-kept_at true x kept xs i a e r = let q = r i e in (suc q.0, q.1)
-kept_at false x kept xs zero a e r = (0, e)
-kept_at false x kept xs (suc i) a e r = let q = r i e in (suc q.0, q.1)
 
 pub some_of : {A : Type 0} (o : Option A) → is_some o ≡ true → (a : A) × (o ≡ Some a)
 some_of None e = absurd (cc)
