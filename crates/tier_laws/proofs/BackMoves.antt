@@ -49,7 +49,7 @@ use Rattle.log_model.proofs.Invariant.{SendOk}
 use Rattle.log_values.specs.declared.fact.Fact.{Fact}
 use Rattle.tier_laws.proofs.BackRows.{back_stays}
 use Rattle.tier_laws.proofs.Lists.{get_end, get_left, length_push, tier_sym}
-use Rattle.tier_laws.proofs.Moves.{log_facts-map}
+use Rattle.tier_laws.proofs.Moves.{log_facts-map, helds-map}
 use Rattle.tier_laws.proofs.Logs.{state_more}
 use Rattle.tier_model.specs.Back.{answer_to}
 use Rattle.tier_model.specs.BackRows.{leads, offers, offers_as, after_values, answers_again, bare, own_by, own_value, recovered, retry, settle_value}
@@ -174,6 +174,7 @@ back_move {B} c P t vs h soup x σ a own k ok from one fine = record {
   is_sends = own_soup t x a.sends told none;
   is_log = same_log;
   others = λ w e. other_soup t x a.sends told none w e;
+  no_codes = helds-map a.facts;
   other = l.other;
   tied = subst (λ (z : LogState AnyValue). Tied b z.learned (turned b σ a.state)) (sym same_log) l.tied;
   sends = every-append (SentOk c P) (log_packets t x a.sends) told (every-log c P t x a.sends) l.sends;
@@ -297,6 +298,7 @@ back_retry_ok {B} c P t vs h soup x σ k = record {
   is_sends = own_soup t x asked told none;
   is_log = refl;
   others = λ w e. other_soup t x asked told none w e;
+  no_codes = refl;
   other = k.other;
   tied = k.tied;
   sends = every-append (SentOk c P) (log_packets t x asked) told (every-log c P t x asked) (answers_ok c P t x (highest σ.shim) right);

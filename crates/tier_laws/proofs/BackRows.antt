@@ -28,6 +28,7 @@ use Rattle.tier_laws.proofs.Past.{BackOk, FloorOk, Grows, SentOk, Past, floor-mo
 use Rattle.aeg_base.specs.declared.names.Tier.TheVariants.{Mid as MidTier}
 use Rattle.frames.specs.declared.turn.Turn.{Turn as Answer}
 use Rattle.frames.specs.declared.turn.Idle.TheVariants as why
+use Rattle.tier_laws.proofs.Codes.{helds}
 use Rattle.tier_laws.proofs.Soups.{NoLog, no_log, none_nil}
 use Rattle.run_model.specs.Runs.{log_soup}
 use Rattle.tier_model.specs.Back.{Back}
@@ -86,6 +87,7 @@ pub record BackMoveOk {B : Type 0} (c : Config B) (P : Past B) (t : Tier) (h : �
   pub is_sends : log_soup t v.sends ≡ packets_of x turn.sends
   pub is_log : v.state.log ≡ turn.state
   pub others : (s : Tier) → same_tier s t ≡ false → log_soup s v.sends ≡ []
+  pub no_codes : helds v.facts ≡ []
   pub other : BackOther c P t v.state
   pub tied : Tied (c.service.backend t) v.state.log.learned v.state
   pub sends : Every (SentOk c P) v.sends
@@ -117,6 +119,7 @@ back_plain c P t vs h soup x σ τ ks k l n o e s = record {
   is_sends = no_log ks n t;
   is_log = l;
   others = λ w f. no_log ks n w;
+  no_codes = refl;
   other = o;
   tied = subst (λ (z : LogState AnyValue). Tied (c.service.backend t) z.learned τ) (sym l) e;
   sends = s;

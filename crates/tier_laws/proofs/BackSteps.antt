@@ -16,7 +16,6 @@ use Rattle.run_model.specs.World.{Config, World}
 use Rattle.server_model.specs.Server.{same_tier}
 use Rattle.tier_laws.proofs.BackMoves.{recovered_ok}
 use Rattle.tier_laws.proofs.BackRows.{BackHere, BackKnown, BackMoveOk, back_other-more}
-use Rattle.tier_laws.proofs.Codes.{helds}
 use Rattle.tier_laws.proofs.Core.{AllCodes, AllFacts, BackBeside, Core, Inv, UpOk, back_logs, past}
 use Rattle.tier_laws.proofs.Logs.{meets_good}
 use Rattle.tier_laws.proofs.Past.{BackOk, Grows, Past, parcels-more}
@@ -32,8 +31,8 @@ use Rattle.tier_model.specs.Moves.{Move, Packet, log_facts}
 beside_later : {B : Type 0} (c : Config B) (P Q : Past B) (t : Tier) (h : ℕ → List (LogFact AnyValue)) (soup : List Packet) (x : ℕ) (v : Move (Back B)) → Grows P Q → BackMoveOk c P t h soup x v → BackBeside c Q t v.state
 beside_later c P Q t h soup x v g k = record { other = back_other-more c P Q t v.state g k.other; tied = k.tied }
 
-pub inv_step : {B : Type 0} (c : Config B) (P : Past B) (h : ℕ → List (LogFact AnyValue)) (soup : List Packet) (x : ℕ) (v : Move (Back B)) → helds v.facts ≡ [] → BackMoveOk c P InvTier h soup x v → StepOk c P InvTier h soup x [] v
-inv_step c P h soup x v none k = record {
+pub inv_step : {B : Type 0} (c : Config B) (P : Past B) (h : ℕ → List (LogFact AnyValue)) (soup : List Packet) (x : ℕ) (v : Move (Back B)) → BackMoveOk c P InvTier h soup x v → StepOk c P InvTier h soup x [] v
+inv_step c P h soup x v k = record {
   turn = k.turn;
   turn_ok = k.turn_ok;
   good = k.good;
@@ -41,13 +40,13 @@ inv_step c P h soup x v none k = record {
   is_sends = k.is_sends;
   is_log = k.is_log;
   others = k.others;
-  codes = λ i q e. absurd (let f : slice_get [] i ≡ Some q = subst (λ z. slice_get z i ≡ Some q) none e in cc);
+  codes = λ i q e. absurd (let f : slice_get [] i ≡ Some q = subst (λ z. slice_get z i ≡ Some q) k.no_codes e in cc);
   runs = λ i r e. absurd (cc);
   later = λ Q g kn e did. record { beside = beside_later c P Q InvTier h soup x v g k; sends = parcels-more c P Q v.sends g k.sends };
 }
 
-pub pay_step : {B : Type 0} (c : Config B) (P : Past B) (h : ℕ → List (LogFact AnyValue)) (soup : List Packet) (x : ℕ) (v : Move (Back B)) → helds v.facts ≡ [] → BackMoveOk c P PayTier h soup x v → StepOk c P PayTier h soup x [] v
-pay_step c P h soup x v none k = record {
+pub pay_step : {B : Type 0} (c : Config B) (P : Past B) (h : ℕ → List (LogFact AnyValue)) (soup : List Packet) (x : ℕ) (v : Move (Back B)) → BackMoveOk c P PayTier h soup x v → StepOk c P PayTier h soup x [] v
+pay_step c P h soup x v k = record {
   turn = k.turn;
   turn_ok = k.turn_ok;
   good = k.good;
@@ -55,7 +54,7 @@ pay_step c P h soup x v none k = record {
   is_sends = k.is_sends;
   is_log = k.is_log;
   others = k.others;
-  codes = λ i q e. absurd (let f : slice_get [] i ≡ Some q = subst (λ z. slice_get z i ≡ Some q) none e in cc);
+  codes = λ i q e. absurd (let f : slice_get [] i ≡ Some q = subst (λ z. slice_get z i ≡ Some q) k.no_codes e in cc);
   runs = λ i r e. absurd (cc);
   later = λ Q g kn e did. record { beside = beside_later c P Q PayTier h soup x v g k; sends = parcels-more c P Q v.sends g k.sends };
 }

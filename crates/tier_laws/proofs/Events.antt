@@ -307,11 +307,6 @@ retry_fits c w Pay x few i = λ σ lx up. pay_step c (past c w i.codes) (i.h Pay
 node_retry_event : {B : Type 0} (c : Config B) (w : World B) (t : Tier) (x : ℕ) → c.u < 128 → (i : WorldOk c w) → Mid_event c (past c w i.codes) (node_retries c w t x)
 node_retry_event c w t x few i = at_node_ok c w t x unwritten (kind_at c t x).retry (λ σ. []) few i (retry_fits c w t x few i)
 
-retry_event : {B : Type 0} (c : Config B) (w : World B) (t : Tier) (x : ℕ) → c.u < 128 → (i : WorldOk c w) → Mid_event c (past c w i.codes) (node_retries c w t x)
-node_retry_event c w MidTier x few i = at_mid_ok c w x unwritten (λ σ. mids.retry c.u x σ) no_run few i.core.laws i (λ σ k. retry_ok c (past c w i.codes) i.h w.soup x σ k)
-node_retry_event c w Inv x few i = at_back_ok c w Inv x unwritten (λ σ. backs.retry c.u Inv x σ) few refl i (λ σ k. back_retry_ok c (past c w i.codes) Inv (w.logs Inv) (i.k Inv) w.soup x σ k)
-node_retry_event c w Pay x few i = at_back_ok c w Pay x unwritten (λ σ. backs.retry c.u Pay x σ) few refl i (λ σ k. back_retry_ok c (past c w i.codes) Pay (w.logs Pay) (i.k Pay) w.soup x σ k)
-
 retry_event : {B : Type 0} (c : Config B) (w : World B) (end : End) → c.u < 128 → (i : WorldOk c w) → Mid_event c (past c w i.codes) (retries c w end)
 retry_event c w (Node n) few i = node_retry_event c w n.tier n.index few i
 retry_event c w (Client y) few i = reopens_ok c w y (w.clients y).opened refl i

@@ -50,7 +50,7 @@ log_facts-map (logs.Promised b ∷ fs) = ap (λ z. logs.Promised b ∷ z) (log_f
 log_facts-map (logs.Accepted p b v ∷ fs) = ap (λ z. logs.Accepted p b v ∷ z) (log_facts-map fs)
 log_facts-map (logs.Learned p v ∷ fs) = ap (λ z. logs.Learned p v ∷ z) (log_facts-map fs)
 
-helds-map : (fs : List (LogFact AnyValue)) → helds (map as_fact fs) ≡ []
+pub helds-map : (fs : List (LogFact AnyValue)) → helds (map as_fact fs) ≡ []
 helds-map [] = refl
 helds-map (logs.Promised b ∷ fs) = helds-map fs
 helds-map (logs.Accepted p b v ∷ fs) = helds-map fs
