@@ -39,15 +39,18 @@ prefix-split (x ∷ xs) (y ∷ ys) k =
 take-prefix : {V : Type 0} (xs ys : List V) → MoreLog xs ys → take (length xs) ys ≡ xs
 take-prefix xs ys k = let r = prefix-split xs ys k in ap (take (length xs)) r.1 ∙ take-append_seam xs r.0
 
-back_from-append : {B : Type 0} (m : Service B) (t : Tier) (R : BackRun B) (xs ys : List AnyValue) → back_from (m.backend t) R (xs ++ ys) ≡ back_from (m.backend t) (back_from (m.backend t) R xs) ys
+back_from-append : {B : Type 0} (m : Service B) (t : Tier) (R : BackRun B) (xs ys : List AnyValue)
+    → back_from (m.backend t) R (xs ++ ys) ≡ back_from (m.backend t) (back_from (m.backend t) R xs) ys
 back_from-append m t R [] ys = refl
 back_from-append m t R (x ∷ xs) ys = back_from-append m t (back_value (m.backend t) R x) xs ys
 
 -- a code of a prefix is one of the log
-prefix-code : {B : Type 0} (m : Service B) (t : Tier) (xs ys : List AnyValue) (n code : ℕ) → MoreLog xs ys → (back_run (m.backend t) xs).code n ≡ Some code → (back_run (m.backend t) ys).code n ≡ Some code
+prefix-code : {B : Type 0} (m : Service B) (t : Tier) (xs ys : List AnyValue) (n code : ℕ) → MoreLog xs ys → (back_run (m.backend t) xs).code n ≡ Some code
+    → (back_run (m.backend t) ys).code n ≡ Some code
 prefix-code {B} m t xs ys n code k e =
     let r = prefix-split xs ys k in
-    ap (λ z. (back_run (m.backend t) z).code n) r.1 ∙ ap (λ (R : BackRun B). R.code n) (back_from-append m t _ xs r.0) ∙ run-keeps m t (back_run (m.backend t) xs) r.0 n code e
+    ap (λ z. (back_run (m.backend t) z).code n) r.1 ∙ ap (λ (R : BackRun B). R.code n) (back_from-append m t _ xs r.0)
+    ∙ run-keeps m t (back_run (m.backend t) xs) r.0 n code e
 
 floor-append : (f : ℕ) (vs : List AnyValue) (v : AnyValue) → floor_from f (vs ++ v ∷ []) ≡ floor_value (floor_from f vs) v
 floor-append f [] v = refl
@@ -141,7 +144,8 @@ learn_call {B} c P t x vs xs σ n text known pre tied other = go (passes σ n) r
     none : passes σ n ≡ false → (R.code n ≡ None) × (σ.shim.floor ≤ n)
     none e = by (nat_lt n σ.shim.floor) refl (find σ.shim.kept n) refl e
       where
-        by : (b : Bool) → nat_lt n σ.shim.floor ≡ b → (o : Option ℕ) → find σ.shim.kept n ≡ o → (b || is_some o) ≡ false → (R.code n ≡ None) × (σ.shim.floor ≤ n)
+        by : (b : Bool) → nat_lt n σ.shim.floor ≡ b → (o : Option ℕ) → find σ.shim.kept n ≡ o → (b || is_some o) ≡ false
+            → (R.code n ≡ None) × (σ.shim.floor ≤ n)
         by true f o g h = absurd (cc)
         by false f (Some code) g h = absurd (cc)
         by false f None g h = (empty (R.code n) refl, ltb-false n σ.shim.floor f)

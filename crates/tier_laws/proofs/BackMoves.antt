@@ -1,10 +1,10 @@
 -- A backend node's turns of the log, its offers, its retry and its restart.
-use Rattle.std.proofs.Common.{◌≡◌, ℕ, ◌+◌, ◌*◌, ◌≤◌, Bool, true, false, cond, List, [], ◌∷◌, ◌++◌, length, refl, sym, ap, ◌∙◌, subst, inl, inr, Option, Some, None, zero, suc, arith}
-use Rattle.std.specs.Prelude.{◌-◌, replicate, slice_get, ◌⊎◌, ◌==◌, nat_lt, drop}
-use Rattle.std.proofs.lemmas.Bool.{cond-true, cond-false, cond_both, cases_eq, eq-eqb, ne_eqb, lt-ltb}
+use Rattle.std.proofs.Common.{◌≡◌, ℕ, ◌+◌, ◌*◌, ◌<◌, ◌≤◌, Bool, true, false, cond, List, [], ◌∷◌, ◌++◌, length, refl, sym, ap, ◌∙◌, subst, inl, inr, Option, Some, None, zero, suc, arith}
+use Rattle.std.specs.Prelude.{◌-◌, replicate, slice_get, ◌⊎◌, nat_lt}
+use Rattle.std.proofs.lemmas.Bool.{cond-true, cond-false, cond_both, lt-ltb}
 use Rattle.std.proofs.lemmas.List.{append-nil, append_assoc}
 use Rattle.aeg_base.specs.declared.names.Tier.{Tier}
-use Rattle.log_model.proofs.Basics.{Every, every-append}
+use Rattle.log_model.proofs.Basics.{Every, every-append, every-weaker}
 use Rattle.log_model.proofs.Invariant.{Rest, TurnOk}
 use Rattle.log_model.proofs.Origin.{Origins, Stood}
 use Rattle.log_model.proofs.Rows.{still}
@@ -18,10 +18,9 @@ use Rattle.log_model.specs.declared.message.PaxMsg.{PaxMsg}
 use Rattle.log_values.specs.declared.any_value.AnyValue.{AnyValue}
 use Rattle.log_values.specs.declared.any_value.AnyValue.TheVariants.{Back as OfBack, Mid as OfMid}
 use Rattle.log_values.specs.declared.back_value.BackValue.TheVariants.{Call as Called, Settle as Settled}
-use Rattle.round_model.proofs.NumberedLaws.{find_below, risen}
 use Rattle.round_model.proofs.ShimLaws.{ready_least}
 use Rattle.round_model.specs.Lists.{and_then, each, is_some, lowest}
-use Rattle.round_model.specs.Numbered.{rises, find}
+use Rattle.round_model.specs.Numbered.{find}
 use Rattle.round_model.specs.Service.{Backend}
 use Rattle.round_model.specs.Shims.{agreed, copies_or_none, copy_of, due, due_among, due_floor, floor_at, highest, is_backed, is_more, ready}
 use Rattle.run_model.specs.World.{Config}
@@ -29,6 +28,7 @@ use Rattle.server_model.specs.Server.{same_tier}
 use Rattle.tier_laws.proofs.Apply.{every-each}
 use Rattle.tier_laws.proofs.BackLearn.{Learnt, learn_ok, nobody_gave}
 use Rattle.tier_laws.proofs.BackRows.{BackHere, BackKnown, BackMoveOk, BackOther, Tied, back_knows}
+use Rattle.tier_laws.proofs.Offers.{drop_every, entries}
 use Rattle.tier_laws.proofs.Past.{BackOk, FloorOk, SentOk, Past}
 use Rattle.tier_laws.proofs.Stable.{MoreLog}
 use Rattle.frames.specs.declared.turn.Idle.TheVariants as why
@@ -67,7 +67,8 @@ pub one_offer : {V : Type 0} (u x : ℕ) (log : LogState V) (o : Option (Leader 
 one_offer u x log None own = grind arith
 one_offer u x log (Some l) own = grind arith
 
-learned_step : {V : Type 0} (fs F : List (LogFact V)) → length fs ≤ 1 → (learned_in (onto fs F) ≡ learned_in F) ⊎ ((v : V) × (learned_in (onto fs F) ≡ learned_in F ++ v ∷ []))
+learned_step : {V : Type 0} (fs F : List (LogFact V)) → length fs ≤ 1
+    → (learned_in (onto fs F) ≡ learned_in F) ⊎ ((v : V) × (learned_in (onto fs F) ≡ learned_in F ++ v ∷ []))
 learned_step [] F l = inl refl
 learned_step (Promised b ∷ []) F l = inl refl
 learned_step (Voted p b v ∷ []) F l = inl refl
@@ -151,21 +152,27 @@ turn_learnt {B} c P t x vs σ s known tied other more how = go how
     not_more a b e = grind arith
 
     go : (s.learned ≡ old) ⊎ ((v : AnyValue) × (s.learned ≡ old ++ v ∷ [])) → Learnt c P t x s.learned (turned b σ s) (turn_tells c.u b t x σ s)
-    go (inl e) = by None (cond-false (nat_lt (length old) (length s.learned)) (slice_get s.learned (length old)) None (not_more (length old) (length s.learned) (ap length e)))
+    go (inl e) = by None
+        (cond-false (nat_lt (length old) (length s.learned)) (slice_get s.learned (length old)) None (not_more (length old) (length s.learned) (ap length e)))
         (record { tied = subst (λ z. Tied b z τ) (sym e) (relog_tied b old σ s tied); other = relog_other c P t σ s other; sends = tt })
     go (inr r) = by (Some r.0) some (subst (λ z. Learnt c P t x z (after_value b τ r.0) (value_sends c.u b t x τ r.0)) (sym r.1) l)
       where
+        longer : length old < length s.learned
+        longer = omega (arith, ap length r.1, length_push old r.0)
+
         some : new_value σ.log s ≡ Some r.0
         some =
-            cond-true (nat_lt (length old) (length s.learned)) (slice_get s.learned (length old)) None (lt-ltb _ _ (omega (arith, ap length r.1, length_push old r.0)))
+            cond-true (nat_lt (length old) (length s.learned)) (slice_get s.learned (length old)) None (lt-ltb _ _ longer)
             ∙ ap (λ z. slice_get z (length old)) r.1 ∙ get_end old r.0
 
         l : Learnt c P t x (old ++ r.0 ∷ []) (after_value b τ r.0) (value_sends c.u b t x τ r.0)
         l = learn_ok c P t x vs old τ r.0 known (subst (λ z. MoreLog z vs) r.1 more) (relog_tied b old σ s tied) (relog_other c P t σ s other)
 
-pub back_move : {B : Type 0} (c : Config B) (P : Past B) (t : Tier) (vs : List AnyValue) (h : ℕ → List (LogFact AnyValue)) (soup : List Packet) (x : ℕ) (σ : Back B)
-    (a : Turn AnyValue) (own : Option AnyValue) → BackHere c P t vs h soup x σ → TurnOk c.u h (log_soup t soup) x a → Origins c.u h x own a
-    → length a.facts ≤ 1 → ((p : ℕ) (v : AnyValue) → own ≡ Some v → BackOk c P t p v) → BackMoveOk c P t h soup x (in_log c.u (c.service.backend t) t x σ a)
+pub back_move : {B : Type 0} (c : Config B) (P : Past B) (t : Tier) (vs : List AnyValue) (h : ℕ → List (LogFact AnyValue)) (soup : List Packet)
+    (x : ℕ) (σ : Back B) (a : Turn AnyValue) (own : Option AnyValue) → BackHere c P t vs h soup x σ
+    → TurnOk c.u h (log_soup t soup) x a → Origins c.u h x own a
+    → length a.facts ≤ 1 → ((p : ℕ) (v : AnyValue) → own ≡ Some v → BackOk c P t p v)
+    → BackMoveOk c P t h soup x (in_log c.u (c.service.backend t) t x σ a)
 back_move {B} c P t vs h soup x σ a own k ok from one fine = record {
   turn = a;
   turn_ok = ok;
@@ -257,23 +264,6 @@ back_own_ok {B} c P t σ p v k e = go (ready σ.shim) refl e
 
 -- RETRY
 
--- each entry of a table is what is found there
-every_found : {A : Type 0} (G : ℕ → A → Type 0) (m : ℕ) (es : List (ℕ × A)) → rises m es ≡ true → ((n : ℕ) (a : A) → find es n ≡ Some a → G n a)
-    → Every (λ (e : ℕ × A). G e.0 e.1) es
-every_found G m [] h k = tt
-every_found {A} G m (e ∷ es) h k =
-    let now : find (e ∷ es) e.0 ≡ Some e.1 = cond-true (e.0 == e.0) (Some e.1) (find es e.0) (eq-eqb e.0 e.0 refl) in
-    (k e.0 e.1 now, every_found G (suc e.0) es (risen m e es h).rest (λ n a f. k n a (later n a f (cases_eq e.0 n))))
-  where
-    later : (n : ℕ) (a : A) → find es n ≡ Some a → (e.0 ≡ n) ⊎ (e.0 ≡ n → ⊥) → cond (e.0 == n) (Some e.1) (find es n) ≡ Some a
-    later n a f (inl g) = absurd (let none : find es n ≡ None = find_below (suc e.0) es n (risen m e es h).rest (omega (arith, g)) in cc)
-    later n a f (inr g) = cond-false (e.0 == n) (Some e.1) (find es n) (ne_eqb e.0 n g) ∙ f
-
-every_drop : {A : Type 0} (G : A → Type 0) (n : ℕ) (xs : List A) → Every G xs → Every G (drop n xs)
-every_drop G zero xs e = e
-every_drop G (suc n) [] e = e
-every_drop G (suc n) (x ∷ xs) e = every_drop G n xs e.1
-
 answers_ok : {B : Type 0} (c : Config B) (P : Past B) (t : Tier) (x : ℕ) (es : List (ℕ × ℕ)) → Every (λ (e : ℕ × ℕ). P.server.served t e.0 ≡ Some e.1) es
     → Every (SentOk c P) (answers_again c.u t x es)
 answers_ok c P t x [] k = tt
@@ -314,8 +304,9 @@ back_retry_ok {B} c P t vs h soup x σ k = record {
     none = answers_none c.u t x (highest σ.shim)
 
     right : Every (λ (e : ℕ × ℕ). P.server.served t e.0 ≡ Some e.1) (highest σ.shim)
-    right = every_drop (λ (e : ℕ × ℕ). P.server.served t e.0 ≡ Some e.1) (length σ.shim.kept - 16) σ.shim.kept
-        (every_found (λ n code. P.server.served t n ≡ Some code) 0 σ.shim.kept k.tied.in_order k.other.kept)
+    right = drop_every (λ (e : ℕ × ℕ). P.server.served t e.0 ≡ Some e.1) (length σ.shim.kept - 16) σ.shim.kept
+        (every-weaker (λ (e : ℕ × ℕ). find σ.shim.kept e.0 ≡ Some e.1) (λ (e : ℕ × ℕ). P.server.served t e.0 ≡ Some e.1)
+            (λ e f. k.other.kept e.0 e.1 f) σ.shim.kept (entries 0 σ.shim.kept k.tied.in_order))
 
 -- LEADING AND OFFERING
 
@@ -370,7 +361,8 @@ floors_one c P t zero y = low_floor c P t 0 (omega arith)
 floors_one c P t (suc n) zero = low_floor c P t 1 (omega arith)
 floors_one c P t (suc n) (suc y) = floors_one c P t n y
 
-pub recovered_ok : {B : Type 0} (c : Config B) (P : Past B) (t : Tier) (K : List AnyValue) (F : List Fact) → BackKnown c P t K → MoreLog (learned_in (log_facts F)) K
+pub recovered_ok : {B : Type 0} (c : Config B) (P : Past B) (t : Tier) (K : List AnyValue) (F : List Fact) → BackKnown c P t K
+    → MoreLog (learned_in (log_facts F)) K
     → Tied (c.service.backend t) (learned_in (log_facts F)) (recovered c.u (c.service.backend t) F) × BackOther c P t (recovered c.u (c.service.backend t) F)
     × ((recovered c.u (c.service.backend t) F).log ≡ recover c.u (log_facts F))
 recovered_ok c P t K F known pre = values_ok c P t K [] (learned_in (log_facts F)) (bare c.u (c.service.backend t) F) known pre

@@ -76,7 +76,8 @@ back_other-more c P Q t σ g k = record {
 -- what is known of the tier's chosen log
 pub record BackKnown {B : Type 0} (c : Config B) (P : Past B) (t : Tier) (vs : List AnyValue) : Type 0 where
   pub served : (n : ℕ) → P.server.served t n ≡ (back_run (c.service.backend t) vs).code n
-  pub settles : (i g n : ℕ) → slice_get vs i ≡ Some (OfBack (Settled g)) → 0 < n → n < g → (code : ℕ) × ((back_run (c.service.backend t) (take i vs)).code n ≡ Some code)
+  pub settles : (i g n : ℕ) → slice_get vs i ≡ Some (OfBack (Settled g)) → 0 < n → n < g
+      → (code : ℕ) × ((back_run (c.service.backend t) (take i vs)).code n ≡ Some code)
   pub positive : (i n : ℕ) (text : List ℕ) → slice_get vs i ≡ Some (OfBack (Called n text)) → 0 < n
 
 pub record BackMoveOk {B : Type 0} (c : Config B) (P : Past B) (t : Tier) (h : ℕ → List (LogFact AnyValue)) (soup : List Packet) (x : ℕ) (v : Move (Back B)) : Type 0 where
@@ -104,13 +105,14 @@ pub record BackHere {B : Type 0} (c : Config B) (P : Past B) (t : Tier) (vs : Li
   pub tied : Tied (c.service.backend t) σ.log.learned σ
   pub known : BackKnown c P t vs
 
-pub back_knows : {B : Type 0} (c : Config B) (P : Past B) (t : Tier) (vs : List AnyValue) (h : ℕ → List (LogFact AnyValue)) (soup : List Packet) (x : ℕ) (σ : Back B) → BackHere c P t vs h soup x σ → Knows c.u h (log_soup t soup) x σ.log
+pub back_knows : {B : Type 0} (c : Config B) (P : Past B) (t : Tier) (vs : List AnyValue) (h : ℕ → List (LogFact AnyValue)) (soup : List Packet)
+    (x : ℕ) (σ : Back B) → BackHere c P t vs h soup x σ → Knows c.u h (log_soup t soup) x σ.log
 back_knows c P t vs h soup x σ k = record { few = k.few; inside = k.inside; history = k.history; state = k.log }
 
 -- a move beside the log
 back_plain : {B : Type 0} {a : Answer} (c : Config B) (P : Past B) (t : Tier) (vs : List AnyValue) (h : ℕ → List (LogFact AnyValue)) (soup : List Packet)
-    (x : ℕ) (σ τ : Back B) (ks : List Packet) → BackHere c P t vs h soup x σ → τ.log ≡ σ.log → NoLog ks → BackOther c P t τ → Tied (c.service.backend t) σ.log.learned τ
-    → Every (SentOk c P) ks → BackMoveOk c P t h soup x (record { state = τ; facts = []; sends = ks; answer = a })
+    (x : ℕ) (σ τ : Back B) (ks : List Packet) → BackHere c P t vs h soup x σ → τ.log ≡ σ.log → NoLog ks → BackOther c P t τ
+    → Tied (c.service.backend t) σ.log.learned τ → Every (SentOk c P) ks → BackMoveOk c P t h soup x (record { state = τ; facts = []; sends = ks; answer = a })
 back_plain c P t vs h soup x σ τ ks k l n o e s = record {
   turn = log_idles σ.log Nothing;
   turn_ok = idle_ok c.u h (log_soup t soup) x σ.log Nothing (back_knows c P t vs h soup x σ k);
@@ -152,7 +154,8 @@ reshim {B} b vs σ s e f k = record {
 -- CALLS AND FLOORS
 
 notes_ok : {B : Type 0} (c : Config B) (P : Past B) (t : Tier) (vs : List AnyValue) (h : ℕ → List (LogFact AnyValue)) (soup : List Packet) (x : ℕ)
-    (σ : Back B) (from n : ℕ) (text : List ℕ) → BackHere c P t vs h soup x σ → P.server.calls t n ≡ Some text → BackMoveOk c P t h soup x (notes_copy σ from n text)
+    (σ : Back B) (from n : ℕ) (text : List ℕ) → BackHere c P t vs h soup x σ → P.server.calls t n ≡ Some text
+    → BackMoveOk c P t h soup x (notes_copy σ from n text)
 notes_ok {B} c P t vs h soup x σ from n text k e =
     cond_both (is_some (copy_of (copies_at σ.shim n) from)) (idles σ why.Nothing) (becomes (copied σ from n text)) (BackMoveOk c P t h soup x)
     (λ f. back_stays c P t vs h soup x σ k)
@@ -184,14 +187,15 @@ notes_ok {B} c P t vs h soup x σ from n text k e =
     }
 
 call_as_ok : {B : Type 0} (c : Config B) (P : Past B) (t : Tier) (vs : List AnyValue) (h : ℕ → List (LogFact AnyValue)) (soup : List Packet) (x : ℕ)
-    (σ : Back B) (from n : ℕ) (text : List ℕ) (o : Option ℕ) → BackHere c P t vs h soup x σ → P.server.calls t n ≡ Some text → ((code : ℕ) → o ≡ Some code → P.server.served t n ≡ Some code)
-    → BackMoveOk c P t h soup x (call_as t x σ from n text o)
+    (σ : Back B) (from n : ℕ) (text : List ℕ) (o : Option ℕ) → BackHere c P t vs h soup x σ → P.server.calls t n ≡ Some text
+    → ((code : ℕ) → o ≡ Some code → P.server.served t n ≡ Some code) → BackMoveOk c P t h soup x (call_as t x σ from n text o)
 call_as_ok c P t vs h soup x σ from n text None k e served = notes_ok c P t vs h soup x σ from n text k e
 call_as_ok c P t vs h soup x σ from n text (Some code) k e served =
     back_plain c P t vs h soup x σ σ (answer_to t x n code from ∷ []) k refl (record { all = λ v. refl }) k.other k.tied (served code refl, tt)
 
 pub call_ok : {B : Type 0} (c : Config B) (P : Past B) (t : Tier) (vs : List AnyValue) (h : ℕ → List (LogFact AnyValue)) (soup : List Packet) (x : ℕ)
-    (σ : Back B) (from n : ℕ) (text : List ℕ) → BackHere c P t vs h soup x σ → P.server.calls t n ≡ Some text → BackMoveOk c P t h soup x (on_call t x σ from n text)
+    (σ : Back B) (from n : ℕ) (text : List ℕ) → BackHere c P t vs h soup x σ → P.server.calls t n ≡ Some text
+    → BackMoveOk c P t h soup x (on_call t x σ from n text)
 call_ok {B} c P t vs h soup x σ from n text k e =
     cond_both (nat_lt n σ.shim.floor) (idles σ why.Nothing) (call_as t x σ from n text (find σ.shim.kept n)) (BackMoveOk c P t h soup x)
     (λ f. back_stays c P t vs h soup x σ k) (λ f. call_as_ok c P t vs h soup x σ from n text (find σ.shim.kept n) k e (k.other.kept n))

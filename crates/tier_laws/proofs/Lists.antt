@@ -2,7 +2,7 @@
 pub use Rattle.log_model.proofs.Step.{put_same as put_here}
 pub use Rattle.log_model.proofs.Basics.{get_left, get_cases, get_within, get_end, get_push, length_push}
 pub use Rattle.server_model.proofs.Tiers.{tier_same, tier_eq}
-use Rattle.std.proofs.Common.{◌≡◌, ℕ, Bool, true, false, List, [], ◌∷◌, ◌++◌, length, map, refl, sym, ap, subst, inl, inr, Option, Some, None, zero, suc, ◌<◌, arith}
+use Rattle.std.proofs.Common.{◌≡◌, ℕ, true, false, List, [], ◌∷◌, ◌++◌, length, map, refl, sym, ap, subst, inl, inr, Option, Some, None, zero, suc, ◌<◌, arith}
 use Rattle.std.specs.Prelude.{slice_get, ◌⊎◌, replicate, take}
 use Rattle.std.proofs.lemmas.Bool.{cond-true, cond-false, ne_eqb}
 use Rattle.log_model.proofs.Step.{put_other}

@@ -123,7 +123,7 @@ calls_none : (u x : ℕ) (ps : List Parked) → NoLog (calls_again u x ps)
 calls_none u x [] = none_nil
 calls_none u x (p ∷ ps) = none_append (calls_to u x p.tier p.num p.text) (calls_again u x ps) (none_each (2 * u + 1) nobody (call_to x p.tier p.num p.text) (λ y. record { all = λ v. refl })) (calls_none u x ps)
 
-drop_every : {A : Type 0} (G : A → Type 0) (n : ℕ) (xs : List A) → Every G xs → Every G (drop n xs)
+pub drop_every : {A : Type 0} (G : A → Type 0) (n : ℕ) (xs : List A) → Every G xs → Every G (drop n xs)
 drop_every G zero xs e = e
 drop_every G (suc n) [] e = tt
 drop_every G (suc n) (x ∷ xs) e = drop_every G n xs e.1
