@@ -1,6 +1,6 @@
 -- The rows of a backend node while nothing is run are those of its log, which no value reaches.
 use Rattle.std.proofs.Common.{◌≡◌, ℕ, ◌+◌, ◌*◌, ◌<◌, ◌≤◌, Bool, true, false, cond, List, [], ◌∷◌, ◌++◌, length, map, replicate, refl, sym, ap, ◌∙◌, subst, arith, Option, Some, None, Result, Ok, Err, zero, suc, append-nil}
-use Rattle.std.specs.Prelude.{slice_get, nat_lt, ◌==◌, ◌&&◌, not, IfSome}
+use Rattle.std.specs.Prelude.{slice_get, nat_lt, nat_le, ◌==◌, ◌&&◌, not, IfSome}
 use Rattle.std.specs.List.{AllByRecursion}
 use Rattle.std.proofs.lemmas.Bool.{cond-true, cond-false, cond_both, ltb-true, false_from_ne_true}
 use Rattle.aeg_base.specs.declared.limits.TheConstants.{POSITIONS}

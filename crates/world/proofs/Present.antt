@@ -1,8 +1,9 @@
 -- Which nodes are there, in the parts as in the world.
-use Rattle.std.proofs.Common.{◌≡◌, ℕ, ◌+◌, ◌*◌, ◌<◌, refl, sym, ap, ◌∙◌, arith, Some}
+use Rattle.std.proofs.Common.{◌≡◌, ℕ, ◌+◌, ◌*◌, ◌<◌, refl, sym, ap, ◌∙◌, subst, arith, Some}
 use Rattle.std.specs.Prelude.{slice_get}
 use Rattle.aeg_base.specs.declared.names.Tier.{Tier}
 use Rattle.aeg_base.specs.declared.names.Tier.TheVariants.{Mid as MidTier, Inv, Pay}
+use Rattle.aeg_base.specs.declared.names.NodeId.{NodeId}
 use Rattle.log_model.specs.Nodes.{Mode, Node as NodeOf}
 use Rattle.log_model.specs.Nodes.Mode.{Up, Down, Gone}
 use Rattle.log_values.specs.declared.fact.Fact.{Fact}
@@ -10,9 +11,10 @@ use Rattle.run_model.specs.BookingRuns.{BookingWorld}
 use Rattle.run_model.specs.Resolving as resolving
 use Rattle.run_model.specs.Resolving.{is_node_up}
 use Rattle.world.specs.declared.nodes.all_nodes.Nodes.{Nodes}
-use Rattle.world.specs.NodeLists.{views, view_up, up_in, condition_in, view_condition, condition_at, size_of}
+use Rattle.world.specs.declared.parts.Parts.{Parts}
+use Rattle.world.specs.NodeLists.{HasNode, views, view_up, up_in, condition_in, view_condition, condition_at, size_of}
 use Rattle.world.specs.Parts.{NodePart, View, PartOf, is_up}
-use Rattle.world.specs.Standing.{mode_by, IsNode, IsAt, AreNodes}
+use Rattle.world.specs.Standing.{mode_by, IsNode, IsAt, AreNodes, Shows}
 use Rattle.world.proofs.Tiers.{up_is, condition_is}
 use Rattle.log_model.proofs.Basics.{get_within}
 
@@ -56,3 +58,6 @@ pub has_node : (u depth : ℕ) (w : BookingWorld) (nodes : Nodes) (x : ℕ) (t :
 has_node u depth w nodes x MidTier k l = let all = k.at MidTier in omega (arith, all.size, l)
 has_node u depth w nodes x Inv k l = let all = k.at Inv in omega (arith, all.size, l)
 has_node u depth w nodes x Pay k l = let all = k.at Pay in omega (arith, all.size, l)
+
+pub has_shown : (u depth : ℕ) (w : BookingWorld) (parts : Parts) (n : NodeId) → Shows u depth w parts → n.index < 2 * parts.u + 1 → HasNode parts.nodes n
+has_shown u depth w parts n s l = has_node u depth w parts.nodes n.index n.tier s.nodes (subst (λ z. n.index < 2 * z + 1) s.size l)

@@ -12,7 +12,14 @@ use Rattle.world.proofs.Calling.{disk_read, disks_left, may_write_at}
 use Rattle.world.proofs.CommandEvents.{faulty_by, finds_by, place_by, happens_by}
 use Rattle.world.proofs.Playing.{plays_by, plays_idle}
 use Rattle.world.proofs.Room.{nodes_fit}
+use Rattle.world.proofs.Present.{has_shown}
 use Rattle.world.proofs.parts.Parts.command.Goals as goal
+
+pub is_up-requires : goal.is_up-requires
+is_up-requires g c = let r = c.requires.shown in has_shown r.0 r.1 r.2 c.args.self.now c.args.node r.3 c.requires.there
+
+pub pass_over-requires-clause-there : goal.pass_over-requires-clause-there
+pass_over-requires-clause-there g c = let r = c.requires.shown in has_shown r.0 r.1 r.2 c.args.self.now c.args.node r.3 c.requires.there
 
 pub returns-then-not-is_up : goal.returns-then-not-is_up
 returns-then-not-is_up g c =
