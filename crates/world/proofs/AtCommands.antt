@@ -91,14 +91,14 @@ pub command_by : (u depth : ℕ) (w : BookingWorld) (old new : Nodes) (n : NodeI
     → UpAt u depth w old t n.index disks disk → CanStop stop → HadMemory result
     → Called old new t n.index stop disk disk_after [] after (λ S k. row_of command k) result met
     → Commanded u depth w (world_by u depth w command (fared_by stop met result) n t) new (slice_set disks (first_of t + n.index) disk_after) after
-        (text_by u depth w command (fared_by stop met result) n t) (told_command n met result)
-        × Faring (asked_of stop) (fared_by stop met result) disk disk_after
+    (text_by u depth w command (fared_by stop met result) n t) (told_command n met result)
+    × Faring (asked_of stop) (fared_by stop met result) disk disk_after
 command_by u depth w old new n command stop disks disk disk_after after result met t k stops memory c =
     let row : State Amounts t → Move (State Amounts t) = row_of command (kind_at (config u depth) t n.index) in
     let fared = fared_by stop met result in
     node_by u depth w old new t n.index stop disks disk disk_after after (λ S z. row_of command z) result met
-        (texts.commands_text (config u depth) n fared (w.nodes t n.index) row) (told_command n met result) k stops memory c
-        (λ σ h. moves_told u depth n (w.nodes t n.index).records fared met (row σ) result (not_ran command u depth t n.index σ) h)
+    (texts.commands_text (config u depth) n fared (w.nodes t n.index) row) (told_command n met result) k stops memory c
+    (λ σ h. moves_told u depth n (w.nodes t n.index).records fared met (row σ) result (not_ran command u depth t n.index σ) h)
 
 -- RETRY
 
@@ -126,15 +126,15 @@ pub retry_by : (u depth : ℕ) (w : BookingWorld) (old new : Nodes) (n : NodeId)
     (result : Result Answer Fault) (t : Tier) → UpAt u depth w old t n.index disks disk → HadMemory result
     → MoveIn old new t n.index disk disk [] after (λ S k. k.retry) result
     → Commanded u depth w (worlds.node_retries (config u depth) w t n.index) new disks after (texts.node_retries_text (config u depth) w n t)
-        (told_command n false result)
+    (told_command n false result)
 retry_by u depth w old new n disks disk after result t k memory move =
     let row : State Amounts t → Move (State Amounts t) = (kind_at (config u depth) t n.index).retry in
     node_still u depth w old new t n.index disks disk after (λ S z. z.retry) result
-        (texts.commands_text (config u depth) n Fine (w.nodes t n.index) row) (told_command n false result) k memory
-        (silent_retry u depth t n.index) move
-        (λ σ h. moves_told u depth n (w.nodes t n.index).records Fine false (row σ) result (retry_not_ran u depth t n.index σ)
-        (unwritten_out u depth (is_past (journal_of (w.nodes t n.index).records) (row σ).facts) (w.nodes t n.index).records (row σ) result
-        (silent_retry u depth t n.index σ) h))
+    (texts.commands_text (config u depth) n Fine (w.nodes t n.index) row) (told_command n false result) k memory
+    (silent_retry u depth t n.index) move
+    (λ σ h. moves_told u depth n (w.nodes t n.index).records Fine false (row σ) result (retry_not_ran u depth t n.index σ)
+    (unwritten_out u depth (is_past (journal_of (w.nodes t n.index).records) (row σ).facts) (w.nodes t n.index).records (row σ) result
+    (silent_retry u depth t n.index σ) h))
 
 -- A NODE THAT ISN'T UP
 
@@ -168,7 +168,7 @@ node_stays u depth w t x d row e =
 node_rests : (u depth : ℕ) (w : BookingWorld) (nodes : Nodes) (n : NodeId) (disks : List DiskState) (fared : Fared) (d : Fate) (t : Tier)
     (row : State Amounts t → Move (State Amounts t)) → AreNodes u depth w nodes → AreDisks w disks → n.index < 2 * u + 1 → up_in nodes t n.index ≡ false
     → Commanded u depth w (moves (config u depth) w t n.index d row) nodes disks []
-        (texts.commands_text (config u depth) n fared (w.nodes t n.index) row (w.nodes t n.index).mode) (absent_text n (condition_at nodes t n.index))
+    (texts.commands_text (config u depth) n fared (w.nodes t n.index) row (w.nodes t n.index).mode) (absent_text n (condition_at nodes t n.index))
 node_rests u depth w nodes n disks fared d t row k on l e =
     let absent : resolving.is_up (w.nodes t n.index).mode ≡ false = sym (node_up u depth w nodes t n.index k l) ∙ e in
     let text = texts.commands_text (config u depth) n fared (w.nodes t n.index) row (w.nodes t n.index).mode in
@@ -179,13 +179,13 @@ node_rests u depth w nodes n disks fared d t row k on l e =
 pub command_rests : (u depth : ℕ) (w : BookingWorld) (nodes : Nodes) (n : NodeId) (command : Command) (disks : List DiskState) (fared : Fared) (t : Tier)
     → AreNodes u depth w nodes → AreDisks w disks → n.index < 2 * u + 1 → up_in nodes t n.index ≡ false
     → Commanded u depth w (world_by u depth w command fared n t) nodes disks [] (text_by u depth w command fared n t)
-        (absent_text n (condition_at nodes t n.index))
+    (absent_text n (condition_at nodes t n.index))
 command_rests u depth w nodes n command disks fared t k on l e =
     node_rests u depth w nodes n disks fared (fate (config u depth) fared) t (row_of command (kind_at (config u depth) t n.index)) k on l e
 
 pub retry_rests : (u depth : ℕ) (w : BookingWorld) (nodes : Nodes) (n : NodeId) (disks : List DiskState) (t : Tier) → AreNodes u depth w nodes
     → AreDisks w disks → n.index < 2 * u + 1 → up_in nodes t n.index ≡ false
     → Commanded u depth w (worlds.node_retries (config u depth) w t n.index) nodes disks [] (texts.node_retries_text (config u depth) w n t)
-        (absent_text n (condition_at nodes t n.index))
+    (absent_text n (condition_at nodes t n.index))
 retry_rests u depth w nodes n disks t k on l e =
     node_rests u depth w nodes n disks Fine unwritten t (kind_at (config u depth) t n.index).retry k on l e

@@ -36,7 +36,7 @@ pub in_tier : (t : Tier) (old new : Nodes) (n : NodeId) (x : ℕ) (v m : View (P
     → NodesMove old new n a b before after row result
 in_tier t old new n x v m a b before after row result e r read f keeps k =
     let at : MoveIn old new t x a b before after row result =
-        (λ w g. (m, f, subst (λ z. Moves (shape t) z m a b before after (row _ ((shape t).rows z)) result) (read_is (views old t) x v w read g) k), keeps) in
+    (λ w g. (m, f, subst (λ z. Moves (shape t) z m a b before after (row _ ((shape t).rows z)) result) (read_is (views old t) x v w read g) k), keeps) in
     subst (λ z. MoveIn old new z n.index a b before after row result) (sym e) (subst (λ z. MoveIn old new t z a b before after row result) r at)
 
 pub restarts_in : (t : Tier) (old new : Nodes) (n : NodeId) (x : ℕ) (v m : View (PartOf t)) (a b : DiskState) (result : Result ℕ Fault)
@@ -44,7 +44,7 @@ pub restarts_in : (t : Tier) (old new : Nodes) (n : NodeId) (x : ℕ) (v m : Vie
     → Restarts (shape t) v m a b result → NodeRestarts old new n a b result
 restarts_in t old new n x v m a b result e r read f keeps k =
     let at : RestartIn old new t x a b result =
-        (λ w g. (m, f, subst (λ z. Restarts (shape t) z m a b result) (read_is (views old t) x v w read g) k), keeps) in
+    (λ w g. (m, f, subst (λ z. Restarts (shape t) z m a b result) (read_is (views old t) x v w read g) k), keeps) in
     subst (λ z. RestartIn old new z n.index a b result) (sym e) (subst (λ z. RestartIn old new t z a b result) r at)
 
 -- A CALL THAT CHANGES NOTHING
@@ -59,7 +59,10 @@ pub still_in : (t : Tier) (old : Nodes) (n : NodeId) (x : ℕ) (v : View (PartOf
     → Moves (shape t) v v a b before after (row _ ((shape t).rows v)) result → NodesMove old old n a b before after row result
 still_in t old n x v a b before after row result e r read k =
     let all : ListMoves t (views old t) (views old t) x a b before after row result =
-        λ m f. (m, set_same (views old t) x m f,
-            subst (λ z. Moves (shape t) z z a b before after (row _ ((shape t).rows z)) result) (read_is (views old t) x v m read f) k) in
+    λ m f. (
+      m,
+      set_same (views old t) x m f,
+      subst (λ z. Moves (shape t) z z a b before after (row _ ((shape t).rows z)) result) (read_is (views old t) x v m read f) k,
+    ) in
     let at : MoveIn old old t x a b before after row result = (all, keeps_refl t old) in
     subst (λ z. MoveIn old old z n.index a b before after row result) (sym e) (subst (λ z. MoveIn old old t z a b before after row result) r at)

@@ -21,7 +21,7 @@ use Rattle.world.specs.declared.parts.arming.StopAt.{StopAt}
 use Rattle.world.specs.Arming.{armed_with, at_rest}
 use Rattle.world.specs.Calling.{Called, IsSureIf}
 use Rattle.world.specs.Disks.{IsDiskOf, AreDisks, first_of}
-use Rattle.world.specs.Parts.{NodePart, View, PartOf, MayWrite, is_up}
+use Rattle.world.specs.Parts.{NodePart, MayWrite, is_up}
 use Rattle.world.specs.NodeLists.{views, view_up, up_in, size_of, RowOf, MoveIn, NodesMove, MayWriteIn}
 use Rattle.world.specs.Standing.{IsNode, AreNodes}
 use Rattle.world.proofs.Tiers.{up_is, may_write_in}

@@ -1,8 +1,7 @@
 -- The events that commands are.
-use Rattle.std.proofs.Common.{◌≡◌, ℕ, true, List, refl, subst, Some}
+use Rattle.std.proofs.Common.{◌≡◌, ℕ, true, List, refl, Some}
 use Rattle.aeg_base.specs.declared.names.End.{End}
 use Rattle.aeg_base.specs.declared.names.NodeId.{NodeId}
-use Rattle.aeg_base.specs.declared.names.Tier.{Tier}
 use Rattle.aeg_disk.specs.Disk.{DiskState}
 use Rattle.run_model.specs.declared.trace.Fared.{Fared}
 use Rattle.run_model.specs.declared.trace.TraceEvent.TheVariants as events

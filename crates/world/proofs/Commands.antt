@@ -161,9 +161,9 @@ node_command : (u depth : ℕ) (w : BookingWorld) (old new : Nodes) (t : Tier) (
     (result : Result Answer Fault) (text : Mode (State Amounts t) → List ℕ) (told : List ℕ) → UpAt u depth w old t x disks disk
     → Done (2 * u + 1) x u (IsAt u depth t) (w.nodes t) (views new t) disk disk_after after d asked fared met row result → KeepsElse t old new
     → ((σ : State Amounts t) → CameOut result met (is_well (d (w.nodes t x).records (row σ).facts) (row σ).facts) fared
-        (is_past (journal_of (w.nodes t x).records) (row σ).facts) (row σ) → text (Up σ) ≡ told)
+    (is_past (journal_of (w.nodes t x).records) (row σ).facts) (row σ) → text (Up σ) ≡ told)
     → Commanded u depth w (moves (config u depth) w t x d row) new (slice_set disks (first_of t + x) disk_after) after (text (w.nodes t x).mode) told
-        × Faring asked fared disk disk_after
+    × Faring asked fared disk disk_after
 node_command u depth w old new t x disks disk disk_after after d asked fared met row result text told k h e tells =
     let move = row h.state in
     let dev = d (w.nodes t x).records move.facts in
@@ -188,19 +188,19 @@ pub node_by : (u depth : ℕ) (w : BookingWorld) (old new : Nodes) (t : Tier) (x
     (text : Mode (State Amounts t) → List ℕ) (told : List ℕ) → UpAt u depth w old t x disks disk → CanStop stop → HadMemory result
     → Called old new t x stop disk disk_after [] after row result met
     → ((σ : State Amounts t) → CameOut result met (is_well (fate (config u depth) (fared_by stop met result) (w.nodes t x).records
-        (row _ (kind_at (config u depth) t x) σ).facts) (row _ (kind_at (config u depth) t x) σ).facts) (fared_by stop met result)
-        (is_past (journal_of (w.nodes t x).records) (row _ (kind_at (config u depth) t x) σ).facts) (row _ (kind_at (config u depth) t x) σ)
-        → text (Up σ) ≡ told)
+    (row _ (kind_at (config u depth) t x) σ).facts) (row _ (kind_at (config u depth) t x) σ).facts) (fared_by stop met result)
+    (is_past (journal_of (w.nodes t x).records) (row _ (kind_at (config u depth) t x) σ).facts) (row _ (kind_at (config u depth) t x) σ)
+    → text (Up σ) ≡ told)
     → Commanded u depth w (moves (config u depth) w t x (fate (config u depth) (fared_by stop met result)) (row _ (kind_at (config u depth) t x))) new
-        (slice_set disks (first_of t + x) disk_after) after (text (w.nodes t x).mode) told
-        × Faring (asked_of stop) (fared_by stop met result) disk disk_after
+    (slice_set disks (first_of t + x) disk_after) after (text (w.nodes t x).mode) told
+    × Faring (asked_of stop) (fared_by stop met result) disk disk_after
 node_by u depth w old new t x stop disks disk disk_after after row result met text told k stops memory c tells =
     let few = k.few in
     let l = k.there in
     let h = node_done u depth t x (w.nodes t) old new stop disk disk_after after row result met (k.nodes_are.at t) (sym (up_is old t x) ∙ k.up)
-        (k.disks_are.at t x disk (omega (arith, few, l)) k.disk_is) stops memory c in
+    (k.disks_are.at t x disk (omega (arith, few, l)) k.disk_is) stops memory c in
     node_command u depth w old new t x disks disk disk_after after (fate (config u depth) (fared_by stop met result)) (asked_of stop)
-        (fared_by stop met result) met (row _ (kind_at (config u depth) t x)) result text told k h.0 h.1 tells
+    (fared_by stop met result) met (row _ (kind_at (config u depth) t x)) result text told k h.0 h.1 tells
 
 -- a call that writes nothing
 pub node_still : (u depth : ℕ) (w : BookingWorld) (old new : Nodes) (t : Tier) (x : ℕ) (disks : List DiskState) (disk : DiskState)
@@ -208,15 +208,15 @@ pub node_still : (u depth : ℕ) (w : BookingWorld) (old new : Nodes) (t : Tier)
     → UpAt u depth w old t x disks disk → HadMemory result → ((σ : State Amounts t) → (row _ (kind_at (config u depth) t x) σ).facts ≡ [])
     → MoveIn old new t x disk disk [] after row result
     → ((σ : State Amounts t) → CameOut result false (is_well (unwritten (w.nodes t x).records (row _ (kind_at (config u depth) t x) σ).facts)
-        (row _ (kind_at (config u depth) t x) σ).facts) Fine (is_past (journal_of (w.nodes t x).records) (row _ (kind_at (config u depth) t x) σ).facts)
-        (row _ (kind_at (config u depth) t x) σ) → text (Up σ) ≡ told)
+    (row _ (kind_at (config u depth) t x) σ).facts) Fine (is_past (journal_of (w.nodes t x).records) (row _ (kind_at (config u depth) t x) σ).facts)
+    (row _ (kind_at (config u depth) t x) σ) → text (Up σ) ≡ told)
     → Commanded u depth w (moves (config u depth) w t x unwritten (row _ (kind_at (config u depth) t x))) new disks after (text (w.nodes t x).mode) told
 node_still u depth w old new t x disks disk after row result text told k memory silent move tells =
     let few = k.few in
     let l = k.there in
     let h = node_quiet u depth t x (w.nodes t) (views old t) (views new t) disk after row result (k.nodes_are.at t) (sym (up_is old t x) ∙ k.up)
-        (k.disks_are.at t x disk (omega (arith, few, l)) k.disk_is) memory silent move.0 in
+    (k.disks_are.at t x disk (omega (arith, few, l)) k.disk_is) memory silent move.0 in
     let r = node_command u depth w old new t x disks disk disk after unwritten Fine Fine false (row _ (kind_at (config u depth) t x)) result text told k h
-        move.1 tells in
+    move.1 tells in
     subst (λ z. Commanded u depth w (moves (config u depth) w t x unwritten (row _ (kind_at (config u depth) t x))) new z after (text (w.nodes t x).mode) told)
     (sym (set_same disks (first_of t + x) disk k.disk_is)) r.0

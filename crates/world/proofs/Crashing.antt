@@ -52,7 +52,7 @@ crash_by u depth w old new n disks t few k d l c h =
     let s = up_state m.0.part (sym (ap view_up m.1) ∙ sym (up_is old t x) ∙ c) in
     let r = crashed_is t (state_at u depth t x) (open_in (shape t)) (w.nodes t x) m.0.part b.0 s.0 i.part (d.at t x b.0 (omega (arith, few, l)) b.1) s.1 in
     let to : IsAt u depth t x (crashed (w.nodes t x) (w.nodes t x).mode) (view_with goes_down m.0) =
-        record { faults = i.faults; tier = i.tier; deep = i.deep; me = i.me; part = r.0 } in
+    record { faults = i.faults; tier = i.tier; deep = i.deep; me = i.me; part = r.0 } in
     subst (λ z. Commanded u depth w (worlds.crashes (config u depth) w t x) new z [] (texts.crash_text (texts.node_name n) (w.nodes t x).mode) [])
     (sym (set_same disks (first_of t + x) b.0 b.1))
     (node_placed u depth w old new t x disks b.0 (crashed (w.nodes t x) (w.nodes t x).mode) (view_with goes_down m.0) _ [] few l k d to r.1 (change.0 m.0 m.1)
@@ -73,7 +73,7 @@ crash_told n Gone = refl
 pub crash_rests : (u depth : ℕ) (w : BookingWorld) (old : Nodes) (n : NodeId) (disks : List DiskState) (t : Tier) → u ≤ 2 → AreNodes u depth w old
     → AreDisks w disks → n.index < 2 * u + 1 → up_in old t n.index ≡ false
     → Commanded u depth w (worlds.crashes (config u depth) w t n.index) old disks [] (texts.crash_text (texts.node_name n) (w.nodes t n.index).mode)
-        (absent_text n (condition_at old t n.index))
+    (absent_text n (condition_at old t n.index))
 crash_rests u depth w old n disks t few k d l e =
     node_kept u depth w old t n.index disks (crashed (w.nodes t n.index) (w.nodes t n.index).mode) _ (absent_text n (condition_at old t n.index)) few l k d
     (crashed_same (w.nodes t n.index) (w.nodes t n.index).mode (sym (node_up u depth w old t n.index k l) ∙ e))

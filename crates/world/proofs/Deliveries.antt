@@ -56,14 +56,14 @@ pub arrive_by : (u depth : ℕ) (w : BookingWorld) (old new : Nodes) (n : NodeId
     → UpAt u depth w old t n.index disks disk → CanStop stop → HadMemory result
     → Called old new t n.index stop disk disk_after [] after (λ S k. k.on_frame from message) result met
     → Commanded u depth w (worlds.node_gets (config u depth) w (fared_by stop met result) from message t n.index) new
-        (slice_set disks (first_of t + n.index) disk_after) after (texts.node_frame_text (config u depth) w k (fared_by stop met result) from message n t)
-        (told_frame n met result) × Faring (asked_of stop) (fared_by stop met result) disk disk_after
+    (slice_set disks (first_of t + n.index) disk_after) after (texts.node_frame_text (config u depth) w k (fared_by stop met result) from message n t)
+    (told_frame n met result) × Faring (asked_of stop) (fared_by stop met result) disk disk_after
 arrive_by u depth w old new n k from message stop disks disk disk_after after result met t h stops memory c =
     let row : State Amounts t → Move (State Amounts t) = (kind_at (config u depth) t n.index).on_frame from message in
     let fared = fared_by stop met result in
     node_by u depth w old new t n.index stop disks disk disk_after after (λ S z. z.on_frame from message) result met
-        (texts.frames_text (config u depth) n k fared (w.nodes t n.index) row) (told_frame n met result) h stops memory c
-        (λ σ e. frames_told u depth n (w.nodes t n.index).records fared met (row σ) result e)
+    (texts.frames_text (config u depth) n k fared (w.nodes t n.index) row) (told_frame n met result) h stops memory c
+    (λ σ e. frames_told u depth n (w.nodes t n.index).records fared met (row σ) result e)
 
 -- AT A NODE THAT ISN'T UP
 
@@ -75,7 +75,7 @@ lost u depth n k fared node row Gone e = refl
 pub lost_by : (u depth : ℕ) (w : BookingWorld) (nodes : Nodes) (n : NodeId) (k : ℕ) (fared : Fared) (from : End) (message : Msg) (disks : List DiskState)
     (t : Tier) → AreNodes u depth w nodes → AreDisks w disks → n.index < 2 * u + 1 → up_in nodes t n.index ≡ false
     → Commanded u depth w (worlds.node_gets (config u depth) w fared from message t n.index) nodes disks []
-        (texts.node_frame_text (config u depth) w k fared from message n t) (texts.lost_line k)
+    (texts.node_frame_text (config u depth) w k fared from message n t) (texts.lost_line k)
 lost_by u depth w nodes n k fared from message disks t a on l e =
     let row : State Amounts t → Move (State Amounts t) = (kind_at (config u depth) t n.index).on_frame from message in
     let absent : resolving.is_up (w.nodes t n.index).mode ≡ false = sym (node_up u depth w nodes t n.index a l) ∙ e in

@@ -18,7 +18,7 @@ use Rattle.log_values.specs.declared.fact.Fact.{Fact}
 use Rattle.frames.specs.declared.turn.Turn.{Turn as Answer}
 use Rattle.frames.specs.declared.turn.Fault.{Fault}
 use Rattle.tier_model.specs.Moves.{Move}
-use Rattle.tier_model.specs.Kinds.{State, Kind}
+use Rattle.tier_model.specs.Kinds.{State}
 use Rattle.run_model.specs.declared.trace.Fared.{Fared}
 use Rattle.run_model.specs.declared.trace.Fared.TheVariants.{Fine}
 use Rattle.run_model.specs.World.{Fate, fate, unwritten, kind_at}
@@ -198,7 +198,7 @@ pub node_done : (u depth : ℕ) (t : Tier) (x : ℕ) (nodes : ℕ → NodeOf (St
     → AreAll (2 * u + 1) (IsAt u depth t) nodes (views old t) → view_up (slice_get (views old t) x) ≡ true → IsDiskOf (nodes x) disk → CanStop stop
     → HadMemory result → Called old new t x stop disk disk_after [] after row result met
     → Done (2 * u + 1) x u (IsAt u depth t) nodes (views new t) disk disk_after after (fate (config u depth) (fared_by stop met result))
-        (asked_of stop) (fared_by stop met result) met (row _ (kind_at (config u depth) t x)) result × KeepsElse t old new
+    (asked_of stop) (fared_by stop met result) met (row _ (kind_at (config u depth) t x)) result × KeepsElse t old new
 node_done u depth t x nodes old new stop disk disk_after after row result met k up on stops memory c =
     let found = passes view_up (slice_get (views old t) x) refl up in
     let m : View (PartOf t) = found.0 in
@@ -211,14 +211,14 @@ node_done u depth t x nodes old new stop disk disk_after after row result met k 
     let v = viewed u depth t x (nodes x) m n (armed_with stop disk) c.called [] after row result i h.2 in
     let p = node_called u depth t x (nodes x) m.part n disk c.called stop s.0 after move result i.part on s.1 stops v in
     let r = came t (state_at u depth t x) (open_in (shape t)) u depth (nodes x) m.part n.part disk c.called stop met s.0
-        (move (state_at u depth t x s.0)) after result c.stopped memory p in
+    (move (state_at u depth t x s.0)) after result c.stopped memory p in
     let d = done (2 * u + 1) x u t (IsAt u depth t) nodes (views old t) (view_with (sure_if met) n) (state_at u depth t x) (open_in (shape t))
-        m.part n.part s.0 disk (at_rest c.called) after f (asked_of stop) (fared_by stop met result) met move result k i.part s.1
-        (λ to q. as_viewed u depth t x n v.same to (sure_if met n.part) q) r in (
+    m.part n.part s.0 disk (at_rest c.called) after f (asked_of stop) (fared_by stop met result) met move result k i.part s.1
+    (λ to q. as_viewed u depth t x n v.same to (sure_if met n.part) q) r in (
       subst (λ z. Done (2 * u + 1) x u (IsAt u depth t) nodes z disk disk_after after f (asked_of stop) (fared_by stop met result) met move result)
           (sym (list_after t met old c.between new x m n c.sure found.1 h.1))
           (subst (λ z. Done (2 * u + 1) x u (IsAt u depth t) nodes (slice_set (views old t) x (view_with (sure_if met) n)) disk z after f
-              (asked_of stop) (fared_by stop met result) met move result) (sym c.rests) d),
+          (asked_of stop) (fared_by stop met result) met move result) (sym c.rests) d),
       keeps_then t old c.between new c.moves.1 (keeps_sure t met c.between new x c.sure),
     )
 
@@ -238,7 +238,7 @@ node_quiet u depth t x nodes old new disk after row result k up on memory silent
     let v = viewed u depth t x (nodes x) m h.0 disk disk [] after row result i h.2 in
     let p = node_called u depth t x (nodes x) m.part h.0 disk disk None s.0 after move result i.part on s.1 tt v in
     let r = came_quiet t (state_at u depth t x) (open_in (shape t)) u depth (nodes x) m.part h.0.part disk s.0
-        (move (state_at u depth t x s.0)) after result (silent (state_at u depth t x s.0)) memory p in
+    (move (state_at u depth t x s.0)) after result (silent (state_at u depth t x s.0)) memory p in
     subst (λ z. Done (2 * u + 1) x u (IsAt u depth t) nodes z disk disk after unwritten Fine Fine false move result) (sym h.1)
     (done (2 * u + 1) x u t (IsAt u depth t) nodes old h.0 (state_at u depth t x) (open_in (shape t)) m.part h.0.part s.0 disk disk after unwritten
-        Fine Fine false move result k i.part s.1 (λ to q. as_viewed u depth t x h.0 v.same to h.0.part q) r)
+    Fine Fine false move result k i.part s.1 (λ to q. as_viewed u depth t x h.0 v.same to h.0.part q) r)

@@ -121,7 +121,7 @@ unfolding with_logs
 grown_world {B} c w k =
     let now = with_logs w (logs_with w (chosen_next c w Mid)) in
     let first : grows_at c Mid w ≡ now = mid_part c w (chosen_next c w Mid)
-        (λ v e. chosen_value IsBatch c.u (log_soup Mid w.soup) (length (w.logs Mid)) (log_soup Mid w.soup) v k.batches e) in
+    (λ v e. chosen_value IsBatch c.u (log_soup Mid w.soup) (length (w.logs Mid)) (log_soup Mid w.soup) v k.batches e) in
     ap (λ z. grows_at c Pay (grows_at c Inv z)) first ∙ ap (grows_at c Pay) (same_back c Inv now k.no_calls) ∙ same_back c Pay now k.no_charges
 
 -- the logs go on, and all else stays
@@ -175,9 +175,9 @@ watch_grows {B} c w k =
     let o = chosen_next c w Mid in
     let logs = logs_at w o in
     let mid = seen_grows c.u (log_soup Mid w.soup) (length (w.logs Mid)) o k.mid_from refl (w.logs Mid) refl
-        ∙ ap (λ z. seen_of c.u (log_soup Mid w.soup) (length z)) (sym logs.0) in
+    ∙ ap (λ z. seen_of c.u (log_soup Mid w.soup) (length z)) (sym logs.0) in
     let inv = seen_stays c.u (log_soup Inv w.soup) (length (w.logs Inv)) k.inv_from k.no_calls
-        ∙ ap (λ z. seen_of c.u (log_soup Inv w.soup) (length z)) (sym logs.1.0) in
+    ∙ ap (λ z. seen_of c.u (log_soup Inv w.soup) (length z)) (sym logs.1.0) in
     let pay = seen_stays c.u (log_soup Pay w.soup) (length (w.logs Pay)) k.pay_from k.no_charges
-        ∙ ap (λ z. seen_of c.u (log_soup Pay w.soup) (length z)) (sym logs.1.1) in
+    ∙ ap (λ z. seen_of c.u (log_soup Pay w.soup) (length z)) (sym logs.1.1) in
     (λ i. record { mid = mid i; inv = inv i; pay = pay i }) ∙ sym (ap (seen_in c) (grown_world c w k))

@@ -48,5 +48,5 @@ node_kept u depth w old t x disks node text told few l k d e f =
     let v = node_at u depth w old t x k l in
     let b = disk_of w u x t disks few d l in
     let placed = node_placed u depth w old old t x disks b.0 node v.0 text told few l k d (subst (λ z. IsAt u depth t x z v.0) (sym e) v.2)
-        (subst (λ z. IsDiskOf z b.0) (sym e) (d.at t x b.0 (omega (arith, few, l)) b.1)) (set_same (views old t) x v.0 v.1) (keeps_refl t old) f in
+    (subst (λ z. IsDiskOf z b.0) (sym e) (d.at t x b.0 (omega (arith, few, l)) b.1)) (set_same (views old t) x v.0 v.1) (keeps_refl t old) f in
     subst (λ z. Commanded u depth w (worlds.placed (config u depth) w t x node) old z [] text told) (sym (set_same disks (first_of t + x) b.0 b.1)) placed

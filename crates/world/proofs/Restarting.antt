@@ -30,8 +30,8 @@ use Rattle.world.specs.declared.nodes.condition.Condition.TheVariants as conditi
 use Rattle.world.specs.Arming.{at_rest}
 use Rattle.world.specs.Calling.{found_of}
 use Rattle.world.specs.Disks.{IsReady, IsDiskOf, AreDisks, first_of}
-use Rattle.world.specs.Parts.{NodePart, View, PartOf, shape, open_in, Restarts, IsSameView, AllStand, MayRead, Reads, list_found, is_down_in}
-use Rattle.world.specs.NodeLists.{views, condition_in, condition_at, view_condition, KeepTiers, RestartIn, down_in, view_down}
+use Rattle.world.specs.Parts.{NodePart, View, PartOf, shape, open_in, Restarts, AllStand, MayRead, Reads, list_found, is_down_in}
+use Rattle.world.specs.NodeLists.{condition_in, condition_at, view_condition, KeepTiers, RestartIn, down_in, view_down}
 use Rattle.world.specs.Telling.{told_restart, HadMemory}
 use Rattle.world.specs.Standing.{mode_by, journal_of, state_at, IsPlaced, IsDoubted, IsOpen, IsNode, IsAt, AreNodes}
 use Rattle.world.proofs.Moving.{journal-last, size_is, rest_content, stand_alone}
@@ -210,9 +210,9 @@ pub restart_by : (u depth : ℕ) (w : BookingWorld) (old new : Nodes) (n : NodeI
     → slice_get disks (first_of t + n.index) ≡ Some disk → condition_at old t n.index ≡ conditions.Down → HadMemory result
     → RestartIn old new t n.index (at_rest disk) disk_after result
     → Commanded u depth w (worlds.restarts (config u depth) w (found_of result) t n.index) new (slice_set disks (first_of t + n.index) disk_after) []
-        (texts.restart_text (texts.node_name n) (found_of result) (w.nodes t n.index).mode) (told_restart n result)
-        × IsAmong (w.nodes t n.index).others (found_of result) × (is_failing (found_of result) ≡ true → Rose disk.faults disk_after.faults)
-        × (disk.faults ≤ disk_after.faults)
+    (texts.restart_text (texts.node_name n) (found_of result) (w.nodes t n.index).mode) (told_restart n result)
+    × IsAmong (w.nodes t n.index).others (found_of result) × (is_failing (found_of result) ≡ true → Rose disk.faults disk_after.faults)
+    × (disk.faults ≤ disk_after.faults)
 restart_by u depth w old new n disks disk disk_after result t few k d l b c memory move =
     let x = n.index in
     let m = node_at u depth w old t x k l in
@@ -222,7 +222,7 @@ restart_by u depth w old new n disks disk disk_after result t few k d l b c memo
     let lists = node.records ∷ node.others in
     let recover : List Fact → State Amounts t = (kind_at (config u depth) t x).recovered in
     let h : Restarts (shape t) (view_of u depth t x m.0.part) v.0 (at_rest disk) disk_after result =
-        subst (λ z. Restarts (shape t) z v.0 (at_rest disk) disk_after result) (view_is u depth t x node m.0 i) v.2 in
+    subst (λ z. Restarts (shape t) z v.0 (at_rest disk) disk_after result) (view_is u depth t x node m.0 i) v.2 in
     let on = d.at t x disk (omega (arith, few, l)) b in
     let down : m.0.part.mode ≡ Down = down_mode m.0.part.mode (sym (ap view_condition m.1) ∙ sym (condition_is old t x) ∙ c) in
     let read = reads_here u depth t x m.0.part v.0 (at_rest disk) disk_after lists result h (rest_stands node disk on) i.part.stand in
@@ -264,7 +264,7 @@ gone_told n found Gone e = refl
 pub restart_up : (u depth : ℕ) (w : BookingWorld) (old : Nodes) (n : NodeId) (disks : List DiskState) (found : Found) (t : Tier) → u ≤ 2
     → AreNodes u depth w old → AreDisks w disks → n.index < 2 * u + 1 → condition_at old t n.index ≡ conditions.Up
     → Commanded u depth w (worlds.restarts (config u depth) w found t n.index) old disks []
-        (texts.restart_text (texts.node_name n) found (w.nodes t n.index).mode) (texts.idle_line (texts.node_name n) (codes "up"))
+    (texts.restart_text (texts.node_name n) found (w.nodes t n.index).mode) (texts.idle_line (texts.node_name n) (codes "up"))
 restart_up u depth w old n disks found t few k d l e =
     let node = w.nodes t n.index in
     let recover : List Fact → State Amounts t = (kind_at (config u depth) t n.index).recovered in
@@ -275,7 +275,7 @@ restart_up u depth w old n disks found t few k d l e =
 pub restart_gone : (u depth : ℕ) (w : BookingWorld) (old : Nodes) (n : NodeId) (disks : List DiskState) (found : Found) (t : Tier) → u ≤ 2
     → AreNodes u depth w old → AreDisks w disks → n.index < 2 * u + 1 → condition_at old t n.index ≡ conditions.Gone
     → Commanded u depth w (worlds.restarts (config u depth) w found t n.index) old disks []
-        (texts.restart_text (texts.node_name n) found (w.nodes t n.index).mode) (texts.gone_line (texts.node_name n))
+    (texts.restart_text (texts.node_name n) found (w.nodes t n.index).mode) (texts.gone_line (texts.node_name n))
 restart_gone u depth w old n disks found t few k d l e =
     let node = w.nodes t n.index in
     let recover : List Fact → State Amounts t = (kind_at (config u depth) t n.index).recovered in

@@ -47,14 +47,14 @@ pub wipe_by : (u depth : ℕ) (w : BookingWorld) (old new : Nodes) (n : NodeId) 
     → AreNodes u depth w old → AreDisks w disks → n.index < 2 * u + 1 → slice_get disks (first_of t + n.index) ≡ Some disk
     → is_gone_in (condition_at old t n.index) ≡ false → ChangedIn old new t n.index (λ S. is_wiped {S = S}) → Blank disk disk_after
     → Commanded u depth w (worlds.wipes (config u depth) w t n.index) new (slice_set disks (first_of t + n.index) disk_after) []
-        (texts.wipe_text (texts.node_name n) (w.nodes t n.index).mode) []
+    (texts.wipe_text (texts.node_name n) (w.nodes t n.index).mode) []
 wipe_by u depth w old new n disks disk disk_after t few k d l b c h e =
     let x = n.index in
     let change = changed t old new x (λ S. is_wiped {S = S}) h in
     let m = node_at u depth w old t x k l in
     let i = m.2 in
     let to : IsAt u depth t x (stands Gone []) (view_with is_wiped m.0) =
-        record { faults = i.faults; tier = i.tier; deep = i.deep; me = i.me; part = wiped_is t (state_at u depth t x) (open_in (shape t)) m.0.part } in
+    record { faults = i.faults; tier = i.tier; deep = i.deep; me = i.me; part = wiped_is t (state_at u depth t x) (open_in (shape t)) m.0.part } in
     node_placed u depth w old new t x disks disk_after (stands Gone []) (view_with is_wiped m.0) _ [] few l k d to
     (wiped_disk disk disk_after (w.nodes t x) (d.at t x disk (omega (arith, few, l)) b) e) (change.0 m.0 m.1) change.1
     (wipe_told n (w.nodes t x).mode (ap is_gone_in (sym (node_condition u depth w old t x k l)) ∙ c))
@@ -78,7 +78,7 @@ gone_is {S} {T} t whole open_of node part k e =
 pub wipe_rests : (u depth : ℕ) (w : BookingWorld) (old : Nodes) (n : NodeId) (disks : List DiskState) (t : Tier) → u ≤ 2 → AreNodes u depth w old
     → AreDisks w disks → n.index < 2 * u + 1 → is_gone_in (condition_at old t n.index) ≡ true
     → Commanded u depth w (worlds.wipes (config u depth) w t n.index) old disks [] (texts.wipe_text (texts.node_name n) (w.nodes t n.index).mode)
-        (texts.gone_line (texts.node_name n))
+    (texts.gone_line (texts.node_name n))
 wipe_rests u depth w old n disks t few k d l e =
     let m = node_at u depth w old t n.index k l in
     let gone : is_gone_in (condition_in (w.nodes t n.index).mode) ≡ true = ap is_gone_in (sym (node_condition u depth w old t n.index k l)) ∙ e in
