@@ -5,7 +5,7 @@ use Rattle.node_journal.specs.Journal.{records, size_of}
 use Rattle.node_journal.specs.declared.journal.AppendErr.{AppendErr}
 use Rattle.node_journal.specs.declared.journal.AppendErr.TheVariants.{Disk, Full, Memory}
 use Rattle.node_journal.specs.Append.{Holds, HasList, Each, LeavesOnly, OldOrNew, StopMet, is_kept}
-use Rattle.log_model.specs.World.{recorded}
+use Rattle.log_model.specs.Nodes.{recorded}
 use Rattle.log_values.specs.declared.fact.Fact.{Fact}
 use Rattle.log_values.specs.Records.{record_text}
 use Rattle.std.specs.Prelude.{OnOk, OnErr}

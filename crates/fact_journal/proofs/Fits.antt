@@ -5,7 +5,7 @@ use Rattle.std.proofs.lemmas.List.{append-nil}
 use Rattle.aeg_base.specs.declared.names.Tier.{Tier}
 use Rattle.log_values.specs.declared.fact.Fact.{Fact}
 use Rattle.log_values.specs.Records.{FitsFact}
-use Rattle.log_model.specs.World.{recorded}
+use Rattle.log_model.specs.Nodes.{recorded}
 use Rattle.fact_journal.specs.Fitting.{open_after, open_after_all, FactsFit, RecordsFit, Fit, all_facts}
 
 pub open_after_then : (first : ℕ) (xs ys : List Fact) → open_after_all first (xs ++ ys) ≡ open_after_all (open_after_all first xs) ys

@@ -7,7 +7,7 @@ use Rattle.node_journal.specs.declared.journal.AppendErr.{AppendErr}
 use Rattle.node_journal.specs.declared.journal.AppendErr.TheVariants.{Disk, Full, Memory}
 use Rattle.node_journal.specs.Journal.{records, size_of, IsBadAt}
 use Rattle.node_journal.specs.Append.{is_kept}
-use Rattle.log_model.specs.World.{recorded}
+use Rattle.log_model.specs.Nodes.{recorded}
 use Rattle.log_values.specs.declared.fact.Fact.{Fact}
 use Rattle.log_values.specs.Records.{record_text}
 use Rattle.fact_journal.specs.Fitting.{FactsFit, open_after_all, Fit, all_facts}

@@ -4,7 +4,7 @@ ghost use Rattle.std.specs.List.{AllByRecursion};
 ghost use Rattle.aeg_disk.specs.Disk.{Rose, Later};
 ghost use Rattle.node_journal.specs.Append.{LeavesOnly, IsFaultless};
 ghost use Rattle.node_journal.specs.Opening.{WasThere};
-ghost use Rattle.log_model.specs.World.{writes};
+ghost use Rattle.log_model.specs.Nodes.{writes};
 ghost use Rattle.log_values.specs.declared.fact.Fact.{Fact};
 ghost use Rattle.log_values.specs.Records.{record_text, FitsFact};
 ghost use Rattle.fact_journal.specs.Fitting.{FactsFit, EachFits};

@@ -6,7 +6,7 @@ ghost use Rattle.aeg_base.specs.declared.names.Tier.{Tier};
 ghost use Rattle.aeg_disk.specs.Disk.{DiskState, Blank, SameContent};
 ghost use Rattle.log_model.specs.declared.fact.Fact.{Fact as LogFact};
 ghost use Rattle.log_model.specs.Recover.{onto, newest, learned_in, recover};
-ghost use Rattle.log_model.specs.World.{recorded};
+ghost use Rattle.log_model.specs.Nodes.{recorded};
 ghost use Rattle.log_model.specs.Ranges.{IsFactIn, IsLogIn};
 ghost use Rattle.log_values.specs.declared.any_value.AnyValue.{AnyValue};
 ghost use Rattle.log_values.specs.declared.fact.Fact.{Fact};

@@ -55,7 +55,7 @@ each_all {A} P (suc n) f h i a e = go (get_push (each n nobody f) (f n) i a e) (
 pub record CanAsk (y seq : ℕ) (text : List ℕ) : Type 0 where
   pub client : IsClient y
   pub seq_in : IsSeq seq
-  pub request : is_request booking_service (record { client = y; seq = seq }) text ≡ true
+  pub request : is_request booking_service.programs (record { client = y; seq = seq }) text ≡ true
 
 pub ask_fits : (y seq : ℕ) (text : List ℕ) → CanAsk y seq text → FitsFrame (Client y) (msgs.Request seq text)
 ask_fits y seq text k = record { sender = k.client; sent = refl; message = (k.seq_in, request_short (record { client = y; seq = seq }) text k.request) }
@@ -72,14 +72,14 @@ first_stage who (Book t n) = refl
 first_stage who (Cancel b) = refl
 first_stage who (Look b) = refl
 
-request_is : (who : ReqId) (body : List ℕ) (q : Request) → request_of body ≡ Ok q → is_request booking_service who body ≡ true
+request_is : (who : ReqId) (body : List ℕ) (q : Request) → request_of body ≡ Ok q → is_request booking_service.programs who body ≡ true
 request_is who body q e = ap (λ r. is_some (stages_in who 0 r)) e ∙ first_stage who q
 
 -- what is asked is a request
-pub asked_is : (y seq : ℕ) (text : List ℕ) → is_read (request_of text) ≡ true → is_request booking_service (record { client = y; seq = seq }) text ≡ true
+pub asked_is : (y seq : ℕ) (text : List ℕ) → is_read (request_of text) ≡ true → is_request booking_service.programs (record { client = y; seq = seq }) text ≡ true
 asked_is y seq text e = go (request_of text) refl e
   where
-    go : (r : Result Request ℕ) → request_of text ≡ r → is_read r ≡ true → is_request booking_service (record { client = y; seq = seq }) text ≡ true
+    go : (r : Result Request ℕ) → request_of text ≡ r → is_read r ≡ true → is_request booking_service.programs (record { client = y; seq = seq }) text ≡ true
     go (Ok q) f g = request_is (record { client = y; seq = seq }) text q f
     go (Err row) f g = absurd (cc)
 
@@ -92,9 +92,8 @@ submit_is u depth w y text k a o l = cond-true _ (opens u w y text) w
 
 pub open_leads : (u depth : ℕ) (w : BookingWorld) (nodes : Nodes) (y : ℕ) (text : List ℕ) → AreNodes u depth w nodes → CanAsk y (suc (w.clients y).last) text → Leads u depth w (opens u w y text) nodes (requests u y (suc (w.clients y).last) text)
 open_leads u depth w nodes y text k a = record {
-  are = record { mids = k.mids; invs = k.invs; pays = k.pays };
+  are = record { at = k.at };
   soup = refl;
-  log = refl;
   logs = refl;
   hist = refl;
   fit = asks_fit u y (suc (w.clients y).last) text a;
@@ -103,7 +102,7 @@ open_leads u depth w nodes y text k a = record {
 
 -- a client with an open request opens none
 pub busy_is : (u depth : ℕ) (w : BookingWorld) (y : ℕ) (text : List ℕ) → is_some (w.clients y).opened ≡ true → submits (config u depth) w y text ≡ w
-busy_is u depth w y text e = go (worlds.is_client_number y) (is_request booking_service (record { client = y; seq = suc (w.clients y).last }) text) (is_some (w.clients y).opened) e
+busy_is u depth w y text e = go (worlds.is_client_number y) (is_request booking_service.programs (record { client = y; seq = suc (w.clients y).last }) text) (is_some (w.clients y).opened) e
   where
     go : (a b o : Bool) → o ≡ true → cond (a && (b && (not o && nat_lt (w.clients y).last 65536))) (opens u w y text) w ≡ w
     go true true true e = refl
@@ -114,9 +113,8 @@ busy_is u depth w y text e = go (worlds.is_client_number y) (is_request booking_
 -- the open request is sent again
 pub again_leads : (u depth : ℕ) (w : BookingWorld) (nodes : Nodes) (y : ℕ) (text : List ℕ) → AreNodes u depth w nodes → CanAsk y (w.clients y).last text → Leads u depth w (reopens (config u depth) w y (Some text)) nodes (requests u y (w.clients y).last text)
 again_leads u depth w nodes y text k a = record {
-  are = record { mids = k.mids; invs = k.invs; pays = k.pays };
+  are = record { at = k.at };
   soup = refl;
-  log = refl;
   logs = refl;
   hist = refl;
   fit = asks_fit u y (w.clients y).last text a;
@@ -138,7 +136,7 @@ pub client_back : (w : BookingWorld) (vs : List ClientState) (y : ℕ) (v new : 
 client_back w vs y v new k l e f = subst (AreAll 17 IsClientEnd w.clients) (set_same vs y v (slice_get_read vs (length vs) y v refl (omega (arith, k.size, l)) e) ∙ ap (slice_set vs y) (sym f)) k
 
 -- it has opened its first request
-pub client_opened : (u : ℕ) (w : BookingWorld) (vs : List ClientState) (y : ℕ) (v new : ClientState) (text : List ℕ) → AreAll 17 IsClientEnd w.clients vs → y ≤ 16 → v ≡ get_or vs y v → (w.clients y).last ≡ 0 → is_request booking_service (record { client = y; seq = 1 }) text ≡ true → new ≡ opened_with v text
+pub client_opened : (u : ℕ) (w : BookingWorld) (vs : List ClientState) (y : ℕ) (v new : ClientState) (text : List ℕ) → AreAll 17 IsClientEnd w.clients vs → y ≤ 16 → v ≡ get_or vs y v → (w.clients y).last ≡ 0 → is_request booking_service.programs (record { client = y; seq = 1 }) text ≡ true → new ≡ opened_with v text
     → AreAll 17 IsClientEnd (opens u w y text).clients (slice_set vs y new)
 client_opened u w vs y v new text k l e z r n =
     let i : IsClientEnd y (w.clients y) v = client_is w vs y v k l e in
@@ -149,7 +147,7 @@ client_opened u w vs y v new text k l e z r n =
 pub asked_nothing : (y : ℕ) (end : ClientEnd) → AsksOnce y end.last end.opened → end.opened ≡ None → end.last ≡ 0
 asked_nothing y end k e = subst (AsksOnce y end.last) e k
 
-pub asked_once : (y : ℕ) (end : ClientEnd) (text : List ℕ) → AsksOnce y end.last end.opened → end.opened ≡ Some text → (end.last ≡ 1) × (is_request booking_service (record { client = y; seq = 1 }) text ≡ true)
+pub asked_once : (y : ℕ) (end : ClientEnd) (text : List ℕ) → AsksOnce y end.last end.opened → end.opened ≡ Some text → (end.last ≡ 1) × (is_request booking_service.programs (record { client = y; seq = 1 }) text ≡ true)
 asked_once y end text k e = subst (AsksOnce y end.last) e k
 
 -- THE WHOLE EVENT
@@ -174,14 +172,14 @@ asked u depth w w1 old new ks event told before now s within h o l clients e t d
 
 -- the nodes' disks stay
 pub open_disks : (u : ℕ) (w : BookingWorld) (y : ℕ) (text : List ℕ) (disks : List DiskState) → AreDisks w disks → AreDisks (opens u w y text) disks
-open_disks u w y text disks d = record { all = d.all; mids = d.mids; invs = d.invs; pays = d.pays }
+open_disks u w y text disks d = record { all = d.all; at = d.at }
 
 pub again_disks : (u depth : ℕ) (w : BookingWorld) (y : ℕ) (text : List ℕ) (disks : List DiskState) → AreDisks w disks → AreDisks (reopens (config u depth) w y (Some text)) disks
-again_disks u depth w y text disks d = record { all = d.all; mids = d.mids; invs = d.invs; pays = d.pays }
+again_disks u depth w y text disks d = record { all = d.all; at = d.at }
 
 -- nothing is sent
 pub nothing_leads : (u depth : ℕ) (w : BookingWorld) (nodes : Nodes) → AreNodes u depth w nodes → Leads u depth w w nodes []
-nothing_leads u depth w nodes k = record { are = k; soup = sym (append-nil w.soup); log = refl; logs = refl; hist = refl; fit = λ i p f. absurd (cc); reach = λ i p f. absurd (cc) }
+nothing_leads u depth w nodes k = record { are = k; soup = sym (append-nil w.soup); logs = refl; hist = refl; fit = λ i p f. absurd (cc); reach = λ i p f. absurd (cc) }
 
 -- what a client tells of its open request
 pub pending_none : (c : ClientState) → open_request c ≡ None → c.end.opened ≡ None

@@ -19,7 +19,7 @@ use Rattle.log_model.specs.declared.turn.Offering.TheVariants.{NotLeader, NoProm
 use Rattle.log_model.specs.Log.{Leader, LogState, Turn, open_at, is_at, is_none}
 use Rattle.log_model.specs.Rows.{offer, wants as log_wants, wants_as, on_msg, promised_by, is_taken}
 use Rattle.log_model.specs.Ranges.{IsVoteIn, IsLeaderIn, IsLogIn, IsSendIn}
-use Rattle.log_model.specs.World.Mode.{Up}
+use Rattle.log_model.specs.Nodes.Mode.{Up}
 use Rattle.log_values.specs.declared.any_value.AnyValue.{AnyValue}
 use Rattle.log_values.specs.Fields.{FitsBallot}
 use Rattle.frames.specs.declared.message.Msg.TheVariants as msgs
@@ -30,11 +30,11 @@ use Rattle.frames.specs.declared.turn.Idle.TheVariants as why
 use Rattle.frames.specs.declared.turn.Fault.{Fault}
 use Rattle.frames.specs.declared.turn.Fault.TheVariants as faults
 use Rattle.round_model.specs.Lists.{is_some}
-use Rattle.round_model.specs.Copies.{floor_at, many_at_least, greater, due_among, due}
+use Rattle.round_model.specs.Shims.{floor_at, is_more, due_among, due}
 use Rattle.tier_model.specs.Moves.{is_node_of, Move, idles, drops, says, log_packets, asks, as_fact, log_answer, offer_cause}
 use Rattle.frames.specs.Headers.{end_index}
 use Rattle.tier_model.specs.Back.{Back, with_log, new_value, value_state, value_tells, in_log}
-use Rattle.tier_model.specs.BackRows.{on_frame, own_value, offers_as, offers, retry}
+use Rattle.tier_model.specs.BackRows.{on_frame, settle_value, own_value, offers_as, offers, retry}
 use Rattle.run_model.specs.BookingRuns.{booking_service}
 use Rattle.world.specs.Parts.{CanStand, AllReach, StandIn, NodePart, as_back, Makes, Wrote, BackView, BackMoves, HaveRoom, sealed}
 use Rattle.world.specs.LogNodes.{LogView, IsRanged, log_itself, log_move, Turns}
@@ -46,7 +46,7 @@ use Rattle.world.proofs.MidOffers.{asks_in}
 
 -- what contracts see of a backend node with this log
 abbrev pub back_view : LogView → BackView
-back_view n = record { faults = n.faults; tier = n.tier; me = n.me; part = n.part }
+back_view n = record { faults = n.faults; tier = n.tier; depth = 0; me = n.me; part = n.part }
 
 -- NOTHING IS LEARNED OR REPORTED
 
@@ -73,9 +73,9 @@ nothing_new old new e = cond-false (nat_lt (length old.learned) (length new.lear
 abbrev back_move : ℕ → Tier → ℕ → Turn AnyValue → Move (Back Amounts)
 back_move u t x turn = record { state = as_back u t turn.state; facts = map as_fact turn.facts; sends = log_packets t x turn.sends; answer = log_answer turn.idle }
 
-in_log_is : (u : ℕ) (t : Tier) (x : ℕ) (log : LogState AnyValue) (turn : Turn AnyValue) → length turn.state.learned ≡ 0 → in_log u booking_service t x (as_back u t log) turn ≡ back_move u t x turn
+in_log_is : (u : ℕ) (t : Tier) (x : ℕ) (log : LogState AnyValue) (turn : Turn AnyValue) → length turn.state.learned ≡ 0 → in_log u (booking_service.backend t) t x (as_back u t log) turn ≡ back_move u t x turn
 in_log_is u t x log turn e =
-    ap (λ v. record { state = value_state booking_service t (with_log (as_back u t log) turn.state) v; facts = map as_fact turn.facts; sends = log_packets t x turn.sends ++ value_tells u booking_service t x (with_log (as_back u t log) turn.state) v; answer = log_answer turn.idle })
+    ap (λ v. record { state = value_state (booking_service.backend t) (with_log (as_back u t log) turn.state) v; facts = map as_fact turn.facts; sends = log_packets t x turn.sends ++ value_tells u (booking_service.backend t) t x (with_log (as_back u t log) turn.state) v; answer = log_answer turn.idle })
     (nothing_new log turn.state e)
     ∙ ap (λ ks. record { state = as_back u t turn.state; facts = map as_fact turn.facts; sends = ks; answer = log_answer turn.idle }) (append-nil (log_packets t x turn.sends))
 
@@ -91,7 +91,7 @@ back_makes u t x old new before after turn (Err (faults.BadRecord n)) k = absurd
 
 pub back_turns : (old new : LogView) (now : BackView) (a b : DiskState) (before after : List (End × List ℕ)) (t : LogState AnyValue → Turn AnyValue) (move : ℕ → Tier → ℕ → Back Amounts → Move (Back Amounts)) (result : Result Answer Fault)
     → back_view old ≡ now → IsBackend old.tier → old.me < 2 * old.faults + 1 → old.faults ≤ 2 → Turns old new a b before after t result → ((log : LogState AnyValue) → IsFew old.faults log (t log))
-    → ((log : LogState AnyValue) → old.part.mode ≡ Up log → move old.faults old.tier old.me (as_back old.faults old.tier log) ≡ in_log old.faults booking_service old.tier old.me (as_back old.faults old.tier log) (t log))
+    → ((log : LogState AnyValue) → old.part.mode ≡ Up log → move old.faults old.tier old.me (as_back old.faults old.tier log) ≡ in_log old.faults (booking_service.backend old.tier) old.tier old.me (as_back old.faults old.tier log) (t log))
     → BackMoves now (back_view new) a b before after (move now.faults now.tier now.me) result
 back_turns old new now a b before after t move result v is l small k few f = subst (λ (z : BackView). BackMoves z (back_view new) a b before after (move z.faults z.tier z.me) result) v (record {
   row = λ log e. at (λ z. Makes (as_back old.faults old.tier) old.part new.part before after z result) log e (back_makes old.faults old.tier old.me old.part new.part before after (t log) result (k.row log e));
@@ -101,7 +101,7 @@ back_turns old new now a b before after t move result v is l small k few f = sub
   few = on_ok result (λ log e. at (λ z. HaveRoom z.sends) log e (log_room old.faults old.tier old.me (t log).sends small (few log).most));
   fits = λ log e. at (λ z. StandIn old.tier (open_at log) z.facts) log e (turn_stands old.faults old.tier log (t log) (few log) (k.range log e));
   opens = λ log e. at (λ z. open_at z.state.log ≡ open_after_all (open_at log) z.facts) log e (written_opens (open_at log) (open_at (t log).state) (t log).facts (few log).written);
-  same = k.same;
+  same = (k.same.0, (k.same.1.0, (refl, k.same.1.1)));
 })
   where
     -- what holds of the turn's move holds of the row
@@ -118,14 +118,14 @@ back_quiet now a out move answer f = record {
   few = λ log e. subst (λ (z : Move (Back Amounts)). HaveRoom z.sends) (sym (f log e)) none_room;
   fits = λ log e. subst (λ (z : Move (Back Amounts)). StandIn now.tier (open_at log) z.facts) (sym (f log e)) (nothing_stands now.tier (open_at log));
   opens = λ log e. subst (λ (z : Move (Back Amounts)). open_at z.state.log ≡ open_after_all (open_at log) z.facts) (sym (f log e)) refl;
-  same = (refl, (refl, refl));
+  same = (refl, (refl, (refl, refl)));
 }
 
 pub frame_log : (u : ℕ) (t : Tier) (x : ℕ) (log : LogState AnyValue) (from : End) (m : PaxMsg AnyValue) (i : ℕ) → is_node_of u t from ≡ true → i ≡ end_index from
-    → on_frame u booking_service t x (as_back u t log) from (msgs.Log m) ≡ in_log u booking_service t x (as_back u t log) (on_msg u log i m)
+    → on_frame u (booking_service.backend t) t x (as_back u t log) from (msgs.Log m) ≡ in_log u (booking_service.backend t) t x (as_back u t log) (on_msg u log i m)
 frame_log u t x log from m i e f =
-    cond-true (is_node_of u t from) (in_log u booking_service t x (as_back u t log) (on_msg u log (end_index from) m)) (drops (as_back u t log) 7) e
-    ∙ ap (λ z. in_log u booking_service t x (as_back u t log) (on_msg u log z m)) (sym f)
+    cond-true (is_node_of u t from) (in_log u (booking_service.backend t) t x (as_back u t log) (on_msg u log (end_index from) m)) (drops (as_back u t log) 7) e
+    ∙ ap (λ z. in_log u (booking_service.backend t) t x (as_back u t log) (on_msg u log z m)) (sym f)
 
 -- OFFERS
 
@@ -134,16 +134,17 @@ floors_low zero y = omega arith
 floors_low (suc n) zero = omega arith
 floors_low (suc n) (suc y) = floors_low n y
 
-greater_low : (a b : ℕ) → a ≤ 1 → b ≤ 1 → greater a b ≤ 1
-greater_low a b l k = cond_both (nat_le a b) b a (λ z. z ≤ 1) (λ e. k) (λ e. l)
+due_low : (u k : ℕ) → due_among u (replicate 5 1) k ≤ 1
+due_low u zero = omega arith
+due_low u (suc k) = cond_both (is_more u (replicate 5 1) (due_among u (replicate 5 1) k) (floor_at (replicate 5 1) k)) (floor_at (replicate 5 1) k)
+    (due_among u (replicate 5 1) k) (λ z. z ≤ 1) (λ e. floors_low 5 k) (λ e. due_low u k)
 
-due_low : (u n k : ℕ) → due_among u (replicate n 1) k ≤ 1
-due_low u n zero = omega arith
-due_low u n (suc k) = greater_low (due_among u (replicate n 1) k) _ (due_low u n k) (cond_both (many_at_least u (replicate n 1) (floor_at (replicate n 1) k)) (floor_at (replicate n 1) k) 0 (λ z. z ≤ 1) (λ e. floors_low n k) (λ e. omega arith))
-
-nothing_own : (u : ℕ) (t : Tier) (log : LogState AnyValue) → own_value u (as_back u t log) ≡ None
-nothing_own u t log = cond-false (nat_lt 1 (due u (replicate (2 * u + 1) 1))) _ None
-    (false_from_ne_true (nat_lt 1 (due u (replicate (2 * u + 1) 1))) (λ e. let l : 1 < due u (replicate (2 * u + 1) 1) = ltb-true 1 (due u (replicate (2 * u + 1) 1)) e in let k : due u (replicate (2 * u + 1) 1) ≤ 1 = due_low u (2 * u + 1) (2 * u + 1) in omega arith))
+nothing_own : (u : ℕ) (t : Tier) (log : LogState AnyValue) → own_value (as_back u t log) ≡ None
+nothing_own u t log = ap settle_value (cond-false (nat_lt 1 (due u (replicate 5 1))) (Some (due u (replicate 5 1))) None
+    (false_from_ne_true (nat_lt 1 (due u (replicate 5 1))) (λ e.
+    let l : 1 < due u (replicate 5 1) = ltb-true 1 (due u (replicate 5 1)) e in
+    let k : due u (replicate 5 1) ≤ 1 = due_low u (2 * u + 1) in
+    omega arith)))
 
 -- no value was reported
 never_taken : (u : ℕ) (t : Tier) (log : LogState AnyValue) (o : Option (Leader AnyValue)) → IsBackend t → (l : Leader AnyValue) → IsLeaderIn (CanStand t) FitsBallot l → is_taken (open_at log) l ≡ false
@@ -170,7 +171,7 @@ wants_other u t log b k = go log.leader k.leader
     go (Some l) n = cond_both (nat_le (promised_by u l) u) _ _ NotTaken (λ e. tt) (λ e. cond_both (open_at log == POSITIONS) _ _ NotTaken (λ e. tt) (λ e. cond_both (is_at l.last (open_at log)) _ _ NotTaken (λ e. tt)
         (λ e. cond_both (is_taken (open_at log) l) Taken (Free (open_at log)) NotTaken (λ e. absurd (let f = never_taken u t log (Some l) b l n in cc)) (λ e. tt))))
 
-offer_idle : (u : ℕ) (t : Tier) (x : ℕ) (log : LogState AnyValue) (w : Offering) (cause : Idle) → offer_cause w ≡ Some cause → offers_as u booking_service t x (as_back u t log) w ≡ idles (as_back u t log) cause
+offer_idle : (u : ℕ) (t : Tier) (x : ℕ) (log : LogState AnyValue) (w : Offering) (cause : Idle) → offer_cause w ≡ Some cause → offers_as u (booking_service.backend t) t x (as_back u t log) w ≡ idles (as_back u t log) cause
 offer_idle u t x log NotLeader cause e = let f : why.NotLeader ≡ cause = cc in ap (λ z. idles (as_back u t log) z) f
 offer_idle u t x log (NoPromises h) cause e = let f : why.NoPromises h ≡ cause = cc in ap (λ z. idles (as_back u t log) z) f
 offer_idle u t x log (InFlight p) cause e = let f : why.InFlight p ≡ cause = cc in ap (λ z. idles (as_back u t log) z) f
@@ -178,23 +179,23 @@ offer_idle u t x log LogFull cause e = let f : why.LogFull ≡ cause = cc in ap 
 offer_idle u t x log Taken cause e = absurd (cc)
 offer_idle u t x log (Free p) cause e = absurd (cc)
 
-offer_none : (u : ℕ) (t : Tier) (x : ℕ) (log : LogState AnyValue) (w : Offering) → NotTaken w → offer_cause w ≡ None → offers_as u booking_service t x (as_back u t log) w ≡ idles (as_back u t log) why.Nothing
+offer_none : (u : ℕ) (t : Tier) (x : ℕ) (log : LogState AnyValue) (w : Offering) → NotTaken w → offer_cause w ≡ None → offers_as u (booking_service.backend t) t x (as_back u t log) w ≡ idles (as_back u t log) why.Nothing
 offer_none u t x log NotLeader n e = absurd (cc)
 offer_none u t x log (NoPromises h) n e = absurd (cc)
 offer_none u t x log (InFlight p) n e = absurd (cc)
 offer_none u t x log LogFull n e = absurd (cc)
 offer_none u t x log Taken n e = absurd n
-offer_none u t x log (Free p) n e = ap (λ o. cond (is_some o) (in_log u booking_service t x (as_back u t log) (offer u x log (own_value u (as_back u t log)))) (idles (as_back u t log) why.Nothing)) (nothing_own u t log)
+offer_none u t x log (Free p) n e = ap (λ o. cond (is_some o) (in_log u (booking_service.backend t) t x (as_back u t log) (offer u x log (own_value (as_back u t log)))) (idles (as_back u t log) why.Nothing)) (nothing_own u t log)
 
 pub offers_idle : (n : LogView) (now : BackView) (a : DiskState) (out : List (End × List ℕ)) (w : Offering) (cause : Idle) → back_view n ≡ now → ((log : LogState AnyValue) → n.part.mode ≡ Up log → w ≡ log_wants n.faults log) → offer_cause w ≡ Some cause
-    → BackMoves now now a a out out (λ σ. offers now.faults booking_service now.tier now.me σ) (Ok (Idles cause))
-offers_idle n now a out w cause v f e = subst (λ (z : BackView). BackMoves z z a a out out (λ σ. offers z.faults booking_service z.tier z.me σ) (Ok (Idles cause))) v
-    (back_quiet (back_view n) a out (λ σ. offers n.faults booking_service n.tier n.me σ) (Idles cause) (λ log m. offer_idle n.faults n.tier n.me log (log_wants n.faults log) cause (ap offer_cause (sym (f log m)) ∙ e)))
+    → BackMoves now now a a out out (λ σ. offers now.faults (booking_service.backend now.tier) now.tier now.me σ) (Ok (Idles cause))
+offers_idle n now a out w cause v f e = subst (λ (z : BackView). BackMoves z z a a out out (λ σ. offers z.faults (booking_service.backend z.tier) z.tier z.me σ) (Ok (Idles cause))) v
+    (back_quiet (back_view n) a out (λ σ. offers n.faults (booking_service.backend n.tier) n.tier n.me σ) (Idles cause) (λ log m. offer_idle n.faults n.tier n.me log (log_wants n.faults log) cause (ap offer_cause (sym (f log m)) ∙ e)))
 
 pub offers_none : (n : LogView) (now : BackView) (a : DiskState) (out : List (End × List ℕ)) (w : Offering) → back_view n ≡ now → IsBackend n.tier → IsRanged n → ((log : LogState AnyValue) → n.part.mode ≡ Up log → w ≡ log_wants n.faults log) → offer_cause w ≡ None
-    → BackMoves now now a a out out (λ σ. offers now.faults booking_service now.tier now.me σ) (Ok (Idles why.Nothing))
-offers_none n now a out w v b range f e = subst (λ (z : BackView). BackMoves z z a a out out (λ σ. offers z.faults booking_service z.tier z.me σ) (Ok (Idles why.Nothing))) v
-    (back_quiet (back_view n) a out (λ σ. offers n.faults booking_service n.tier n.me σ) (Idles why.Nothing) (λ log m. offer_none n.faults n.tier n.me log (log_wants n.faults log) (wants_other n.faults n.tier log b (range log m)) (ap offer_cause (sym (f log m)) ∙ e)))
+    → BackMoves now now a a out out (λ σ. offers now.faults (booking_service.backend now.tier) now.tier now.me σ) (Ok (Idles why.Nothing))
+offers_none n now a out w v b range f e = subst (λ (z : BackView). BackMoves z z a a out out (λ σ. offers z.faults (booking_service.backend z.tier) z.tier z.me σ) (Ok (Idles why.Nothing))) v
+    (back_quiet (back_view n) a out (λ σ. offers n.faults (booking_service.backend n.tier) n.tier n.me σ) (Idles why.Nothing) (λ log m. offer_none n.faults n.tier n.me log (log_wants n.faults log) (wants_other n.faults n.tier log b (range log m)) (ap offer_cause (sym (f log m)) ∙ e)))
 
 -- ASKING AGAIN
 
@@ -212,7 +213,7 @@ retries n now a before after v l few range sent = subst (λ (z : BackView). Back
   few = λ log e. subst (λ (z : Move (Back Amounts)). HaveRoom z.sends) (sym (retry_is n.faults n.tier n.me log)) (asks_room n.faults n.tier n.me (open_at log) few);
   fits = λ log e. subst (λ (z : Move (Back Amounts)). StandIn n.tier (open_at log) z.facts) (sym (retry_is n.faults n.tier n.me log)) (nothing_stands n.tier (open_at log));
   opens = λ log e. subst (λ (z : Move (Back Amounts)). open_at z.state.log ≡ open_after_all (open_at log) z.facts) (sym (retry_is n.faults n.tier n.me log)) refl;
-  same = (refl, (refl, refl));
+  same = (refl, (refl, (refl, refl)));
 })
   where
     fits : (log : LogState AnyValue) → n.part.mode ≡ Up log → AllByRecursion (IsSendIn n.faults (CanStand n.tier) FitsBallot) (asks n.faults n.me (open_at log))
@@ -227,5 +228,5 @@ retries_none now a before after result e = subst (λ z. BackMoves now now a a be
   few = tt;
   fits = λ log m. subst (λ (z : Move (Back Amounts)). StandIn now.tier (open_at log) z.facts) (sym (retry_is now.faults now.tier now.me log)) (nothing_stands now.tier (open_at log));
   opens = λ log m. subst (λ (z : Move (Back Amounts)). open_at z.state.log ≡ open_after_all (open_at log) z.facts) (sym (retry_is now.faults now.tier now.me log)) refl;
-  same = (refl, (refl, refl));
+  same = (refl, (refl, (refl, refl)));
 })

@@ -6,18 +6,19 @@ use Rattle.aeg_base.specs.declared.names.Tier.TheVariants as tiers
 use Rattle.aeg_disk.specs.Disk.{DiskState}
 use Rattle.fact_journal.specs.Standing.{IsAtRest, IsBlank}
 use Rattle.fact_journal.proofs.Standing.{blank_stands}
-use Rattle.log_model.specs.Log.{nobody, open_at}
-use Rattle.log_model.specs.World.{stands}
-use Rattle.log_model.specs.World.Mode.{Down}
+use Rattle.log_model.specs.Log.{nobody}
+use Rattle.log_model.specs.Nodes.{stands}
+use Rattle.log_model.specs.Nodes.Mode.{Down}
 use Rattle.round_model.specs.Lists.{each}
 use Rattle.run_model.specs.World.{start}
 use Rattle.net_script.specs.Clients.{fresh}
+use Rattle.world.specs.declared.nodes.all_nodes.Nodes.{Nodes}
 use Rattle.world.specs.declared.parts.Parts.{Parts}
-use Rattle.world.specs.Disks.{IsDiskOf, AreDisks, AreBlank}
-use Rattle.world.specs.Parts.{new_part, as_mid, as_back}
-use Rattle.world.specs.NodeLists.{new_mid, new_back, AreNew}
+use Rattle.world.specs.Disks.{IsDiskOf, AreDisks, AreBlank, first_of}
+use Rattle.world.specs.Parts.{new_part, shape, open_in}
+use Rattle.world.specs.NodeLists.{new_mid, new_back, AreNew, views}
 use Rattle.world.specs.Watching.{new_watch}
-use Rattle.world.specs.Standing.{open_of_mid, IsNode, IsMid, IsBack, IsClientEnd, AreAll, Shows}
+use Rattle.world.specs.Standing.{state_at, IsNode, IsAt, IsClientEnd, AreAll, Shows}
 use Rattle.world.proofs.Wiping.{none_stand, blank_within}
 use Rattle.log_model.proofs.Basics.{get_push}
 
@@ -39,22 +40,20 @@ all_each {N} {V} n Is nodes f vs e h = record { size = ap length e ∙ each_size
 new_is : {S T : Type 0} (t : Tier) (whole : S → T) (open_of : S → ℕ) → IsNode {S = S} {T = T} t whole open_of (stands Down []) new_part
 new_is t whole open_of = record { mode = refl; placed = λ e. absurd (cc); doubted = refl; within = (blank_within, tt); stand = none_stand t; opened = tt }
 
-new_mid_is : (u depth x : ℕ) → IsMid u depth x (stands Down []) (new_mid u depth x)
-new_mid_is u depth x = record { faults = refl; deep = refl; me = refl; part = new_is tiers.Mid (as_mid depth) open_of_mid }
-
-new_back_is : (u : ℕ) (t : Tier) (x : ℕ) → IsBack u t x (stands Down []) (new_back u t x)
-new_back_is u t x = record { faults = refl; tier = refl; me = refl; part = new_is t (as_back u t) open_at }
+new_nodes : (u depth : ℕ) (nodes : Nodes) → AreNew u depth nodes → (t : Tier) → AreAll (2 * u + 1) (IsAt u depth t) (λ x. stands Down []) (views nodes t)
+new_nodes u depth nodes k tiers.Mid = all_each (2 * u + 1) (IsAt u depth tiers.Mid) (λ x. stands Down []) (new_mid u depth) nodes.mids.items k.mids
+    (λ x. record { faults = refl; tier = refl; deep = refl; me = refl; part = new_is tiers.Mid (state_at u depth tiers.Mid x) (open_in (shape tiers.Mid)) })
+new_nodes u depth nodes k tiers.Inv = all_each (2 * u + 1) (IsAt u depth tiers.Inv) (λ x. stands Down []) (new_back u tiers.Inv) nodes.invs.items k.invs
+    (λ x. record { faults = refl; tier = refl; deep = refl; me = refl; part = new_is tiers.Inv (state_at u depth tiers.Inv x) (open_in (shape tiers.Inv)) })
+new_nodes u depth nodes k tiers.Pay = all_each (2 * u + 1) (IsAt u depth tiers.Pay) (λ x. stands Down []) (new_back u tiers.Pay) nodes.pays.items k.pays
+    (λ x. record { faults = refl; tier = refl; deep = refl; me = refl; part = new_is tiers.Pay (state_at u depth tiers.Pay x) (open_in (shape tiers.Pay)) })
 
 -- nothing was sent, and all nodes are down
 pub begins : (u depth : ℕ) (parts : Parts) → u ≤ 2 → parts.u ≡ u → AreNew u depth parts.nodes → parts.clients.items ≡ each 17 nobody fresh → parts.soup ≡ [] → parts.watch ≡ new_watch u → Shows u depth start parts
 begins u depth parts few size k c s w = record {
   size = size;
   few = few;
-  nodes = record {
-    mids = all_each (2 * u + 1) (IsMid u depth) (λ x. stands Down []) (new_mid u depth) parts.nodes.mids.items k.mids (new_mid_is u depth);
-    invs = all_each (2 * u + 1) (IsBack u tiers.Inv) (λ x. stands Down []) (new_back u tiers.Inv) parts.nodes.invs.items k.invs (new_back_is u tiers.Inv);
-    pays = all_each (2 * u + 1) (IsBack u tiers.Pay) (λ x. stands Down []) (new_back u tiers.Pay) parts.nodes.pays.items k.pays (new_back_is u tiers.Pay);
-  };
+  nodes = record { at = new_nodes u depth parts.nodes k };
   clients = all_each 17 IsClientEnd (λ x. record { last = 0; opened = None }) fresh parts.clients.items c (λ y. record { is = refl; asks = refl });
   soup = s;
   within = omega (arith, ap length s);
@@ -69,9 +68,4 @@ blank_disk : {S : Type 0} (disk : DiskState) → IsBlank disk × IsAtRest disk �
 blank_disk disk k = record { rest = k.1; lists = blank_stands disk k.0; ready = tt }
 
 pub blank_disks : (disks : List DiskState) → AreBlank disks → AreDisks start disks
-blank_disks disks k = record {
-  all = k.0;
-  mids = λ x b l e. blank_disk b (k.1 (0 + x) b e);
-  invs = λ x b l e. blank_disk b (k.1 (5 + x) b e);
-  pays = λ x b l e. blank_disk b (k.1 (10 + x) b e);
-}
+blank_disks disks k = record { all = k.0; at = λ t x b l e. blank_disk b (k.1 (first_of t + x) b e) }

@@ -10,36 +10,33 @@ use Rattle.aeg_base.specs.declared.names.Tier.TheVariants as tiers
 use Rattle.aeg_base.specs.declared.names.NodeId.{NodeId}
 use Rattle.aeg_base.specs.declared.names.End.{End}
 use Rattle.aeg_disk.specs.Disk.{DiskState}
-use Rattle.server_model.specs.Backends.{Amounts}
 use Rattle.fact_journal.proofs.Standing.{same_facts}
-use Rattle.log_model.specs.World.{Node as NodeOf}
+use Rattle.log_model.specs.Nodes.{Node as NodeOf}
 use Rattle.log_values.specs.declared.fact.Fact.{Fact}
 use Rattle.frames.specs.declared.turn.Turn.{Turn as Answer}
 use Rattle.frames.specs.declared.turn.Fault.{Fault}
-use Rattle.tier_model.specs.Moves.{Move}
-use Rattle.tier_model.specs.Mid.{Mid}
-use Rattle.tier_model.specs.Back.{Back}
 use Rattle.run_model.specs.BookingRuns.{BookingWorld}
 use Rattle.world.specs.declared.nodes.all_nodes.Nodes.{Nodes}
 use Rattle.world.specs.declared.parts.arming.StopAt.{StopAt}
 use Rattle.world.specs.Arming.{armed_with, at_rest}
 use Rattle.world.specs.Calling.{Called, IsSureIf}
 use Rattle.world.specs.Disks.{IsDiskOf, AreDisks, first_of}
-use Rattle.world.specs.Parts.{NodePart, MidView, BackView, MayWrite, is_up}
-use Rattle.world.specs.NodeLists.{mid_up, back_up, up_in, size_of, MidsMove, BacksMove, MoveIn, NodesMove, MayWriteIn}
+use Rattle.world.specs.Parts.{NodePart, MayWrite, is_up}
+use Rattle.world.specs.NodeLists.{views, view_up, up_in, size_of, RowOf, MoveIn, NodesMove, MayWriteIn}
 use Rattle.world.specs.Standing.{IsNode, AreNodes}
+use Rattle.world.proofs.Tiers.{up_is, may_write_in}
 use Rattle.world.proofs.Moving.{up_has, armed_content}
 use Rattle.world.proofs.Doing.{up_state}
 use Rattle.log_model.proofs.Basics.{get_within}
 
 -- the disk was armed first, and then the power was put back
-pub called_by : (old between new : Nodes) (n : NodeId) (stop : Option StopAt) (disk armed called disk_after : DiskState) (before after : List (End × List ℕ)) (mid : MidView → Mid → Move Mid) (back : BackView → Back Amounts → Move (Back Amounts)) (answer : Result Answer Fault) (met : Bool)
-    → armed ≡ armed_with stop disk → NodesMove old between n armed called before after mid back answer → met ≡ called.stopped → disk_after ≡ at_rest called → IsSureIf met between new n.tier n.index
-    → Called old new n.tier n.index stop disk disk_after before after mid back answer met
-called_by old between new n stop disk armed called disk_after before after mid back answer met a m e r s = record {
+pub called_by : (old between new : Nodes) (n : NodeId) (stop : Option StopAt) (disk armed called disk_after : DiskState) (before after : List (End × List ℕ)) (row : RowOf) (answer : Result Answer Fault) (met : Bool)
+    → armed ≡ armed_with stop disk → NodesMove old between n armed called before after row answer → met ≡ called.stopped → disk_after ≡ at_rest called → IsSureIf met between new n.tier n.index
+    → Called old new n.tier n.index stop disk disk_after before after row answer met
+called_by old between new n stop disk armed called disk_after before after row answer met a m e r s = record {
   between = between;
   called = called;
-  moves = subst (λ z. MoveIn old between n.tier n.index z called before after mid back answer) a m;
+  moves = subst (λ z. MoveIn old between n.tier n.index z called before after row answer) a m;
   stopped = e;
   rests = r;
   sure = s;
@@ -71,10 +68,13 @@ may_write t whole open_of node part disk stop k d e tells =
     let s = up_state part e in
     (node.records, same_facts node.records disk (armed_with stop disk) part.place (up_has t whole open_of node part disk s.0 k d s.1) (armed_content stop disk).0)
 
-pub may_write_at : (u depth : ℕ) (w : BookingWorld) (nodes : Nodes) (t : Tier) (x : ℕ) (disks : List DiskState) (disk : DiskState) (stop : Option StopAt) → u ≤ 2 → AreNodes u depth w nodes → AreDisks w disks → x < 2 * u + 1 → slice_get disks (first_of t + x) ≡ Some disk → up_in nodes t x ≡ true → MayWriteIn nodes t x (armed_with stop disk)
-may_write_at u depth w nodes tiers.Mid x disks disk stop few k d l e up = λ m f. may_write _ _ _ (w.mids x) m.part disk stop (k.mids.each x m f).part (d.mids x disk (omega (arith, few, l)) e) (sym (ap mid_up f) ∙ up)
-may_write_at u depth w nodes tiers.Inv x disks disk stop few k d l e up = λ m f. may_write _ _ _ (w.backs tiers.Inv x) m.part disk stop (k.invs.each x m f).part (d.invs x disk (omega (arith, few, l)) e) (sym (ap back_up f) ∙ up)
-may_write_at u depth w nodes tiers.Pay x disks disk stop few k d l e up = λ m f. may_write _ _ _ (w.backs tiers.Pay x) m.part disk stop (k.pays.each x m f).part (d.pays x disk (omega (arith, few, l)) e) (sym (ap back_up f) ∙ up)
+pub may_write_at : (u depth : ℕ) (w : BookingWorld) (nodes : Nodes) (t : Tier) (x : ℕ) (disks : List DiskState) (disk : DiskState) (stop : Option StopAt)
+    → u ≤ 2 → AreNodes u depth w nodes → AreDisks w disks → x < 2 * u + 1 → slice_get disks (first_of t + x) ≡ Some disk → up_in nodes t x ≡ true
+    → MayWriteIn nodes t x (armed_with stop disk)
+may_write_at u depth w nodes t x disks disk stop few k d l e up =
+    let on = d.at t x disk (omega (arith, few, l)) e in
+    may_write_in nodes t x (armed_with stop disk) (λ v f. may_write _ _ _ (w.nodes t x) v.part disk stop ((k.at t).each x v f).part on
+    (sym (ap view_up f) ∙ sym (up_is nodes t x) ∙ up))
 
 -- a disk for each node
 pub disk_of : (w : BookingWorld) (u x : ℕ) (t : Tier) (disks : List DiskState) → u ≤ 2 → AreDisks w disks → x < 2 * u + 1 → (disk : DiskState) × (slice_get disks (first_of t + x) ≡ Some disk)
@@ -88,19 +88,15 @@ a_disk = record { tells = false; bytes = []; kept = []; ranges = []; past = []; 
 
 -- THE NODE STAYS ONE OF ITS TIER
 
-mids_have : (old new : List MidView) (x : ℕ) (a b : DiskState) (before after : List (End × List ℕ)) (move : MidView → Mid → Move Mid) (result : Result Answer Fault) → mid_up (slice_get old x) ≡ true → MidsMove old new x a b before after move result → x < length new
-mids_have old new x a b before after move result up k =
-    let m = passes mid_up (slice_get old x) refl up in
-    let r = k m.0 m.1 in
-    omega (arith, slice_get_within old x m.0 m.1, ap length r.1, length-set old x r.0)
-
-backs_have : (old new : List BackView) (x : ℕ) (a b : DiskState) (before after : List (End × List ℕ)) (move : BackView → Back Amounts → Move (Back Amounts)) (result : Result Answer Fault) → back_up (slice_get old x) ≡ true → BacksMove old new x a b before after move result → x < length new
-backs_have old new x a b before after move result up k =
-    let m = passes back_up (slice_get old x) refl up in
-    let r = k m.0 m.1 in
-    omega (arith, slice_get_within old x m.0 m.1, ap length r.1, length-set old x r.0)
-
-pub move_has : (old new : Nodes) (t : Tier) (x : ℕ) (a b : DiskState) (before after : List (End × List ℕ)) (mid : MidView → Mid → Move Mid) (back : BackView → Back Amounts → Move (Back Amounts)) (result : Result Answer Fault) → up_in old t x ≡ true → MoveIn old new t x a b before after mid back result → x < size_of new t
-move_has old new tiers.Mid x a b before after mid back result up k = mids_have old.mids.items new.mids.items x a b before after mid result up k.0
-move_has old new tiers.Inv x a b before after mid back result up k = backs_have old.invs.items new.invs.items x a b before after back result up k.0
-move_has old new tiers.Pay x a b before after mid back result up k = backs_have old.pays.items new.pays.items x a b before after back result up k.0
+pub move_has : (old new : Nodes) (t : Tier) (x : ℕ) (a b : DiskState) (before after : List (End × List ℕ)) (row : RowOf) (result : Result Answer Fault)
+    → up_in old t x ≡ true → MoveIn old new t x a b before after row result → x < size_of new t
+move_has old new t x a b before after row result up k =
+    let v = passes view_up (slice_get (views old t) x) refl (sym (up_is old t x) ∙ up) in
+    let r = k.0 v.0 v.1 in
+    let n : length (views new t) ≡ length (views old t) = ap length r.1 ∙ length-set (views old t) x r.0 in
+    subst (λ z. x < z) (size_is new t) (omega (arith, slice_get_within (views old t) x v.0 v.1, n))
+  where
+    size_is : (nodes : Nodes) (t : Tier) → length (views nodes t) ≡ size_of nodes t
+    size_is nodes tiers.Mid = refl
+    size_is nodes tiers.Inv = refl
+    size_is nodes tiers.Pay = refl

@@ -11,16 +11,16 @@ use Rattle.fact_journal.specs.Fitting.{all_facts, open_after_all}
 use Rattle.fact_journal.specs.Calls.{length_with, is_past, old_or_new, IsCut}
 use Rattle.fact_journal.proofs.Standing.{having_stands, same_stands, same_facts}
 use Rattle.node_journal.specs.Append.{is_kept}
-use Rattle.log_model.specs.World.{Node as NodeOf, Device, recorded, stands, failed, writes, is_fine}
-use Rattle.log_model.specs.World.Mode.{Up, Down}
-use Rattle.log_model.specs.World.Device.{CutKeep, CutDrop, Fault as WasFault}
+use Rattle.log_model.specs.Nodes.{Node as NodeOf, Device, recorded, stands, or_written, failed, writes, is_well}
+use Rattle.log_model.specs.Nodes.Mode.{Up, Down}
+use Rattle.log_model.specs.Nodes.Device.{CutKeep, CutDrop, Fault as WasFault}
 use Rattle.log_values.specs.declared.fact.Fact.{Fact}
 use Rattle.frames.specs.declared.turn.Turn.{Turn as Answer}
 use Rattle.frames.specs.declared.turn.Fault.{Fault as NodeFault}
 use Rattle.frames.specs.declared.turn.Fault.TheVariants as faults
 use Rattle.tier_model.specs.Moves.{Move}
 use Rattle.run_model.specs.declared.trace.Fared.TheVariants.{Fine, Cut, Fault}
-use Rattle.run_model.specs.World.{device_of, fate, unwritten, is_well, moved, sent}
+use Rattle.run_model.specs.World.{device_of, fate, unwritten}
 use Rattle.run_model.specs.BookingRuns.{config}
 use Rattle.world.specs.declared.parts.arming.StopAt.{StopAt}
 use Rattle.world.specs.Arming.{asked_of, armed_with, fared_by, at_rest}
@@ -28,7 +28,7 @@ use Rattle.world.specs.Disks.{IsDiskOf}
 use Rattle.world.specs.Parts.{NodePart, StandIn, AllStand, AllReach, AreFit, sealed}
 use Rattle.world.specs.Standing.{mode_by, journal_of, IsPlaced, IsDoubted, AllWithin, IsOpen, IsNode}
 use Rattle.world.specs.Telling.{HadMemory}
-use Rattle.world.proofs.Moving.{journal-with, open_with, more_within, past_writes, written_all, stand_more, stand_both, stand_cut, armed_content, rest_content, armed_stopped, armed_faults, armed_later, up_placed, sure_alone, up_open, up_has, up_stand, fate_is, fate_full, ill_by, moved_well, moved_ill, sent_well, sent_ill, no_fit, no_reach, sure_if, Came, Call, asked_can, no_cause, asked_well, unmet}
+use Rattle.world.proofs.Moving.{journal-with, open_with, more_within, past_writes, written_all, stand_more, stand_both, stand_cut, armed_content, rest_content, armed_stopped, armed_faults, armed_later, up_placed, sure_alone, up_open, up_has, up_stand, fate_is, fate_full, is_ok, ill_by, moved_by, moved_well, moved_ill, sent_by, sent_well, sent_ill, no_fit, no_reach, sure_if, Came, Call, asked_can, no_cause, asked_well, unmet}
 
 -- the node's own facts fit behind its records
 in_place : {S T : Type 0} (t : Tier) (whole : S → T) (open_of : S → ℕ) (node : NodeOf T Fact) (part : NodePart S) (s : S) (facts : List Fact) → IsNode t whole open_of node part → part.mode ≡ Up s → StandIn t (open_of s) facts → StandIn t (open_after_all 0 (all_facts node.records)) facts
@@ -67,10 +67,10 @@ came_ok {S} {T} t whole open_of u depth node part new disk called stop s v after
     well : is_well (fate (config u depth) (asked_of stop) node.records v.facts) v.facts ≡ true
     well = asked_well u depth stop disk node.records v.facts k.stops past k.wrote.1
 
-    is_up : moved node (fate (config u depth) (asked_of stop) node.records v.facts) v ≡ stands (Up v.state) recs
+    is_up : moved_by node (fate (config u depth) (asked_of stop) node.records v.facts) v ≡ stands (Up v.state) recs
     is_up = moved_well node (fate (config u depth) (asked_of stop) node.records v.facts) v well
 
-    all : sent (fate (config u depth) (asked_of stop) node.records v.facts) v ≡ v.sends
+    all : sent_by (fate (config u depth) (asked_of stop) node.records v.facts) v ≡ v.sends
     all = sent_well (fate (config u depth) (asked_of stop) node.records v.facts) v well
 
     sure : new.doubt ≡ false
@@ -154,10 +154,10 @@ came_full {S} {T} t whole open_of u depth size node part new disk called stop s 
     ill : is_well dev v.facts ≡ false
     ill = ill_by dev CutDrop v.facts (past_writes (journal_of node.records) v.facts past) lost refl
 
-    is_down : moved node dev v ≡ stands Down node.records
+    is_down : moved_by node dev v ≡ stands Down node.records
     is_down = moved_ill node dev v ill ∙ ap (failed node v.facts) lost
 
-    none : sent dev v ≡ []
+    none : sent_by dev v ≡ []
     none = sent_ill dev v ill
 
     sure : new.doubt ≡ false
@@ -200,8 +200,8 @@ cut_failed {T} node facts nth keep = subst (λ b. failed node facts (device_of (
     by true = refl
     by false = refl
 
-cut_ill : (nth : ℕ) (keep : Bool) → is_fine (device_of (Cut nth keep)) ≡ false
-cut_ill nth keep = cond_both (keep && nat_le 3 nth) CutKeep CutDrop (λ d. is_fine d ≡ false) (λ e. refl) (λ e. refl)
+cut_ill : (nth : ℕ) (keep : Bool) → is_ok (device_of (Cut nth keep)) ≡ false
+cut_ill nth keep = cond_both (keep && nat_le 3 nth) CutKeep CutDrop (λ d. is_ok d ≡ false) (λ e. refl) (λ e. refl)
 
 cut_within : (records : List (List Fact)) (facts : List Fact) (kept : Bool) → journal_of records ≤ JOURNAL_BYTES → is_past (journal_of records) facts ≡ false → journal_of (cond kept (recorded records facts) records) ≤ JOURNAL_BYTES
 cut_within records facts true l e = more_within records facts l e
@@ -245,10 +245,10 @@ came_cut {S} {T} t whole open_of u depth node part new disk called (Some at) s v
     left : List (List Fact)
     left = cond (is_kept at.nth at.keep) (recorded node.records v.facts) node.records
 
-    is_down : moved node dev v ≡ stands Down left
+    is_down : moved_by node dev v ≡ stands Down left
     is_down = moved_ill node dev v ill ∙ ap (failed node v.facts) is_cut ∙ cut_failed node v.facts at.nth at.keep
 
-    none : sent dev v ≡ []
+    none : sent_by dev v ≡ []
     none = sent_ill dev v ill
 
     is : IsNode t whole open_of (stands Down left) (sure_if true new)
@@ -256,6 +256,10 @@ came_cut {S} {T} t whole open_of u depth node part new disk called (Some at) s v
         (stand_cut t node.records v.facts (is_kept at.nth at.keep) (up_stand t whole open_of node part k.is) (in_place t whole open_of node part s v.facts k.is k.up k.fits))
 
 -- THE DISK FAILED
+
+or_is : (records : List (List Fact)) (facts : List Fact) → writes facts ≡ true → or_written records facts ≡ recorded records facts ∷ []
+or_is records [] e = absurd (cc)
+or_is records (f ∷ fs) e = refl
 
 came_fault : {S T : Type 0} (t : Tier) (whole : S → T) (open_of : S → ℕ) (u depth : ℕ) (node : NodeOf T Fact) (part new : NodePart S) (disk called : DiskState) (stop : Option StopAt) (s : S) (v : Move T) (after : List (End × List ℕ)) → called.stopped ≡ false
     → Call t whole open_of u node part new disk called stop s v after (Err faults.Disk)
@@ -292,10 +296,11 @@ came_fault {S} {T} t whole open_of u depth node part new disk called stop s v af
     ill : is_well dev v.facts ≡ false
     ill = ill_by dev WasFault v.facts k.wrote.0 is_fault refl
 
-    is_down : moved node dev v ≡ record { mode = Down; records = node.records; others = recorded node.records v.facts ∷ [] }
+    is_down : moved_by node dev v ≡ record { mode = Down; records = node.records; others = recorded node.records v.facts ∷ [] }
     is_down = moved_ill node dev v ill ∙ ap (failed node v.facts) is_fault
+        ∙ ap (λ z. record { mode = Down; records = node.records; others = z }) (or_is node.records v.facts k.wrote.0)
 
-    none : sent dev v ≡ []
+    none : sent_by dev v ≡ []
     none = sent_ill dev v ill
 
     place : new.place + 1 ≡ journal_of node.records

@@ -1,9 +1,7 @@
 -- The events that commands are.
-use Rattle.std.proofs.Common.{◌≡◌, ℕ, true, List, refl, subst, Some}
+use Rattle.std.proofs.Common.{◌≡◌, ℕ, true, List, refl, Some}
 use Rattle.aeg_base.specs.declared.names.End.{End}
 use Rattle.aeg_base.specs.declared.names.NodeId.{NodeId}
-use Rattle.aeg_base.specs.declared.names.Tier.{Tier}
-use Rattle.aeg_base.specs.declared.names.Tier.TheVariants.{Mid as MidTier, Inv, Pay}
 use Rattle.aeg_disk.specs.Disk.{DiskState}
 use Rattle.run_model.specs.declared.trace.Fared.{Fared}
 use Rattle.run_model.specs.declared.trace.TraceEvent.TheVariants as events
@@ -41,17 +39,11 @@ becomes_by Offer n asked fared h = fares_is (λ f. events.Offer n f) asked fared
 
 -- WHAT HAPPENS
 
-leads_are : (u depth : ℕ) (w : BookingWorld) (fared : Fared) (n : NodeId) (t : Tier) → ◌≡◌ {A = BookingWorld × List ℕ} (world_by u depth w Lead fared n t, text_by u depth w Lead fared n t) (worlds.leads (config u depth) w fared t n.index, texts.leads_text (config u depth) w fared n t)
-leads_are u depth w fared n MidTier = refl
-leads_are u depth w fared n Inv = refl
-leads_are u depth w fared n Pay = refl
-
-offers_are : (u depth : ℕ) (w : BookingWorld) (fared : Fared) (n : NodeId) (t : Tier) → ◌≡◌ {A = BookingWorld × List ℕ} (world_by u depth w Offer fared n t, text_by u depth w Offer fared n t) (worlds.offers (config u depth) w fared t n.index, texts.offers_text (config u depth) w fared n t)
-offers_are u depth w fared n MidTier = refl
-offers_are u depth w fared n Inv = refl
-offers_are u depth w fared n Pay = refl
-
 pub happens_by : (u depth : ℕ) (w : BookingWorld) (n : NodeId) (command : Command) (fared : Fared) (nodes : Nodes) (disks : List DiskState) (after : List (End × List ℕ)) (told : List ℕ) → can_fare fared ≡ true → Commanded u depth w (world_by u depth w command fared n n.tier) nodes disks after (text_by u depth w command fared n n.tier) told
     → Commanded u depth w (happens (config u depth) w (event_of command n fared)) nodes disks after (texts.own_text (config u depth) w (event_of command n fared)) told
-happens_by u depth w n Lead fared nodes disks after told can k = if_can u depth w (worlds.leads (config u depth) w fared n.tier n.index) nodes disks after fared (texts.leads_text (config u depth) w fared n n.tier) told can (subst (λ (z : BookingWorld × List ℕ). Commanded u depth w z.0 nodes disks after z.1 told) (leads_are u depth w fared n n.tier) k)
-happens_by u depth w n Offer fared nodes disks after told can k = if_can u depth w (worlds.offers (config u depth) w fared n.tier n.index) nodes disks after fared (texts.offers_text (config u depth) w fared n n.tier) told can (subst (λ (z : BookingWorld × List ℕ). Commanded u depth w z.0 nodes disks after z.1 told) (offers_are u depth w fared n n.tier) k)
+happens_by u depth w n Lead fared nodes disks after told can k =
+    if_can u depth w (worlds.leads (config u depth) w fared n.tier n.index) nodes disks after fared (texts.leads_text (config u depth) w fared n n.tier) told
+    can k
+happens_by u depth w n Offer fared nodes disks after told can k =
+    if_can u depth w (worlds.offers (config u depth) w fared n.tier n.index) nodes disks after fared (texts.offers_text (config u depth) w fared n n.tier) told
+    can k

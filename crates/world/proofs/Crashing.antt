@@ -1,36 +1,31 @@
 -- A node crashes: all but its disk is lost.
 use Rattle.std.proofs.Common.{◌≡◌, ℕ, ◌+◌, ◌*◌, ◌<◌, ◌≤◌, true, false, List, [], ◌∷◌, refl, sym, ap, ◌∙◌, subst, arith}
-use Rattle.svc_api.specs.Plan.{IsBackend}
 use Rattle.aeg_base.specs.declared.names.Tier.{Tier}
-use Rattle.aeg_base.specs.declared.names.Tier.TheVariants.{Mid as MidTier, Inv, Pay}
 use Rattle.aeg_base.specs.declared.names.NodeId.{NodeId}
 use Rattle.aeg_disk.specs.Disk.{DiskState}
 use Rattle.fact_journal.specs.Standing.{StandsFor}
-use Rattle.log_model.specs.Log.{open_at}
-use Rattle.log_model.specs.World.{Mode, Node as NodeOf, stands}
-use Rattle.log_model.specs.World.Mode.{Up, Down, Gone}
+use Rattle.log_model.specs.Nodes.{Mode, Node as NodeOf, stands, crashed}
+use Rattle.log_model.specs.Nodes.Mode.{Up, Down, Gone}
 use Rattle.log_values.specs.declared.fact.Fact.{Fact}
 use Rattle.run_model.specs.World as worlds
-use Rattle.run_model.specs.World.{crashed}
 use Rattle.run_model.specs.Resolving as resolving
 use Rattle.run_model.specs.Text as texts
 use Rattle.run_model.specs.BookingRuns.{config, BookingWorld}
 use Rattle.world.specs.declared.nodes.all_nodes.Nodes.{Nodes}
 use Rattle.world.specs.Calling.{absent_text}
 use Rattle.world.specs.Disks.{IsDiskOf, AreDisks, first_of}
-use Rattle.world.specs.Parts.{NodePart, as_mid, as_back, goes_down}
-use Rattle.world.specs.NodeLists.{backs_of, ChangedIn, condition_in, condition_at, mid_up, back_up, up_in}
-use Rattle.world.specs.Standing.{mode_by, IsDoubted, IsNode, IsMid, IsBack, AreNodes, open_of_mid}
+use Rattle.world.specs.Parts.{NodePart, goes_down, view_with, shape, open_in}
+use Rattle.world.specs.NodeLists.{ChangedIn, condition_in, condition_at, view_up, up_in}
+use Rattle.world.specs.Standing.{mode_by, state_at, IsDoubted, IsNode, IsAt, AreNodes}
+use Rattle.world.proofs.Tiers.{changed, up_is}
 use Rattle.world.proofs.Moving.{up_placed, sure_alone, up_stand}
 use Rattle.world.proofs.Coming.{down_node}
 use Rattle.world.proofs.Doing.{up_state}
-use Rattle.world.proofs.Backends.{backs_all, backs_disks, backs_up, backs_change}
 use Rattle.world.proofs.Calling.{disk_of}
 use Rattle.world.proofs.Commands.{Commanded}
 use Rattle.world.proofs.AtNodes.{set_same}
-use Rattle.world.proofs.Placing.{mid_placed, back_placed, mid_kept, back_kept}
-use Rattle.world.proofs.Present.{node_up, node_condition}
-use Rattle.log_model.proofs.Basics.{get_within}
+use Rattle.world.proofs.Placing.{node_placed, node_kept}
+use Rattle.world.proofs.Present.{node_at, node_up, node_condition}
 
 -- A NODE THAT IS UP
 
@@ -45,35 +40,23 @@ crashed_is {S} {T} t whole open_of node part disk s k d e =
       up,
     )
 
-back_crash : (u depth : ℕ) (w : BookingWorld) (old new : Nodes) (n : NodeId) (disks : List DiskState) (t : Tier) → IsBackend t → u ≤ 2 → AreNodes u depth w old → AreDisks w disks → n.index < 2 * u + 1 → up_in old t n.index ≡ true → ChangedIn old new t n.index (λ S. goes_down {S = S})
-    → Commanded u depth w (worlds.back_node (config u depth) w t n.index (crashed (w.backs t n.index) (w.backs t n.index).mode)) new disks [] (texts.crash_text (texts.node_name n) (w.backs t n.index).mode) []
-back_crash u depth w old new n disks t back few k d l c h =
+pub crash_by : (u depth : ℕ) (w : BookingWorld) (old new : Nodes) (n : NodeId) (disks : List DiskState) (t : Tier) → u ≤ 2 → AreNodes u depth w old
+    → AreDisks w disks → n.index < 2 * u + 1 → up_in old t n.index ≡ true → ChangedIn old new t n.index (λ S. goes_down {S = S})
+    → Commanded u depth w (worlds.crashes (config u depth) w t n.index) new disks [] (texts.crash_text (texts.node_name n) (w.nodes t n.index).mode) []
+crash_by u depth w old new n disks t few k d l c h =
     let x = n.index in
-    let all = backs_all u depth w old t back k in
-    let change = backs_change t old new x (λ S. goes_down {S = S}) back h in
-    let m = get_within (backs_of old t) x (omega (arith, all.size, l)) in
+    let change = changed t old new x (λ S. goes_down {S = S}) h in
+    let m = node_at u depth w old t x k l in
     let b = disk_of w u x t disks few d l in
-    let i = all.each x m.0 m.1 in
-    let s = up_state m.0.part (sym (ap back_up m.1) ∙ sym (backs_up old t x back) ∙ c) in
-    let r = crashed_is t (as_back u t) open_at (w.backs t x) m.0.part b.0 s.0 i.part (backs_disks w disks t back d x b.0 (omega (arith, few, l)) b.1) s.1 in
-    let to : IsBack u t x (crashed (w.backs t x) (w.backs t x).mode) (record { faults = m.0.faults; tier = m.0.tier; me = m.0.me; part = goes_down m.0.part }) = record { faults = i.faults; tier = i.tier; me = i.me; part = r.0 } in
-    subst (λ z. Commanded u depth w (worlds.back_node (config u depth) w t x (crashed (w.backs t x) (w.backs t x).mode)) new z [] (texts.crash_text (texts.node_name n) (w.backs t x).mode) []) (sym (set_same disks (first_of t + x) b.0 b.1))
-    (back_placed u depth w old new t x disks b.0 (crashed (w.backs t x) (w.backs t x).mode) _ _ [] back few l k d to r.1 (change.0 m.0 m.1) change.1 (ap (texts.crash_text (texts.node_name n)) r.2))
-
-pub crash_by : (u depth : ℕ) (w : BookingWorld) (old new : Nodes) (n : NodeId) (disks : List DiskState) (t : Tier) → u ≤ 2 → AreNodes u depth w old → AreDisks w disks → n.index < 2 * u + 1 → up_in old t n.index ≡ true → ChangedIn old new t n.index (λ S. goes_down {S = S})
-    → Commanded u depth w (worlds.crashes (config u depth) w t n.index) new disks [] (texts.by_mode w (λ S. texts.crash_text {S = S} (texts.node_name n)) t n.index) []
-crash_by u depth w old new n disks MidTier few k d l c h =
-    let x = n.index in
-    let m = get_within old.mids.items x (omega (arith, k.mids.size, l)) in
-    let b = get_within disks (0 + x) (omega (arith, d.all, few, l)) in
-    let i = k.mids.each x m.0 m.1 in
-    let s = up_state m.0.part (sym (ap mid_up m.1) ∙ c) in
-    let r = crashed_is MidTier (as_mid depth) open_of_mid (w.mids x) m.0.part b.0 s.0 i.part (d.mids x b.0 (omega (arith, few, l)) b.1) s.1 in
-    let to : IsMid u depth x (crashed (w.mids x) (w.mids x).mode) (record { faults = m.0.faults; depth = m.0.depth; me = m.0.me; part = goes_down m.0.part }) = record { faults = i.faults; deep = i.deep; me = i.me; part = r.0 } in
-    subst (λ z. Commanded u depth w (worlds.crashes (config u depth) w MidTier x) new z [] (texts.crash_text (texts.node_name n) (w.mids x).mode) []) (sym (set_same disks (first_of MidTier + x) b.0 b.1))
-    (mid_placed u depth w old new x disks b.0 (crashed (w.mids x) (w.mids x).mode) _ _ [] few l k d to r.1 (h.0 m.0 m.1) h.1 (ap (texts.crash_text (texts.node_name n)) r.2))
-crash_by u depth w old new n disks Inv few k d l c h = back_crash u depth w old new n disks Inv tt few k d l c h
-crash_by u depth w old new n disks Pay few k d l c h = back_crash u depth w old new n disks Pay tt few k d l c h
+    let i = m.2 in
+    let s = up_state m.0.part (sym (ap view_up m.1) ∙ sym (up_is old t x) ∙ c) in
+    let r = crashed_is t (state_at u depth t x) (open_in (shape t)) (w.nodes t x) m.0.part b.0 s.0 i.part (d.at t x b.0 (omega (arith, few, l)) b.1) s.1 in
+    let to : IsAt u depth t x (crashed (w.nodes t x) (w.nodes t x).mode) (view_with goes_down m.0) =
+    record { faults = i.faults; tier = i.tier; deep = i.deep; me = i.me; part = r.0 } in
+    subst (λ z. Commanded u depth w (worlds.crashes (config u depth) w t x) new z [] (texts.crash_text (texts.node_name n) (w.nodes t x).mode) [])
+    (sym (set_same disks (first_of t + x) b.0 b.1))
+    (node_placed u depth w old new t x disks b.0 (crashed (w.nodes t x) (w.nodes t x).mode) (view_with goes_down m.0) _ [] few l k d to r.1 (change.0 m.0 m.1)
+    change.1 (ap (texts.crash_text (texts.node_name n)) r.2))
 
 -- A NODE THAT ISN'T UP
 
@@ -87,14 +70,11 @@ crash_told n (Up s) = refl
 crash_told n Down = refl
 crash_told n Gone = refl
 
-pub crash_rests : (u depth : ℕ) (w : BookingWorld) (old : Nodes) (n : NodeId) (disks : List DiskState) (t : Tier) → u ≤ 2 → AreNodes u depth w old → AreDisks w disks → n.index < 2 * u + 1 → up_in old t n.index ≡ false
-    → Commanded u depth w (worlds.crashes (config u depth) w t n.index) old disks [] (texts.by_mode w (λ S. texts.crash_text {S = S} (texts.node_name n)) t n.index) (absent_text n (condition_at old t n.index))
-crash_rests u depth w old n disks MidTier few k d l e =
-    mid_kept u depth w old n.index disks (crashed (w.mids n.index) (w.mids n.index).mode) _ (absent_text n (condition_at old MidTier n.index)) few l k d (crashed_same (w.mids n.index) (w.mids n.index).mode (sym (node_up u depth w old MidTier n.index k l) ∙ e))
-    (crash_told n (w.mids n.index).mode ∙ ap (absent_text n) (sym (node_condition u depth w old MidTier n.index k l)))
-crash_rests u depth w old n disks Inv few k d l e =
-    back_kept u depth w old Inv n.index disks (crashed (w.backs Inv n.index) (w.backs Inv n.index).mode) _ (absent_text n (condition_at old Inv n.index)) tt few l k d (crashed_same (w.backs Inv n.index) (w.backs Inv n.index).mode (sym (node_up u depth w old Inv n.index k l) ∙ e))
-    (crash_told n (w.backs Inv n.index).mode ∙ ap (absent_text n) (sym (node_condition u depth w old Inv n.index k l)))
-crash_rests u depth w old n disks Pay few k d l e =
-    back_kept u depth w old Pay n.index disks (crashed (w.backs Pay n.index) (w.backs Pay n.index).mode) _ (absent_text n (condition_at old Pay n.index)) tt few l k d (crashed_same (w.backs Pay n.index) (w.backs Pay n.index).mode (sym (node_up u depth w old Pay n.index k l) ∙ e))
-    (crash_told n (w.backs Pay n.index).mode ∙ ap (absent_text n) (sym (node_condition u depth w old Pay n.index k l)))
+pub crash_rests : (u depth : ℕ) (w : BookingWorld) (old : Nodes) (n : NodeId) (disks : List DiskState) (t : Tier) → u ≤ 2 → AreNodes u depth w old
+    → AreDisks w disks → n.index < 2 * u + 1 → up_in old t n.index ≡ false
+    → Commanded u depth w (worlds.crashes (config u depth) w t n.index) old disks [] (texts.crash_text (texts.node_name n) (w.nodes t n.index).mode)
+    (absent_text n (condition_at old t n.index))
+crash_rests u depth w old n disks t few k d l e =
+    node_kept u depth w old t n.index disks (crashed (w.nodes t n.index) (w.nodes t n.index).mode) _ (absent_text n (condition_at old t n.index)) few l k d
+    (crashed_same (w.nodes t n.index) (w.nodes t n.index).mode (sym (node_up u depth w old t n.index k l) ∙ e))
+    (crash_told n (w.nodes t n.index).mode ∙ ap (absent_text n) (sym (node_condition u depth w old t n.index k l)))

@@ -2,9 +2,9 @@
 use Rattle.std.proofs.Common.{◌≡◌, ℕ, ◌+◌, ◌*◌, ◌<◌, ◌≤◌, Bool, true, false, List, [], ◌∷◌, ◌++◌, refl, sym, ap, ◌∙◌, subst, length, Option, Some, None, Result, Ok, Err, zero, suc}
 use Rattle.std.specs.Prelude.{slice_get, slice_set, map, nat_lt, nat_le}
 use Rattle.std.proofs.lemmas.Bool.{cond-true, cond-false, ltb-true, ltb-false, le-leb, lt-leb}
-use Rattle.log_model.specs.World.{Mode, Node as NodeOf}
+use Rattle.log_model.specs.Nodes.{Mode, Node as NodeOf}
 use Rattle.log_values.specs.declared.fact.Fact.{Fact}
-use Rattle.log_model.specs.World.Mode.{Up, Down, Gone}
+use Rattle.log_model.specs.Nodes.Mode.{Up, Down, Gone}
 use Rattle.frames.specs.declared.header.Refused.TheVariants as refusals
 use Rattle.run_model.specs.Runs.{grows}
 use Rattle.aeg_base.specs.declared.names.Tier.{Tier}
@@ -21,23 +21,20 @@ use Rattle.frames.specs.declared.turn.Fault.{Fault as NodeFault}
 use Rattle.frames.specs.Frames.{frame, header_for}
 use Rattle.frames.proofs.FrameGrammar.{frame_again}
 use Rattle.tier_model.specs.Moves.{Packet, Move}
-use Rattle.tier_model.specs.Mid.{Mid}
-use Rattle.tier_model.specs.Back.{Back}
+use Rattle.tier_model.specs.Kinds.{State}
 use Rattle.server_model.specs.Backends.{Amounts}
-use Rattle.tier_model.specs.MidRows as mids
-use Rattle.tier_model.specs.BackRows as backs
 use Rattle.run_model.specs.declared.trace.Fared.{Fared}
 use Rattle.run_model.specs.declared.trace.Fared.TheVariants.{Fine}
 use Rattle.run_model.specs.declared.trace.TraceEvent.TheVariants as events
 use Rattle.run_model.specs.World as worlds
-use Rattle.run_model.specs.World.{at_back, fate, happens, can_fare}
+use Rattle.run_model.specs.World.{kind_at, fate, happens, can_fare}
 use Rattle.run_model.specs.Resolving as resolving
 use Rattle.run_model.specs.Text as texts
 use Rattle.run_model.specs.Text.{own_text, growth_text, after}
 use Rattle.world.specs.declared.nodes.all_nodes.Nodes.{Nodes}
 use Rattle.world.specs.declared.parts.Parts.{Parts}
 use Rattle.world.specs.declared.parts.arming.StopAt.{StopAt}
-use Rattle.run_model.specs.BookingRuns.{config, booking_service, BookingWorld}
+use Rattle.run_model.specs.BookingRuns.{config, BookingWorld}
 use Rattle.world.specs.Arming.{CanStop, asked_of, fared_by}
 use Rattle.world.specs.Calling.{Called}
 use Rattle.world.specs.Disks.{AreDisks, HasCause, first_of, place_of, place_of_end, place_of_packet}
@@ -47,25 +44,26 @@ use Rattle.world.specs.Packets.{node_of, receiver_in, message_of, message_in, is
 use Rattle.world.specs.Telling.{told_frame, HadMemory}
 use Rattle.world.specs.Standing.{AreNodes, Shows, Makes, PlaysBy, AreShownOn}
 use Rattle.world.proofs.Moving.{Faring}
-use Rattle.world.proofs.Commands.{frames_told, Commanded, UpAt, mid_by, back_by}
-use Rattle.world.proofs.AtCommands.{rests, mid_stays, back_stays}
+use Rattle.world.proofs.Commands.{frames_told, Commanded, UpAt, node_by}
+use Rattle.world.proofs.AtCommands.{rests, node_stays}
 use Rattle.world.proofs.Playing.{if_can}
 use Rattle.world.proofs.Present.{node_up, has_node}
 
 -- AT A NODE THAT IS UP
 
-pub arrive_by : (u depth : ℕ) (w : BookingWorld) (old new : Nodes) (n : NodeId) (k : ℕ) (from : End) (message : Msg) (stop : Option StopAt) (disks : List DiskState) (disk disk_after : DiskState) (after : List (End × List ℕ)) (result : Result Answer NodeFault) (met : Bool) (t : Tier) → UpAt u depth w old t n.index disks disk → CanStop stop → HadMemory result
-    → Called old new t n.index stop disk disk_after [] after (λ m σ. mids.on_frame m.faults booking_service m.me σ from message) (λ b σ. backs.on_frame b.faults booking_service b.tier b.me σ from message) result met
-    → Commanded u depth w (worlds.node_gets (config u depth) w (fared_by stop met result) from message t n.index) new (slice_set disks (first_of t + n.index) disk_after) after (texts.node_frame_text (config u depth) w k (fared_by stop met result) from message n t) (told_frame n met result) × Faring (asked_of stop) (fared_by stop met result) disk disk_after
-arrive_by u depth w old new n k from message stop disks disk disk_after after result met MidTier h stops memory c =
-    mid_by u depth w old new n.index stop disks disk disk_after after (λ m σ. mids.on_frame m.faults booking_service m.me σ from message) (λ b σ. backs.on_frame b.faults booking_service b.tier b.me σ from message) (λ σ. mids.on_frame u booking_service n.index σ from message) result met (texts.frames_text (config u depth) n k (fared_by stop met result) (w.mids n.index) (λ σ. mids.on_frame u booking_service n.index σ from message)) (told_frame n met result) h stops memory
-    (λ m e f. λ i σ. mids.on_frame (e i) booking_service (f i) σ from message) c (λ σ h. frames_told u depth n (w.mids n.index).records (fared_by stop met result) met (mids.on_frame u booking_service n.index σ from message) result h)
-arrive_by u depth w old new n k from message stop disks disk disk_after after result met Inv h stops memory c =
-    back_by u depth w old new Inv n.index stop disks disk disk_after after (λ m σ. mids.on_frame m.faults booking_service m.me σ from message) (λ b σ. backs.on_frame b.faults booking_service b.tier b.me σ from message) (λ σ. backs.on_frame u booking_service Inv n.index σ from message) result met (texts.frames_text (config u depth) n k (fared_by stop met result) (w.backs Inv n.index) (λ σ. backs.on_frame u booking_service Inv n.index σ from message)) (told_frame n met result) tt h stops memory
-    (λ b e t f. λ i σ. backs.on_frame (e i) booking_service (t i) (f i) σ from message) c (λ σ h. frames_told u depth n (w.backs Inv n.index).records (fared_by stop met result) met (backs.on_frame u booking_service Inv n.index σ from message) result h)
-arrive_by u depth w old new n k from message stop disks disk disk_after after result met Pay h stops memory c =
-    back_by u depth w old new Pay n.index stop disks disk disk_after after (λ m σ. mids.on_frame m.faults booking_service m.me σ from message) (λ b σ. backs.on_frame b.faults booking_service b.tier b.me σ from message) (λ σ. backs.on_frame u booking_service Pay n.index σ from message) result met (texts.frames_text (config u depth) n k (fared_by stop met result) (w.backs Pay n.index) (λ σ. backs.on_frame u booking_service Pay n.index σ from message)) (told_frame n met result) tt h stops memory
-    (λ b e t f. λ i σ. backs.on_frame (e i) booking_service (t i) (f i) σ from message) c (λ σ h. frames_told u depth n (w.backs Pay n.index).records (fared_by stop met result) met (backs.on_frame u booking_service Pay n.index σ from message) result h)
+pub arrive_by : (u depth : ℕ) (w : BookingWorld) (old new : Nodes) (n : NodeId) (k : ℕ) (from : End) (message : Msg) (stop : Option StopAt)
+    (disks : List DiskState) (disk disk_after : DiskState) (after : List (End × List ℕ)) (result : Result Answer NodeFault) (met : Bool) (t : Tier)
+    → UpAt u depth w old t n.index disks disk → CanStop stop → HadMemory result
+    → Called old new t n.index stop disk disk_after [] after (λ S k. k.on_frame from message) result met
+    → Commanded u depth w (worlds.node_gets (config u depth) w (fared_by stop met result) from message t n.index) new
+    (slice_set disks (first_of t + n.index) disk_after) after (texts.node_frame_text (config u depth) w k (fared_by stop met result) from message n t)
+    (told_frame n met result) × Faring (asked_of stop) (fared_by stop met result) disk disk_after
+arrive_by u depth w old new n k from message stop disks disk disk_after after result met t h stops memory c =
+    let row : State Amounts t → Move (State Amounts t) = (kind_at (config u depth) t n.index).on_frame from message in
+    let fared = fared_by stop met result in
+    node_by u depth w old new t n.index stop disks disk disk_after after (λ S z. z.on_frame from message) result met
+    (texts.frames_text (config u depth) n k fared (w.nodes t n.index) row) (told_frame n met result) h stops memory c
+    (λ σ e. frames_told u depth n (w.nodes t n.index).records fared met (row σ) result e)
 
 -- AT A NODE THAT ISN'T UP
 
@@ -74,21 +72,16 @@ lost u depth n k fared node row (Up s) e = absurd (cc)
 lost u depth n k fared node row Down e = refl
 lost u depth n k fared node row Gone e = refl
 
-back_lost : (u depth : ℕ) (w : BookingWorld) (nodes : Nodes) (n : NodeId) (k : ℕ) (fared : Fared) (row : Back Amounts → Move (Back Amounts)) (disks : List DiskState) (t : Tier) → AreNodes u depth w nodes → AreDisks w disks → resolving.is_up (w.backs t n.index).mode ≡ false
-    → Commanded u depth w (at_back (config u depth) w t n.index (fate (config u depth) fared) row) nodes disks [] (texts.frames_text (config u depth) n k fared (w.backs t n.index) row (w.backs t n.index).mode) (texts.lost_line k)
-back_lost u depth w nodes n k fared row disks t a on absent =
-    subst (λ z. Commanded u depth w z nodes disks [] (texts.frames_text (config u depth) n k fared (w.backs t n.index) row (w.backs t n.index).mode) (texts.lost_line k)) (sym (back_stays u depth w t n.index (fate (config u depth) fared) row absent))
-    (rests u depth w nodes disks _ _ a on (lost u depth n k fared (w.backs t n.index) row (w.backs t n.index).mode absent))
-
-pub lost_by : (u depth : ℕ) (w : BookingWorld) (nodes : Nodes) (n : NodeId) (k : ℕ) (fared : Fared) (from : End) (message : Msg) (disks : List DiskState) (t : Tier) → AreNodes u depth w nodes → AreDisks w disks → n.index < 2 * u + 1 → up_in nodes t n.index ≡ false
-    → Commanded u depth w (worlds.node_gets (config u depth) w fared from message t n.index) nodes disks [] (texts.node_frame_text (config u depth) w k fared from message n t) (texts.lost_line k)
-lost_by u depth w nodes n k fared from message disks MidTier a on l e =
-    let row : Mid → Move Mid = λ σ. mids.on_frame u booking_service n.index σ from message in
-    let absent : resolving.is_up (w.mids n.index).mode ≡ false = sym (node_up u depth w nodes MidTier n.index a l) ∙ e in
-    subst (λ z. Commanded u depth w z nodes disks [] (texts.frames_text (config u depth) n k fared (w.mids n.index) row (w.mids n.index).mode) (texts.lost_line k)) (sym (mid_stays u depth w n.index (fate (config u depth) fared) row absent))
-    (rests u depth w nodes disks _ _ a on (lost u depth n k fared (w.mids n.index) row (w.mids n.index).mode absent))
-lost_by u depth w nodes n k fared from message disks Inv a on l e = back_lost u depth w nodes n k fared (λ σ. backs.on_frame u booking_service Inv n.index σ from message) disks Inv a on (sym (node_up u depth w nodes Inv n.index a l) ∙ e)
-lost_by u depth w nodes n k fared from message disks Pay a on l e = back_lost u depth w nodes n k fared (λ σ. backs.on_frame u booking_service Pay n.index σ from message) disks Pay a on (sym (node_up u depth w nodes Pay n.index a l) ∙ e)
+pub lost_by : (u depth : ℕ) (w : BookingWorld) (nodes : Nodes) (n : NodeId) (k : ℕ) (fared : Fared) (from : End) (message : Msg) (disks : List DiskState)
+    (t : Tier) → AreNodes u depth w nodes → AreDisks w disks → n.index < 2 * u + 1 → up_in nodes t n.index ≡ false
+    → Commanded u depth w (worlds.node_gets (config u depth) w fared from message t n.index) nodes disks []
+    (texts.node_frame_text (config u depth) w k fared from message n t) (texts.lost_line k)
+lost_by u depth w nodes n k fared from message disks t a on l e =
+    let row : State Amounts t → Move (State Amounts t) = (kind_at (config u depth) t n.index).on_frame from message in
+    let absent : resolving.is_up (w.nodes t n.index).mode ≡ false = sym (node_up u depth w nodes t n.index a l) ∙ e in
+    let text = texts.frames_text (config u depth) n k fared (w.nodes t n.index) row (w.nodes t n.index).mode in
+    subst (λ z. Commanded u depth w z nodes disks [] text (texts.lost_line k)) (sym (node_stays u depth w t n.index (fate (config u depth) fared) row absent))
+    (rests u depth w nodes disks _ _ a on (lost u depth n k fared (w.nodes t n.index) row (w.nodes t n.index).mode absent))
 
 -- PACKETS
 
@@ -154,11 +147,17 @@ unsent u depth w parts i s e = go (slice_get w.soup i) refl
     go None f = f
     go (Some k) f = absurd (never k k.to (s.reach i k f) (sym (ap receiver_in (ap (λ z. slice_get z i) s.soup ∙ get_sealed w.soup i (Some k) f)) ∙ e))
 
+reached : (u : ℕ) (from : End) (t : Tier) (message : Msg) (faults : ℕ) (tier : Tier) → faults ≡ u → tier ≡ t → CanReach u from t message
+    → CanReach faults from tier message
+reached u from t message faults tier e f r = subst (λ z. CanReach z from tier message) (sym e) (subst (λ z. CanReach u from z message) (sym f) r)
+
 -- the message can reach the node that it goes to
 pub reaches_at : (u depth : ℕ) (w : BookingWorld) (nodes : Nodes) (n : NodeId) (from : End) (message : Msg) (t : Tier) → AreNodes u depth w nodes → CanReach u from t message → CanReachIn nodes t n.index from message
-reaches_at u depth w nodes n from message MidTier k r = λ m e. subst (λ z. CanReach z from MidTier message) (sym (k.mids.each n.index m e).faults) r
-reaches_at u depth w nodes n from message Inv k r = λ b e. subst (λ z. CanReach z from b.tier message) (sym (k.invs.each n.index b e).faults) (subst (λ z. CanReach u from z message) (sym (k.invs.each n.index b e).tier) r)
-reaches_at u depth w nodes n from message Pay k r = λ b e. subst (λ z. CanReach z from b.tier message) (sym (k.pays.each n.index b e).faults) (subst (λ z. CanReach u from z message) (sym (k.pays.each n.index b e).tier) r)
+reaches_at u depth w nodes n from message MidTier k r = λ v e. subst (λ z. CanReach z from MidTier message) (sym ((k.at MidTier).each n.index v e).faults) r
+reaches_at u depth w nodes n from message Inv k r = λ v e. reached u from Inv message v.faults v.tier ((k.at Inv).each n.index v e).faults
+    ((k.at Inv).each n.index v e).tier r
+reaches_at u depth w nodes n from message Pay k r = λ v e. reached u from Pay message v.faults v.tier ((k.at Pay).each n.index v e).faults
+    ((k.at Pay).each n.index v e).tier r
 
 -- THE EVENT
 
@@ -182,7 +181,7 @@ pub deliver_lost : (u depth : ℕ) (w : BookingWorld) (parts : Parts) (k : ℕ) 
 deliver_lost u depth w parts k fared n disks can s on a e = at_receiver u depth w parts.nodes k fared n a.packet disks [] (texts.lost_line k) can a.is a.to (lost_by u depth w parts.nodes n k fared a.packet.from a.packet.message disks n.tier s.nodes on a.there e)
 
 pub deliver_done : (u depth : ℕ) (w : BookingWorld) (parts : Parts) (new : Nodes) (k : ℕ) (n : NodeId) (from : End) (message : Msg) (stop : Option StopAt) (disks : List DiskState) (disk disk_after : DiskState) (after : List (End × List ℕ)) (result : Result Answer NodeFault) (met : Bool) → (a : Addressed u w parts k n) → a.packet.from ≡ from → a.packet.message ≡ message
-    → UpAt u depth w parts.nodes n.tier n.index disks disk → CanStop stop → HadMemory result → Called parts.nodes new n.tier n.index stop disk disk_after [] after (λ m σ. mids.on_frame m.faults booking_service m.me σ from message) (λ b σ. backs.on_frame b.faults booking_service b.tier b.me σ from message) result met
+    → UpAt u depth w parts.nodes n.tier n.index disks disk → CanStop stop → HadMemory result → Called parts.nodes new n.tier n.index stop disk disk_after [] after (λ S z. z.on_frame from message) result met
     → Commanded u depth w (happens (config u depth) w (events.Deliver k (fared_by stop met result))) new (slice_set disks (first_of n.tier + n.index) disk_after) after (own_text (config u depth) w (events.Deliver k (fared_by stop met result))) (told_frame n met result) × Faring (asked_of stop) (fared_by stop met result) disk disk_after
 deliver_done u depth w parts new k n from message stop disks disk disk_after after result met a f g up stops memory c =
     let r = arrive_by u depth w parts.nodes new n k from message stop disks disk disk_after after result met n.tier up stops memory c in (
@@ -244,9 +243,7 @@ refusing n k Down e = absurd (cc)
 refusing n k Gone e = absurd (cc)
 
 refuses : (u depth : ℕ) (w : BookingWorld) (nodes : Nodes) (n : NodeId) (k : ℕ) (t : Tier) → AreNodes u depth w nodes → n.index < 2 * u + 1 → up_in nodes t n.index ≡ true → texts.node_refuses_text w k n t ≡ texts.drop_line (texts.node_name n) refusals.Short
-refuses u depth w nodes n k MidTier a l e = refusing n k (w.mids n.index).mode (sym (node_up u depth w nodes MidTier n.index a l) ∙ e)
-refuses u depth w nodes n k Inv a l e = refusing n k (w.backs Inv n.index).mode (sym (node_up u depth w nodes Inv n.index a l) ∙ e)
-refuses u depth w nodes n k Pay a l e = refusing n k (w.backs Pay n.index).mode (sym (node_up u depth w nodes Pay n.index a l) ∙ e)
+refuses u depth w nodes n k t a l e = refusing n k (w.nodes t n.index).mode (sym (node_up u depth w nodes t n.index a l) ∙ e)
 
 -- or it is lost
 losing : (n : NodeId) (k : ℕ) {S : Type 0} (m : Mode S) → resolving.is_up m ≡ false → texts.refuses_text k n m ≡ texts.lost_line k
@@ -255,9 +252,7 @@ losing n k Down e = refl
 losing n k Gone e = refl
 
 loses : (u depth : ℕ) (w : BookingWorld) (nodes : Nodes) (n : NodeId) (k : ℕ) (t : Tier) → AreNodes u depth w nodes → n.index < 2 * u + 1 → up_in nodes t n.index ≡ false → texts.node_refuses_text w k n t ≡ texts.lost_line k
-loses u depth w nodes n k MidTier a l e = losing n k (w.mids n.index).mode (sym (node_up u depth w nodes MidTier n.index a l) ∙ e)
-loses u depth w nodes n k Inv a l e = losing n k (w.backs Inv n.index).mode (sym (node_up u depth w nodes Inv n.index a l) ∙ e)
-loses u depth w nodes n k Pay a l e = losing n k (w.backs Pay n.index).mode (sym (node_up u depth w nodes Pay n.index a l) ∙ e)
+loses u depth w nodes n k t a l e = losing n k (w.nodes t n.index).mode (sym (node_up u depth w nodes t n.index a l) ∙ e)
 
 short_cut : (u depth : ℕ) (w : BookingWorld) (parts : Parts) (i bytes : ℕ) (n : NodeId) (disks : List DiskState) (told : List ℕ) → Shows u depth w parts → AreDisks w disks → is_cut_in (slice_get parts.soup i) bytes ≡ true → (a : Addressed u w parts i n) → texts.node_refuses_text w i n n.tier ≡ told
     → Commanded u depth w (happens (config u depth) w (events.Short i bytes Fine)) parts.nodes disks [] (own_text (config u depth) w (events.Short i bytes Fine)) told

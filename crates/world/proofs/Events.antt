@@ -3,6 +3,7 @@ use Rattle.std.proofs.Common.{◌≡◌, ℕ, ◌≤◌, length, List, [], ◌++
 use Rattle.std.proofs.lemmas.List.{map-append}
 use Rattle.std.specs.Prelude.{slice_get, map, ◌⊎◌}
 use Rattle.aeg_base.specs.declared.limits.TheConstants.{PACKETS}
+use Rattle.aeg_base.specs.declared.names.Tier.{Tier}
 use Rattle.aeg_base.specs.declared.names.End.{End}
 use Rattle.log_values.specs.declared.any_value.AnyValue.{AnyValue}
 use Rattle.frames.specs.Frames.{FitsFrame}
@@ -24,7 +25,6 @@ use Rattle.log_model.proofs.Basics.{get_cases}
 pub record Leads (u depth : ℕ) (w new : BookingWorld) (nodes : Nodes) (ks : List Packet) : Type 0 where
   pub are : AreNodes u depth new nodes
   pub soup : new.soup ≡ w.soup ++ ks
-  pub log : new.log ≡ w.log
   pub logs : new.logs ≡ w.logs
   pub hist : new.hist ≡ w.hist
   pub fit : AreFit ks
@@ -54,7 +54,7 @@ pub record Ended (old new : Parts) (nodes : Nodes) (packets : List (End × List 
 
 pub ends : (u depth : ℕ) (w w1 : BookingWorld) (old new : Parts) (nodes : Nodes) (ks : List Packet) → Shows u depth w old → Leads u depth w w1 nodes ks → Ended old new nodes (map sealed ks) → AreAll 17 IsClientEnd w1.clients new.clients.items
     → Shows u depth (grows (config u depth) w1) new × (growth_text w (grows (config u depth) w1) ≡ [])
-ends u depth w w1 old new nodes ks s l e clients = (subst (λ z. Shows u depth z new) (sym g.1) shown, growth_is_silent (config u depth) w w1 carried l.log l.hist)
+ends u depth w w1 old new nodes ks s l e clients = (subst (λ z. Shows u depth z new) (sym g.1) shown, growth_is_silent (config u depth) w w1 carried l.logs l.hist)
   where
     reach : AllReach u w1.soup
     reach = subst (AllReach u) (sym l.soup) (reach-append u w.soup ks s.reach l.reach)
@@ -62,17 +62,17 @@ ends u depth w w1 old new nodes ks s l e clients = (subst (λ z. Shows u depth z
     carried : Carry (config u depth) w1
     carried = carries (config u depth) w1 reach
 
-    g : (log : List AnyValue) × (grows (config u depth) w1 ≡ record w1 { log = log })
+    g : (logs : Tier → List AnyValue) × (grows (config u depth) w1 ≡ record w1 { logs = logs })
     g = grown_is (config u depth) w1 carried
 
     watch : new.watch ≡ seen_in (config u depth) (grows (config u depth) w1)
-    watch = e.watch ∙ ap (λ z. all_grown (hears_packets z (map sealed ks))) s.watch ∙ ap all_grown (heard_in (config u depth) w w1 ks l.fit l.soup l.log l.logs) ∙ watch_grows (config u depth) w1 carried
+    watch = e.watch ∙ ap (λ z. all_grown (hears_packets z (map sealed ks))) s.watch ∙ ap all_grown (heard_in (config u depth) w w1 ks l.fit l.soup l.logs) ∙ watch_grows (config u depth) w1 carried
 
-    shown : Shows u depth (record w1 { log = g.0 }) new
+    shown : Shows u depth (record w1 { logs = g.0 }) new
     shown = record {
       size = e.size ∙ s.size;
       few = s.few;
-      nodes = subst (λ z. AreNodes u depth (record w1 { log = g.0 }) z) (sym e.is) (record { mids = l.are.mids; invs = l.are.invs; pays = l.are.pays });
+      nodes = subst (λ z. AreNodes u depth (record w1 { logs = g.0 }) z) (sym e.is) (record { at = l.are.at });
       clients = clients;
       soup = e.soup ∙ ap (λ z. z ++ map sealed ks) s.soup ∙ sym (map-append sealed w.soup ks) ∙ ap (map sealed) (sym l.soup);
       within = e.within;

@@ -12,8 +12,8 @@ use Rattle.log_model.proofs.Basics.{Every}
 use Rattle.log_values.specs.declared.any_value.AnyValue.{AnyValue}
 use Rattle.log_values.specs.declared.any_value.AnyValue.TheVariants as values
 use Rattle.log_values.specs.declared.mid_value.MidValue.TheVariants.{Batch, Verdict as Decided}
-use Rattle.run_model.specs.World.{Config, World}
-use Rattle.run_model.specs.Runs.{log_soup, mid_chosen, back_chosen, mid_grows, back_grows, grows}
+use Rattle.run_model.specs.World.{Config, World, put_tier}
+use Rattle.run_model.specs.Runs.{log_soup, grown as lengthened, chosen_next, grows_at, grows}
 use Rattle.run_model.specs.Text.{chosen_text, history_text, growth_text}
 use Rattle.world.specs.Tallies.{tallied, is_chosen, seen_of, grown}
 use Rattle.world.specs.Watching.{all_grown, seen_in}
@@ -88,38 +88,46 @@ abbrev gained : Option AnyValue → List AnyValue
 gained None = []
 gained (Some v) = v ∷ []
 
-with_log : {B : Type 0} → World B → List AnyValue → World B
-with_log w log = record w { log = log }
+-- the logs with it
+abbrev logs_with : {B : Type 0} → World B → Option AnyValue → Tier → List AnyValue
+logs_with w None = w.logs
+logs_with w (Some v) = put_tier w.logs Mid (w.logs Mid ++ v ∷ [])
 
-abbrev chosen_next : {B : Type 0} → Config B → World B → Option AnyValue
-chosen_next c w = chosen_among c.u (log_soup Mid w.soup) (length w.log) (log_soup Mid w.soup)
+logs_at : {B : Type 0} (w : World B) (o : Option AnyValue)
+    → (logs_with w o Mid ≡ w.logs Mid ++ gained o) × ((logs_with w o Inv ≡ w.logs Inv) × (logs_with w o Pay ≡ w.logs Pay))
+logs_at w None = (sym (append-nil (w.logs Mid)), (refl, refl))
+logs_at w (Some v) = (refl, (refl, refl))
 
-batch_steps : {B : Type 0} (c : Config B) (w : World B) (v : AnyValue) → IsBatch v → mid_chosen c w (Some v) ≡ with_log w (w.log ++ v ∷ [])
-unfolding with_log
-batch_steps {B} c w (values.Mid (Batch es)) b = ap (λ z. record w { log = w.log ++ values.Mid (Batch es) ∷ []; hist = z }) (append-nil w.hist)
+with_logs : {B : Type 0} → World B → (Tier → List AnyValue) → World B
+with_logs w logs = record w { logs = logs }
+
+batch_steps : {B : Type 0} (c : Config B) (w : World B) (v : AnyValue) → IsBatch v → lengthened c w Mid (Some v) ≡ with_logs w (logs_with w (Some v))
+unfolding with_logs
+batch_steps {B} c w (values.Mid (Batch es)) b = ap (λ z. record w { logs = logs_with w (Some (values.Mid (Batch es))); hist = z }) (append-nil w.hist)
 batch_steps c w (values.Mid (Decided v)) b = absurd b
 batch_steps c w (values.Back v) b = absurd b
 
-mid_part : {B : Type 0} (c : Config B) (w : World B) (o : Option AnyValue) → ((v : AnyValue) → o ≡ Some v → IsBatch v) → mid_chosen c w o ≡ with_log w (w.log ++ gained o)
-unfolding with_log
-mid_part {B} c w None b = sym (ap (λ z. record w { log = z }) (append-nil w.log))
+mid_part : {B : Type 0} (c : Config B) (w : World B) (o : Option AnyValue) → ((v : AnyValue) → o ≡ Some v → IsBatch v)
+    → lengthened c w Mid o ≡ with_logs w (logs_with w o)
+unfolding with_logs
+mid_part c w None b = refl
 mid_part c w (Some v) b = batch_steps c w v (b v refl)
 
-same_back : {B : Type 0} (c : Config B) (t : Tier) (w : World B) → AllVotes IsNothing (log_soup t w.soup) → back_grows c t w ≡ w
-same_back c t w a = ap (back_chosen w t) (none_chosen c.u (log_soup t w.soup) (length (w.logs t)) (log_soup t w.soup) a)
+same_back : {B : Type 0} (c : Config B) (t : Tier) (w : World B) → AllVotes IsNothing (log_soup t w.soup) → grows_at c t w ≡ w
+same_back c t w a = ap (lengthened c w t) (none_chosen c.u (log_soup t w.soup) (length (w.logs t)) (log_soup t w.soup) a)
 
-grown_world : {B : Type 0} (c : Config B) (w : World B) → Carry c w → grows c w ≡ with_log w (w.log ++ gained (chosen_next c w))
-unfolding with_log
+grown_world : {B : Type 0} (c : Config B) (w : World B) → Carry c w → grows c w ≡ with_logs w (logs_with w (chosen_next c w Mid))
+unfolding with_logs
 grown_world {B} c w k =
-    let first : mid_grows c w ≡ with_log w (w.log ++ gained (chosen_next c w)) = mid_part c w (chosen_next c w) (λ v e. chosen_value IsBatch c.u (log_soup Mid w.soup) (length w.log) (log_soup Mid w.soup) v k.batches e) in
-    ap (λ z. back_grows c Pay (back_grows c Inv z)) first
-    ∙ ap (back_grows c Pay) (same_back c Inv (with_log w (w.log ++ gained (chosen_next c w))) k.no_calls)
-    ∙ same_back c Pay (with_log w (w.log ++ gained (chosen_next c w))) k.no_charges
+    let now = with_logs w (logs_with w (chosen_next c w Mid)) in
+    let first : grows_at c Mid w ≡ now = mid_part c w (chosen_next c w Mid)
+    (λ v e. chosen_value IsBatch c.u (log_soup Mid w.soup) (length (w.logs Mid)) (log_soup Mid w.soup) v k.batches e) in
+    ap (λ z. grows_at c Pay (grows_at c Inv z)) first ∙ ap (grows_at c Pay) (same_back c Inv now k.no_calls) ∙ same_back c Pay now k.no_charges
 
 -- the logs go on, and all else stays
-pub grown_is : {B : Type 0} (c : Config B) (w : World B) → Carry c w → (log : List AnyValue) × (grows c w ≡ record w { log = log })
-unfolding with_log
-grown_is c w k = (w.log ++ gained (chosen_next c w), grown_world c w k)
+pub grown_is : {B : Type 0} (c : Config B) (w : World B) → Carry c w → (logs : Tier → List AnyValue) × (grows c w ≡ record w { logs = logs })
+unfolding with_logs
+grown_is c w k = (logs_with w (chosen_next c w Mid), grown_world c w k)
 
 -- TEXT
 
@@ -133,16 +141,18 @@ gained_text p None b = refl
 gained_text p (Some v) b = batch_text p v (b v refl)
 
 -- what is chosen now prints nothing
-pub growth_is_silent : {B : Type 0} (c : Config B) (old w : World B) → Carry c w → w.log ≡ old.log → w.hist ≡ old.hist → growth_text old (grows c w) ≡ []
-unfolding with_log
+pub growth_is_silent : {B : Type 0} (c : Config B) (old w : World B) → Carry c w → w.logs ≡ old.logs → w.hist ≡ old.hist → growth_text old (grows c w) ≡ []
+unfolding with_logs
 growth_is_silent {B} c old w k e f =
-    let o = chosen_next c w in
+    let o = chosen_next c w Mid in
+    let n = length (old.logs Mid) in
     ap (growth_text old) (grown_world c w k)
-    ∙ ap (λ z. chosen_text (length old.log) (drop (length old.log) (z ++ gained o)) ++ history_text (drop (length old.hist) w.hist)) e
-    ∙ ap (λ z. chosen_text (length old.log) (drop (length old.log) (old.log ++ gained o)) ++ history_text (drop (length old.hist) z)) f
-    ∙ ap (λ z. chosen_text (length old.log) z ++ history_text (drop (length old.hist) old.hist)) (drop-append_seam old.log (gained o))
-    ∙ ap (λ z. chosen_text (length old.log) (gained o) ++ history_text z) (drop-length old.hist)
-    ∙ ap (λ z. z ++ []) (gained_text (length old.log) o (λ v g. chosen_value IsBatch c.u (log_soup Mid w.soup) (length w.log) (log_soup Mid w.soup) v k.batches g))
+    ∙ ap (λ z. chosen_text n (drop n z) ++ history_text (drop (length old.hist) w.hist)) ((logs_at w o).0 ∙ ap (λ z. z Mid ++ gained o) e)
+    ∙ ap (λ z. chosen_text n (drop n (old.logs Mid ++ gained o)) ++ history_text (drop (length old.hist) z)) f
+    ∙ ap (λ z. chosen_text n z ++ history_text (drop (length old.hist) old.hist)) (drop-append_seam (old.logs Mid) (gained o))
+    ∙ ap (λ z. chosen_text n (gained o) ++ history_text z) (drop-length old.hist)
+    ∙ ap (λ z. z ++ []) (gained_text n o
+    (λ v g. chosen_value IsBatch c.u (log_soup Mid w.soup) (length (w.logs Mid)) (log_soup Mid w.soup) v k.batches g))
 
 -- COUNTS
 
@@ -160,9 +170,14 @@ seen_stays u soup n l a = grows_by_none u soup n (false_if (is_chosen u (tallied
 
 -- an observer that goes on is one of the world whose logs have grown
 pub watch_grows : {B : Type 0} (c : Config B) (w : World B) → Carry c w → all_grown (seen_in c w) ≡ seen_in c (grows c w)
-unfolding with_log
+unfolding with_logs
 watch_grows {B} c w k =
-    let mid = seen_grows c.u (log_soup Mid w.soup) (length w.log) (chosen_next c w) k.mid_from refl w.log refl in
-    let inv = seen_stays c.u (log_soup Inv w.soup) (length (w.logs Inv)) k.inv_from k.no_calls in
-    let pay = seen_stays c.u (log_soup Pay w.soup) (length (w.logs Pay)) k.pay_from k.no_charges in
+    let o = chosen_next c w Mid in
+    let logs = logs_at w o in
+    let mid = seen_grows c.u (log_soup Mid w.soup) (length (w.logs Mid)) o k.mid_from refl (w.logs Mid) refl
+    ∙ ap (λ z. seen_of c.u (log_soup Mid w.soup) (length z)) (sym logs.0) in
+    let inv = seen_stays c.u (log_soup Inv w.soup) (length (w.logs Inv)) k.inv_from k.no_calls
+    ∙ ap (λ z. seen_of c.u (log_soup Inv w.soup) (length z)) (sym logs.1.0) in
+    let pay = seen_stays c.u (log_soup Pay w.soup) (length (w.logs Pay)) k.pay_from k.no_charges
+    ∙ ap (λ z. seen_of c.u (log_soup Pay w.soup) (length z)) (sym logs.1.1) in
     (λ i. record { mid = mid i; inv = inv i; pay = pay i }) ∙ sym (ap (seen_in c) (grown_world c w k))

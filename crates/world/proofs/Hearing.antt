@@ -101,12 +101,11 @@ all_heard u soup (k ∷ ks) a b d f =
     ap (λ z. hears_packets z (map sealed ks)) (packet_heard u soup a b d k (fit-head k ks f)) ∙ all_heard u (soup ++ k ∷ []) ks a b d (fit-tail k ks f) ∙ ap (λ z. seen_with u z a b d) (append_assoc soup (k ∷ []) ks)
 
 -- more packets of a world whose logs are as they were
-pub heard_in : {B : Type 0} (c : Config B) (old new : World B) (ks : List Packet) → AreFit ks → new.soup ≡ old.soup ++ ks → new.log ≡ old.log → new.logs ≡ old.logs → hears_packets (seen_in c old) (map sealed ks) ≡ seen_in c new
-heard_in c old new ks f s l m =
-    all_heard c.u old.soup ks (length old.log) (length (old.logs Inv)) (length (old.logs Pay)) f
-    ∙ ap (λ z. seen_with c.u z (length old.log) (length (old.logs Inv)) (length (old.logs Pay))) (sym s)
-    ∙ ap (λ z. seen_with c.u new.soup (length z) (length (old.logs Inv)) (length (old.logs Pay))) (sym l)
-    ∙ ap (λ z. seen_with c.u new.soup (length new.log) (length (z Inv)) (length (z Pay))) (sym m)
+pub heard_in : {B : Type 0} (c : Config B) (old new : World B) (ks : List Packet) → AreFit ks → new.soup ≡ old.soup ++ ks → new.logs ≡ old.logs → hears_packets (seen_in c old) (map sealed ks) ≡ seen_in c new
+heard_in c old new ks f s m =
+    all_heard c.u old.soup ks (length (old.logs Mid)) (length (old.logs Inv)) (length (old.logs Pay)) f
+    ∙ ap (λ z. seen_with c.u z (length (old.logs Mid)) (length (old.logs Inv)) (length (old.logs Pay))) (sym s)
+    ∙ ap (λ z. seen_with c.u new.soup (length (z Mid)) (length (z Inv)) (length (z Pay))) (sym m)
 
 -- WHAT THE LOGS CARRY
 

@@ -40,6 +40,6 @@ pub mod MidMoves
 pub mod MidOffers
 pub mod BackMoves
 pub mod Stepping
-pub mod Backends
+pub mod Tiers
 pub mod CommandEvents
 pub mod BlankDisks

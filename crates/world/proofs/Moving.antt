@@ -1,9 +1,9 @@
 -- A node with its disk makes its move in the world too.
 use Rattle.std.proofs.Common.{◌≡◌, ℕ, ◌+◌, ◌≤◌, Bool, true, false, cond, List, [], ◌∷◌, ◌++◌, refl, sym, ap, ◌∙◌, subst, length, append-nil, arith, Option, Some, None, Result, Ok, Err, zero, suc}
-use Rattle.std.specs.Prelude.{nat_lt, nat_le, map, codes, slice_get}
+use Rattle.std.specs.Prelude.{nat_lt, nat_le, map, codes, slice_get, ◌&&◌}
 use Rattle.std.specs.Result.{OnOk}
 use Rattle.std.specs.List.{AllByRecursion}
-use Rattle.std.proofs.lemmas.Bool.{cond-true, cond-false, ltb-false, le-leb, or_right}
+use Rattle.std.proofs.lemmas.Bool.{cond-true, cond-false, cond_both, ltb-false, le-leb}
 use Rattle.aeg_base.specs.declared.limits.TheConstants.{JOURNAL_BYTES}
 use Rattle.aeg_base.specs.declared.names.Tier.{Tier}
 use Rattle.aeg_base.specs.declared.names.End.{End}
@@ -13,18 +13,18 @@ use Rattle.fact_journal.specs.Fitting.{Fit, all_facts, open_after_all}
 use Rattle.fact_journal.specs.Calls.{length_with, is_past}
 use Rattle.fact_journal.proofs.Fits.{open_after_then, all_more, fit_recorded}
 use Rattle.node_journal.specs.Journal.{size_of}
-use Rattle.log_model.specs.World.{Node as NodeOf, Device, recorded, stands, failed, writes, is_fine}
-use Rattle.log_model.specs.World.Mode.{Up}
-use Rattle.log_model.specs.World.Device.{Fine as WasFine, CutDrop}
+use Rattle.log_model.specs.Nodes.{Node as NodeOf, Device, recorded, stands, failed, writes, is_well, moved, sent}
+use Rattle.log_model.specs.Nodes.Mode.{Up}
+use Rattle.log_model.specs.Nodes.Device.{Fine as WasFine, CutKeep, CutDrop, Fault as WasFault}
 use Rattle.log_values.specs.declared.fact.Fact.{Fact}
 use Rattle.log_values.specs.Records.{record_text}
 use Rattle.frames.specs.declared.turn.Turn.{Turn as Answer}
 use Rattle.frames.specs.declared.turn.Fault.{Fault as NodeFault}
 use Rattle.frames.specs.declared.turn.Fault.TheVariants as faults
-use Rattle.tier_model.specs.Moves.{Move}
+use Rattle.tier_model.specs.Moves.{Packet, Move}
 use Rattle.run_model.specs.declared.trace.Fared.{Fared}
 use Rattle.run_model.specs.declared.trace.Fared.TheVariants.{Fine}
-use Rattle.run_model.specs.World.{journal_length, device_of, fate, can_fare, is_well, moved, sent}
+use Rattle.run_model.specs.World.{journal_length, device_of, fate, can_fare}
 use Rattle.run_model.specs.Text.{fault_text}
 use Rattle.run_model.specs.BookingRuns.{config}
 use Rattle.world.specs.declared.parts.arming.StopAt.{StopAt}
@@ -157,28 +157,48 @@ pub fate_full : (u depth : ℕ) (fared : Fared) (records : List (List Fact)) (fa
 fate_full u depth fared records [] e = absurd (cc)
 fate_full u depth fared records (f ∷ fs) e = cond-true (nat_lt JOURNAL_BYTES (journal_of records + (5 + length (record_text (f ∷ fs))))) CutDrop (device_of fared) e
 
--- what writes nothing meets no device
-pub well_silent : (d : Device) (facts : List Fact) → writes facts ≡ false → is_well d facts ≡ true
-well_silent d [] e = or_right (is_fine d) true refl
-well_silent d (f ∷ fs) e = absurd (cc)
+abbrev pub is_ok : Device → Bool
+is_ok WasFine = true
+is_ok CutKeep = false
+is_ok CutDrop = false
+is_ok WasFault = false
+
+-- where nothing is written no stop is met
+asked_silent : (u depth : ℕ) (stop : Option StopAt) (records : List (List Fact)) (facts : List Fact) → writes facts ≡ false
+    → is_well (fate (config u depth) (asked_of stop) records facts) facts ≡ true
+asked_silent u depth None records [] e = refl
+asked_silent u depth (Some s) records [] e =
+    cond_both (s.keep && nat_le 3 s.nth) CutKeep CutDrop (λ d. is_well {F = Fact} d [] ≡ true) (λ f. refl) (λ f. refl)
+asked_silent u depth stop records (f ∷ fs) e = absurd (cc)
 
 well_fine : (d : Device) (facts : List Fact) → d ≡ WasFine → is_well d facts ≡ true
-well_fine d facts e = rw e refl
+well_fine d facts e = ap (λ z. is_well z facts) e
 
-pub ill_by : (d e : Device) (facts : List Fact) → writes facts ≡ true → d ≡ e → is_fine e ≡ false → is_well d facts ≡ false
+pub ill_by : (d e : Device) (facts : List Fact) → writes facts ≡ true → d ≡ e → is_ok e ≡ false → is_well d facts ≡ false
 ill_by d e [] w f g = absurd (cc)
-ill_by d e (x ∷ facts) w f g = rw (f, g) refl
+ill_by d WasFine (x ∷ facts) w f g = absurd (cc)
+ill_by d CutKeep (x ∷ facts) w f g = ap (λ z. is_well z (x ∷ facts)) f
+ill_by d CutDrop (x ∷ facts) w f g = ap (λ z. is_well z (x ∷ facts)) f
+ill_by d WasFault (x ∷ facts) w f g = ap (λ z. is_well z (x ∷ facts)) f
 
-pub moved_well : {T : Type 0} (node : NodeOf T Fact) (d : Device) (v : Move T) → is_well d v.facts ≡ true → moved node d v ≡ stands (Up v.state) (recorded node.records v.facts)
+-- the node after a move, and what the move sends
+abbrev pub moved_by : {T : Type 0} → NodeOf T Fact → Device → Move T → NodeOf T Fact
+moved_by node d v = moved node d v.state v.facts
+
+abbrev pub sent_by : {T : Type 0} → Device → Move T → List Packet
+sent_by d v = sent d v.facts v.sends
+
+pub moved_well : {T : Type 0} (node : NodeOf T Fact) (d : Device) (v : Move T) → is_well d v.facts ≡ true
+    → moved_by node d v ≡ stands (Up v.state) (recorded node.records v.facts)
 moved_well node d v e = cond-true (is_well d v.facts) (stands (Up v.state) (recorded node.records v.facts)) (failed node v.facts d) e
 
-pub moved_ill : {T : Type 0} (node : NodeOf T Fact) (d : Device) (v : Move T) → is_well d v.facts ≡ false → moved node d v ≡ failed node v.facts d
+pub moved_ill : {T : Type 0} (node : NodeOf T Fact) (d : Device) (v : Move T) → is_well d v.facts ≡ false → moved_by node d v ≡ failed node v.facts d
 moved_ill node d v e = cond-false (is_well d v.facts) (stands (Up v.state) (recorded node.records v.facts)) (failed node v.facts d) e
 
-pub sent_well : {T : Type 0} (d : Device) (move : Move T) → is_well d move.facts ≡ true → sent d move ≡ move.sends
+pub sent_well : {T : Type 0} (d : Device) (move : Move T) → is_well d move.facts ≡ true → sent_by d move ≡ move.sends
 sent_well d move e = cond-true (is_well d move.facts) move.sends [] e
 
-pub sent_ill : {T : Type 0} (d : Device) (move : Move T) → is_well d move.facts ≡ false → sent d move ≡ []
+pub sent_ill : {T : Type 0} (d : Device) (move : Move T) → is_well d move.facts ≡ false → sent_by d move ≡ []
 sent_ill d move e = cond-false (is_well d move.facts) move.sends [] e
 
 pub no_fit : AreFit []
@@ -212,11 +232,11 @@ pub record Faring (asked fared : Fared) (disk_before disk_after : DiskState) : T
 
 -- The node and its disk are those of the move as its device fared, and it sends what it sends.
 pub record Came {S T : Type 0} (t : Tier) (whole : S → T) (open_of : S → ℕ) (u : ℕ) (node : NodeOf T Fact) (new : NodePart S) (disk_before disk_after : DiskState) (dev : Device) (asked fared : Fared) (met : Bool) (v : Move T) (after : List (End × List ℕ)) (answer : Result Answer NodeFault) : Type 0 where
-  pub is : IsNode t whole open_of (moved node dev v) (sure_if met new)
-  pub on : IsDiskOf (moved node dev v) disk_after
-  pub sends : after ≡ map sealed (sent dev v)
-  pub fit : AreFit (sent dev v)
-  pub reach : AllReach u (sent dev v)
+  pub is : IsNode t whole open_of (moved_by node dev v) (sure_if met new)
+  pub on : IsDiskOf (moved_by node dev v) disk_after
+  pub sends : after ≡ map sealed (sent_by dev v)
+  pub fit : AreFit (sent_by dev v)
+  pub reach : AllReach u (sent_by dev v)
   pub out : CameOut answer met (is_well dev v.facts) fared (is_past (journal_of node.records) v.facts) v
   pub how : Faring asked fared disk_before disk_after
 
@@ -255,7 +275,7 @@ pub asked_well : (u depth : ℕ) (stop : Option StopAt) (disk : DiskState) (reco
 asked_well u depth stop disk records facts k p h = go (writes facts) refl stop k h
   where
     go : (b : Bool) → writes facts ≡ b → (o : Option StopAt) → CanStop o → (writes facts ≡ true → (armed_with o disk).armed ≤ 4 → (armed_with o disk).armed ≡ 0) → is_well (fate (config u depth) (asked_of o) records facts) facts ≡ true
-    go false e o c f = well_silent (fate (config u depth) (asked_of o) records facts) facts e
+    go false e o c f = asked_silent u depth o records facts e
     go true e None c f = well_fine (fate (config u depth) Fine records facts) facts (fate_is u depth Fine records facts e p)
     go true e (Some s) c f = absurd (let none : s.nth ≡ 0 = f e c.1 in omega (arith, none, c.0))
 

@@ -76,7 +76,7 @@ has_is xs now i c d o s v n e l f = ap (λ z. has_seq z s) (sym f ∙ (at_is Non
 
 -- REQUESTS
 
-pub request_short : (who : ReqId) (body : List ℕ) → is_request booking_service who body ≡ true → length body ≤ 48
+pub request_short : (who : ReqId) (body : List ℕ) → is_request booking_service.programs who body ≡ true → length body ≤ 48
 request_short who body e = go (request_of body) refl e
   where
     go : (r : Result Request ℕ) → request_of body ≡ r → is_some (stages_in who 0 r) ≡ true → length body ≤ 48
@@ -113,20 +113,20 @@ first_range e k =
 first_next : (e : Entry) (depth : ℕ) → IsFirst e → (e.seq == suc (last_of (tables0 depth).last e.client)) ≡ true
 first_next e depth k = rw (k.seq, at-zero 17 e.client) refl
 
-fresh_first : (depth : ℕ) (e : Entry) → IsFirst e → is_fresh booking_service (tables0 depth) e ≡ true
+fresh_first : (depth : ℕ) (e : Entry) → IsFirst e → is_fresh booking_service.programs (tables0 depth) e ≡ true
 fresh_first depth e k = rw (first_range e k, k.request, first_next e depth k, none_busy depth e.client) refl
 
-if_fresh_is : (depth : ℕ) (o : Option Entry) → ((e : Entry) → o ≡ Some e → IsFirst e) → if_fresh booking_service (tables0 depth) o ≡ listed o
+if_fresh_is : (depth : ℕ) (o : Option Entry) → ((e : Entry) → o ≡ Some e → IsFirst e) → if_fresh booking_service.programs (tables0 depth) o ≡ listed o
 if_fresh_is depth None k = refl
 if_fresh_is depth (Some e) k = rw (fresh_first depth e (k e refl)) refl
 
-fresh_joined : (depth : ℕ) (pending : List (Option Entry)) (n : ℕ) → ArePending pending → fresh_pending booking_service (tables0 depth) pending n ≡ joined pending n
+fresh_joined : (depth : ℕ) (pending : List (Option Entry)) (n : ℕ) → ArePending pending → fresh_pending booking_service.programs (tables0 depth) pending n ≡ joined pending n
 fresh_joined depth pending zero k = refl
 fresh_joined depth pending (suc n) k =
-    ap (λ xs. xs ++ if_fresh booking_service (tables0 depth) (pending_of pending (suc n))) (fresh_joined depth pending n k)
+    ap (λ xs. xs ++ if_fresh booking_service.programs (tables0 depth) (pending_of pending (suc n))) (fresh_joined depth pending n k)
     ∙ ap (λ ys. joined pending n ++ ys) (if_fresh_is depth (pending_of pending (suc n)) (k.first (suc n)))
 
-pub batch_is : (depth : ℕ) (pending : List (Option Entry)) → ArePending pending → take 8 (joined pending 16) ≡ batch_of booking_service (tables0 depth) pending
+pub batch_is : (depth : ℕ) (pending : List (Option Entry)) → ArePending pending → take 8 (joined pending 16) ≡ batch_of booking_service.programs (tables0 depth) pending
 batch_is depth pending k = ap (λ xs. take 8 xs) (sym (fresh_joined depth pending 16 k))
 
 pub take_again : {A : Type 0} (n : ℕ) (xs ys : List A) → take n (take n xs ++ ys) ≡ take n (xs ++ ys)
@@ -145,8 +145,8 @@ batch_next pending c n old new d k l e s g =
     let b : c + 1 ≡ suc c = omega arith in
     subst (λ z. new ≡ take 8 (joined pending z)) (sym b) (batch_more pending c old new d k l e (subst (λ z. new ≡ take 8 (old ++ listed (get_or pending z d))) a g))
 
-pub batch_made : (depth c : ℕ) (xs now : List (Option Entry)) (batch : List Entry) → ArePending xs → xs ≡ now → c ≡ 16 → batch ≡ take 8 (joined xs c) → batch ≡ batch_of booking_service (tables0 depth) now
-batch_made depth c xs now batch k v n e = e ∙ (ap (λ z. take 8 (joined xs z)) n ∙ (batch_is depth xs k ∙ ap (λ z. batch_of booking_service (tables0 depth) z) v))
+pub batch_made : (depth c : ℕ) (xs now : List (Option Entry)) (batch : List Entry) → ArePending xs → xs ≡ now → c ≡ 16 → batch ≡ take 8 (joined xs c) → batch ≡ batch_of booking_service.programs (tables0 depth) now
+batch_made depth c xs now batch k v n e = e ∙ (ap (λ z. take 8 (joined xs z)) n ∙ (batch_is depth xs k ∙ ap (λ z. batch_of booking_service.programs (tables0 depth) z) v))
 
 all-take : {A : Type 0} (P : A → Type 0) (n : ℕ) (xs : List A) → AllByRecursion P xs → AllByRecursion P (take n xs)
 all-take P zero xs k = tt
@@ -173,5 +173,5 @@ pub take_full : {A : Type 0} (n : ℕ) (xs ys : List A) → length xs ≡ n → 
 take_full n xs ys e = sym (subst (λ z. take z (xs ++ ys) ≡ xs) e (take-append_seam xs ys))
 
 -- the batch that can be offered fits
-pub batch_stands : (depth : ℕ) (xs now : List (Option Entry)) → ArePending xs → xs ≡ now → FitsMid (Batch (batch_of booking_service (tables0 depth) now))
-batch_stands depth xs now k v = batch_fits xs 16 (batch_of booking_service (tables0 depth) now) k (sym (batch_made depth 16 xs now (take 8 (joined xs 16)) k v refl refl))
+pub batch_stands : (depth : ℕ) (xs now : List (Option Entry)) → ArePending xs → xs ≡ now → FitsMid (Batch (batch_of booking_service.programs (tables0 depth) now))
+batch_stands depth xs now k v = batch_fits xs 16 (batch_of booking_service.programs (tables0 depth) now) k (sym (batch_made depth 16 xs now (take 8 (joined xs 16)) k v refl refl))

@@ -1,48 +1,45 @@
 -- A node restarts, and comes up from one of the lists that its disk stands for, or its disk fails.
-use Rattle.std.proofs.Common.{◌≡◌, ℕ, ◌+◌, ◌*◌, ◌<◌, ◌≤◌, Bool, true, false, cond, List, [], ◌∷◌, ◌++◌, refl, sym, ap, ◌∙◌, subst, inl, inr, arith, length, Some, Result, Ok, Err, zero, suc}
+use Rattle.std.proofs.Common.{◌≡◌, ℕ, ◌+◌, ◌*◌, ◌<◌, ◌≤◌, Bool, true, false, cond, List, [], ◌∷◌, ◌++◌, refl, sym, ap, ◌∙◌, subst, inl, inr, arith, length, Option, Some, None, Result, Ok, Err, zero, suc}
 use Rattle.std.specs.Prelude.{nat_lt, slice_get, slice_set, codes, ◌⊎◌}
 use Rattle.std.specs.List.{AllByRecursion}
 use Rattle.std.proofs.lemmas.Bool.{le-ltb, lt-ltb}
 use Rattle.aeg_base.specs.declared.limits.TheConstants.{JOURNAL_BYTES}
-use Rattle.svc_api.specs.Plan.{IsBackend}
 use Rattle.aeg_base.specs.declared.names.Tier.{Tier}
 use Rattle.aeg_base.specs.declared.names.Tier.TheVariants.{Mid as MidTier, Inv, Pay}
 use Rattle.aeg_base.specs.declared.names.NodeId.{NodeId}
 use Rattle.aeg_disk.specs.Disk.{DiskState, Later, Rose}
 use Rattle.fact_journal.specs.Standing.{StandsFor}
 use Rattle.fact_journal.proofs.Standing.{having_stands, same_stands}
-use Rattle.log_model.specs.Log.{open_at}
-use Rattle.log_model.specs.World.{Mode, Node as NodeOf, stands}
-use Rattle.log_model.specs.World.Mode.{Up, Down, Gone}
+use Rattle.server_model.specs.Backends.{Amounts}
+use Rattle.log_model.specs.Nodes.{Mode, Node as NodeOf, stands, up_from, up_as, found_at, restarted}
+use Rattle.log_model.specs.Nodes.Mode.{Up, Down, Gone}
 use Rattle.log_model.specs.Recover.{newest}
 use Rattle.log_values.specs.declared.fact.Fact.{Fact}
 use Rattle.log_values.specs.Records.{record_text}
 use Rattle.frames.specs.declared.turn.Fault.{Fault as NodeFault}
 use Rattle.frames.specs.declared.turn.Fault.TheVariants as faults
-use Rattle.tier_model.specs.MidRows as mids
-use Rattle.tier_model.specs.BackRows as backs
+use Rattle.tier_model.specs.Kinds.{State}
 use Rattle.run_model.specs.declared.trace.Found.{Found}
 use Rattle.run_model.specs.declared.trace.Found.TheVariants.{Reads as ReadsList, Fault as Fails}
 use Rattle.run_model.specs.World as worlds
-use Rattle.run_model.specs.World.{up_from, up_as, found_at, restarted}
-use Rattle.run_model.specs.Resolving.{others_at}
+use Rattle.run_model.specs.World.{kind_at, list_of}
 use Rattle.run_model.specs.Text as texts
-use Rattle.run_model.specs.BookingRuns.{config, booking_service, BookingWorld}
+use Rattle.run_model.specs.BookingRuns.{config, BookingWorld}
 use Rattle.world.specs.declared.nodes.all_nodes.Nodes.{Nodes}
 use Rattle.world.specs.declared.nodes.condition.Condition.TheVariants as conditions
 use Rattle.world.specs.Arming.{at_rest}
 use Rattle.world.specs.Calling.{found_of}
 use Rattle.world.specs.Disks.{IsReady, IsDiskOf, AreDisks, first_of}
-use Rattle.world.specs.Parts.{NodePart, MidRestarts, BackRestarts, as_mid, as_back, AllStand, MayRead, Reads, list_found, is_down_in}
-use Rattle.world.specs.NodeLists.{backs_of, condition_in, condition_at, mid_condition, back_condition, KeepTiers, RestartIn, down_in, mid_down, back_down}
+use Rattle.world.specs.Parts.{NodePart, View, PartOf, shape, open_in, Restarts, AllStand, MayRead, Reads, list_found, is_down_in}
+use Rattle.world.specs.NodeLists.{condition_in, condition_at, view_condition, KeepTiers, RestartIn, down_in, view_down}
 use Rattle.world.specs.Telling.{told_restart, HadMemory}
-use Rattle.world.specs.Standing.{mode_by, journal_of, IsPlaced, IsDoubted, IsOpen, IsNode, IsMid, IsBack, AreNodes, open_of_mid}
+use Rattle.world.specs.Standing.{mode_by, journal_of, state_at, IsPlaced, IsDoubted, IsOpen, IsNode, IsAt, AreNodes}
 use Rattle.world.proofs.Moving.{journal-last, size_is, rest_content, stand_alone}
-use Rattle.world.proofs.Backends.{backs_all, backs_disks, backs_condition, backs_restart}
+use Rattle.world.proofs.Tiers.{condition_is, down_is}
+use Rattle.world.proofs.Doing.{view_of, view_is, as_viewed}
 use Rattle.world.proofs.Commands.{Commanded}
-use Rattle.world.proofs.Placing.{mid_placed, back_placed, mid_kept, back_kept}
-use Rattle.world.proofs.Present.{node_condition}
-use Rattle.log_model.proofs.Basics.{get_within}
+use Rattle.world.proofs.Placing.{node_placed, node_kept}
+use Rattle.world.proofs.Present.{node_at, node_condition}
 use Rattle.fact_journal.proofs.Opens.{each_get}
 
 -- ONE OF THE LISTS
@@ -90,8 +87,8 @@ is_failing Fails = true
 
 -- it came up with one of the lists, or its disk failed
 pub record Risen {S T : Type 0} (t : Tier) (whole : S → T) (open_of : S → ℕ) (recover : List Fact → T) (node : NodeOf T Fact) (new : NodePart S) (disk disk_after : DiskState) (found : Found) : Type 0 where
-  pub is : IsNode t whole open_of (restarted recover node found node.mode) new
-  pub on : IsDiskOf (restarted recover node found node.mode) disk_after
+  pub is : IsNode t whole open_of (restarted recover node (list_of found) node.mode) new
+  pub on : IsDiskOf (restarted recover node (list_of found) node.mode) disk_after
   pub among : IsAmong node.others found
   pub cause : is_failing found ≡ true → Rose disk.faults disk_after.faults
 
@@ -123,8 +120,8 @@ rises {S} {T} t whole open_of recover node part new disk disk_after (Ok list) k 
     named : (found_at recover node list ≡ up_from recover h.1) × (list ≤ length node.others)
     named = names recover node part.doubt h.0 list part.place new.place h.1 k.doubted known h.2 place h.6
 
-    is_up : restarted recover node (ReadsList list) node.mode ≡ stands (Up (recover (newest h.1))) h.1
-    is_up = ap (restarted recover node (ReadsList list)) down ∙ named.0
+    is_up : restarted recover node (Some list) node.mode ≡ stands (Up (recover (newest h.1))) h.1
+    is_up = ap (restarted recover node (Some list)) down ∙ named.0
 rises {S} {T} t whole open_of recover node part new disk disk_after (Err faults.Disk) k d m memory h later = record {
   is = subst (λ z. IsNode t whole open_of z new) (sym same) (subst (IsNode t whole open_of node) (sym h.0) k);
   on = subst (λ z. IsDiskOf z disk_after) (sym same) (record { rest = later.free refl refl; lists = h.1; ready = subst (λ z. IsReady z node.records disk_after) (sym down) tt });
@@ -135,8 +132,8 @@ rises {S} {T} t whole open_of recover node part new disk disk_after (Err faults.
     down : node.mode ≡ Down
     down = k.mode ∙ ap (mode_by whole) m
 
-    same : restarted recover node Fails node.mode ≡ node
-    same = ap (restarted recover node Fails) down
+    same : restarted recover node None node.mode ≡ node
+    same = ap (restarted recover node None) down
 
     rose : (disk_after.stopped ≡ true) ⊎ Rose disk.faults disk_after.faults → Rose disk.faults disk_after.faults
     rose (inl e) = absurd (let f : disk_after.stopped ≡ false = (later.free refl refl).1 in cc)
@@ -177,97 +174,82 @@ rest_stands node disk d = same_stands (node.records ∷ node.others) disk (at_re
 
 -- WHAT A RESTART ASKS
 
-back_reads : (u depth : ℕ) (w : BookingWorld) (nodes : Nodes) (t : Tier) (x : ℕ) (disks : List DiskState) (disk : DiskState) → IsBackend t → u ≤ 2 → AreNodes u depth w nodes → AreDisks w disks → x < 2 * u + 1 → slice_get disks (first_of t + x) ≡ Some disk → MayRead t (at_rest disk)
-back_reads u depth w nodes t x disks disk r few k d l e =
-    let all = backs_all u depth w nodes t r k in
-    let m = get_within (backs_of nodes t) x (omega (arith, all.size, l)) in
-    ((w.backs t x).records ∷ (w.backs t x).others, rest_stands (w.backs t x) disk (backs_disks w disks t r d x disk (omega (arith, few, l)) e), (all.each x m.0 m.1).part.stand)
-
-pub may_read : (u depth : ℕ) (w : BookingWorld) (nodes : Nodes) (t : Tier) (x : ℕ) (disks : List DiskState) (disk : DiskState) → u ≤ 2 → AreNodes u depth w nodes → AreDisks w disks → x < 2 * u + 1 → slice_get disks (first_of t + x) ≡ Some disk → MayRead t (at_rest disk)
-may_read u depth w nodes MidTier x disks disk few k d l e =
-    let m = get_within nodes.mids.items x (omega (arith, k.mids.size, l)) in
-    ((w.mids x).records ∷ (w.mids x).others, rest_stands (w.mids x) disk (d.mids x disk (omega (arith, few, l)) e), (k.mids.each x m.0 m.1).part.stand)
-may_read u depth w nodes Inv x disks disk few k d l e = back_reads u depth w nodes Inv x disks disk tt few k d l e
-may_read u depth w nodes Pay x disks disk few k d l e = back_reads u depth w nodes Pay x disks disk tt few k d l e
+pub may_read : (u depth : ℕ) (w : BookingWorld) (nodes : Nodes) (t : Tier) (x : ℕ) (disks : List DiskState) (disk : DiskState) → u ≤ 2
+    → AreNodes u depth w nodes → AreDisks w disks → x < 2 * u + 1 → slice_get disks (first_of t + x) ≡ Some disk → MayRead t (at_rest disk)
+may_read u depth w nodes t x disks disk few k d l e =
+    let on = d.at t x disk (omega (arith, few, l)) e in
+    ((w.nodes t x).records ∷ (w.nodes t x).others, rest_stands (w.nodes t x) disk on, (node_at u depth w nodes t x k l).2.part.stand)
 
 pub keep_tiers : (u depth : ℕ) (w : BookingWorld) (nodes : Nodes) → AreNodes u depth w nodes → KeepTiers nodes
-keep_tiers u depth w nodes k = record { invs = λ x b e. (k.invs.each x b e).tier; pays = λ x b e. (k.pays.each x b e).tier }
+keep_tiers u depth w nodes k = record { invs = λ x b e. ((k.at Inv).each x b e).tier; pays = λ x b e. ((k.at Pay).each x b e).tier }
 
 down_by : {S : Type 0} (m : Mode S) → condition_in m ≡ conditions.Down → is_down_in m ≡ true
 down_by (Up s) e = absurd (cc)
 down_by Down e = refl
 down_by Gone e = absurd (cc)
 
-pub is_down_there : (u depth : ℕ) (w : BookingWorld) (nodes : Nodes) (t : Tier) (x : ℕ) → AreNodes u depth w nodes → x < 2 * u + 1 → condition_at nodes t x ≡ conditions.Down → down_in nodes t x ≡ true
-is_down_there u depth w nodes MidTier x k l e =
-    let m = get_within nodes.mids.items x (omega (arith, k.mids.size, l)) in
-    ap mid_down m.1 ∙ down_by m.0.part.mode (sym (ap mid_condition m.1) ∙ e)
-is_down_there u depth w nodes Inv x k l e =
-    let m = get_within nodes.invs.items x (omega (arith, k.invs.size, l)) in
-    ap back_down m.1 ∙ down_by m.0.part.mode (sym (ap back_condition m.1) ∙ e)
-is_down_there u depth w nodes Pay x k l e =
-    let m = get_within nodes.pays.items x (omega (arith, k.pays.size, l)) in
-    ap back_down m.1 ∙ down_by m.0.part.mode (sym (ap back_condition m.1) ∙ e)
+pub is_down_there : (u depth : ℕ) (w : BookingWorld) (nodes : Nodes) (t : Tier) (x : ℕ) → AreNodes u depth w nodes → x < 2 * u + 1
+    → condition_at nodes t x ≡ conditions.Down → down_in nodes t x ≡ true
+is_down_there u depth w nodes t x k l e =
+    let m = node_at u depth w nodes t x k l in
+    down_is nodes t x ∙ ap view_down m.1 ∙ down_by m.0.part.mode (sym (ap view_condition m.1) ∙ sym (condition_is nodes t x) ∙ e)
 
 -- THE NODE'S EVENT
 
-back_restart : (u depth : ℕ) (w : BookingWorld) (old new : Nodes) (n : NodeId) (disks : List DiskState) (disk disk_after : DiskState) (result : Result ℕ NodeFault) (t : Tier) → IsBackend t → u ≤ 2 → AreNodes u depth w old → AreDisks w disks → n.index < 2 * u + 1 → slice_get disks (first_of t + n.index) ≡ Some disk → condition_at old t n.index ≡ conditions.Down → HadMemory result → RestartIn old new t n.index (at_rest disk) disk_after result
-    → Commanded u depth w (worlds.back_node (config u depth) w t n.index (restarted (backs.recovered u booking_service t) (w.backs t n.index) (found_of result) (w.backs t n.index).mode)) new (slice_set disks (first_of t + n.index) disk_after) [] (texts.restart_text (texts.node_name n) (found_of result) (w.backs t n.index).mode) (told_restart n result) × IsAmong (w.backs t n.index).others (found_of result) × (is_failing (found_of result) ≡ true → Rose disk.faults disk_after.faults) × (disk.faults ≤ disk_after.faults)
-back_restart u depth w old new n disks disk disk_after result t back few k d l b c memory move =
-    let x = n.index in
-    let all = backs_all u depth w old t back k in
-    let m = get_within (backs_of old t) x (omega (arith, all.size, l)) in
-    let i = all.each x m.0 m.1 in
-    let moves = backs_restart t old new x (at_rest disk) disk_after result back move in
-    let v = moves.0 m.0 m.1 in
-    let h : BackRestarts (record { faults = u; tier = t; me = x; part = m.0.part }) v.0 (at_rest disk) disk_after result = subst (λ z. BackRestarts z v.0 (at_rest disk) disk_after result) (λ j. record { faults = i.faults j; tier = i.tier j; me = i.me j; part = m.0.part }) v.2 in
-    let on = backs_disks w disks t back d x disk (omega (arith, few, l)) b in
-    let down : m.0.part.mode ≡ Down = down_mode m.0.part.mode (sym (ap back_condition m.1) ∙ sym (backs_condition old t x back) ∙ c) in
-    let read = h.reads ((w.backs t x).records ∷ (w.backs t x).others) (rest_stands (w.backs t x) disk on) i.part.stand in
-    let r = rises t (as_back u t) open_at (backs.recovered u booking_service t) (w.backs t x) m.0.part v.0.part disk disk_after result i.part on down memory read h.later in
-    let to : IsBack u t x (restarted (backs.recovered u booking_service t) (w.backs t x) (found_of result) (w.backs t x).mode) v.0 = record { faults = h.same.0; tier = h.same.1.0; me = h.same.1.1; part = r.is } in (
-      back_placed u depth w old new t x disks disk_after (restarted (backs.recovered u booking_service t) (w.backs t x) (found_of result) (w.backs t x).mode) v.0 _ (told_restart n result) back few l k d to r.on v.1 moves.1
-          (told_is n result (w.backs t x).mode (i.part.mode ∙ ap (mode_by _) down) memory (read_is t (as_back u t) open_at (backs.recovered u booking_service t) m.0.part v.0.part (at_rest disk) disk_after ((w.backs t x).records ∷ (w.backs t x).others) result read)),
-      r.among,
-      r.cause,
-      h.later.faults,
-    )
+-- what the node of the tier reads
+reads_here : (u depth : ℕ) (t : Tier) (x : ℕ) (part : NodePart (PartOf t)) (v : View (PartOf t)) (before after : DiskState)
+    (lists : List (List (List Fact))) (result : Result ℕ NodeFault) → Restarts (shape t) (view_of u depth t x part) v before after result
+    → StandsFor lists before → AllStand t lists
+    → Reads t (state_at u depth t x) (open_in (shape t)) (kind_at (config u depth) t x).recovered part v.part before after lists result
+reads_here u depth MidTier x part v before after lists result h s a = h.reads lists s a
+reads_here u depth Inv x part v before after lists result h s a = h.reads lists s a
+reads_here u depth Pay x part v before after lists result h s a = h.reads lists s a
 
-pub restart_by : (u depth : ℕ) (w : BookingWorld) (old new : Nodes) (n : NodeId) (disks : List DiskState) (disk disk_after : DiskState) (result : Result ℕ NodeFault) (t : Tier) → u ≤ 2 → AreNodes u depth w old → AreDisks w disks → n.index < 2 * u + 1 → slice_get disks (first_of t + n.index) ≡ Some disk → condition_at old t n.index ≡ conditions.Down → HadMemory result → RestartIn old new t n.index (at_rest disk) disk_after result
-    → Commanded u depth w (worlds.restarts (config u depth) w (found_of result) t n.index) new (slice_set disks (first_of t + n.index) disk_after) [] (texts.by_mode w (λ S. texts.restart_text {S = S} (texts.node_name n) (found_of result)) t n.index) (told_restart n result) × IsAmong (others_at w t n.index) (found_of result) × (is_failing (found_of result) ≡ true → Rose disk.faults disk_after.faults) × (disk.faults ≤ disk_after.faults)
-restart_by u depth w old new n disks disk disk_after result MidTier few k d l b c memory move =
+pub restart_by : (u depth : ℕ) (w : BookingWorld) (old new : Nodes) (n : NodeId) (disks : List DiskState) (disk disk_after : DiskState)
+    (result : Result ℕ NodeFault) (t : Tier) → u ≤ 2 → AreNodes u depth w old → AreDisks w disks → n.index < 2 * u + 1
+    → slice_get disks (first_of t + n.index) ≡ Some disk → condition_at old t n.index ≡ conditions.Down → HadMemory result
+    → RestartIn old new t n.index (at_rest disk) disk_after result
+    → Commanded u depth w (worlds.restarts (config u depth) w (found_of result) t n.index) new (slice_set disks (first_of t + n.index) disk_after) []
+    (texts.restart_text (texts.node_name n) (found_of result) (w.nodes t n.index).mode) (told_restart n result)
+    × IsAmong (w.nodes t n.index).others (found_of result) × (is_failing (found_of result) ≡ true → Rose disk.faults disk_after.faults)
+    × (disk.faults ≤ disk_after.faults)
+restart_by u depth w old new n disks disk disk_after result t few k d l b c memory move =
     let x = n.index in
-    let m = get_within old.mids.items x (omega (arith, k.mids.size, l)) in
-    let i = k.mids.each x m.0 m.1 in
+    let m = node_at u depth w old t x k l in
+    let i = m.2 in
     let v = move.0 m.0 m.1 in
-    let h : MidRestarts (record { faults = u; depth = depth; me = x; part = m.0.part }) v.0 (at_rest disk) disk_after result = subst (λ z. MidRestarts z v.0 (at_rest disk) disk_after result) (λ j. record { faults = i.faults j; depth = i.deep j; me = i.me j; part = m.0.part }) v.2 in
-    let on = d.mids x disk (omega (arith, few, l)) b in
-    let down : m.0.part.mode ≡ Down = down_mode m.0.part.mode (sym (ap mid_condition m.1) ∙ c) in
-    let read = h.reads ((w.mids x).records ∷ (w.mids x).others) (rest_stands (w.mids x) disk on) i.part.stand in
-    let r = rises MidTier (as_mid depth) open_of_mid (mids.recovered u booking_service depth) (w.mids x) m.0.part v.0.part disk disk_after result i.part on down memory read h.later in
-    let to : IsMid u depth x (restarted (mids.recovered u booking_service depth) (w.mids x) (found_of result) (w.mids x).mode) v.0 = record { faults = h.same.0; deep = h.same.1.0; me = h.same.1.1; part = r.is } in (
-      mid_placed u depth w old new x disks disk_after (restarted (mids.recovered u booking_service depth) (w.mids x) (found_of result) (w.mids x).mode) v.0 _ (told_restart n result) few l k d to r.on v.1 move.1
-          (told_is n result (w.mids x).mode (i.part.mode ∙ ap (mode_by _) down) memory (read_is MidTier (as_mid depth) open_of_mid (mids.recovered u booking_service depth) m.0.part v.0.part (at_rest disk) disk_after ((w.mids x).records ∷ (w.mids x).others) result read)),
+    let node = w.nodes t x in
+    let lists = node.records ∷ node.others in
+    let recover : List Fact → State Amounts t = (kind_at (config u depth) t x).recovered in
+    let h : Restarts (shape t) (view_of u depth t x m.0.part) v.0 (at_rest disk) disk_after result =
+    subst (λ z. Restarts (shape t) z v.0 (at_rest disk) disk_after result) (view_is u depth t x node m.0 i) v.2 in
+    let on = d.at t x disk (omega (arith, few, l)) b in
+    let down : m.0.part.mode ≡ Down = down_mode m.0.part.mode (sym (ap view_condition m.1) ∙ sym (condition_is old t x) ∙ c) in
+    let read = reads_here u depth t x m.0.part v.0 (at_rest disk) disk_after lists result h (rest_stands node disk on) i.part.stand in
+    let r = rises t (state_at u depth t x) (open_in (shape t)) recover node m.0.part v.0.part disk disk_after result i.part on down memory read h.later in
+    let up = restarted recover node (list_of (found_of result)) node.mode in
+    let to : IsAt u depth t x up v.0 = as_viewed u depth t x v.0 h.same up v.0.part r.is in (
+      node_placed u depth w old new t x disks disk_after up v.0 _ (told_restart n result) few l k d to r.on v.1 move.1
+          (told_is n result node.mode (i.part.mode ∙ ap (mode_by _) down) memory
+          (read_is t (state_at u depth t x) (open_in (shape t)) recover m.0.part v.0.part (at_rest disk) disk_after lists result read)),
       r.among,
       r.cause,
       h.later.faults,
     )
-restart_by u depth w old new n disks disk disk_after result Inv few k d l b c memory move = back_restart u depth w old new n disks disk disk_after result Inv tt few k d l b c memory move
-restart_by u depth w old new n disks disk disk_after result Pay few k d l b c memory move = back_restart u depth w old new n disks disk disk_after result Pay tt few k d l b c memory move
 
 -- A NODE THAT ISN'T DOWN
 
-restarted_up : {S : Type 0} (recover : List Fact → S) (node : NodeOf S Fact) (found : Found) (m : Mode S) → condition_in m ≡ conditions.Up → restarted recover node found m ≡ node
-restarted_up recover node (ReadsList k) (Up s) e = refl
-restarted_up recover node Fails (Up s) e = refl
+restarted_up : {S : Type 0} (recover : List Fact → S) (node : NodeOf S Fact) (found : Option ℕ) (m : Mode S) → condition_in m ≡ conditions.Up → restarted recover node found m ≡ node
+restarted_up recover node (Some k) (Up s) e = refl
+restarted_up recover node None (Up s) e = refl
 restarted_up recover node found Down e = absurd (cc)
 restarted_up recover node found Gone e = absurd (cc)
 
-restarted_gone : {S : Type 0} (recover : List Fact → S) (node : NodeOf S Fact) (found : Found) (m : Mode S) → condition_in m ≡ conditions.Gone → restarted recover node found m ≡ node
+restarted_gone : {S : Type 0} (recover : List Fact → S) (node : NodeOf S Fact) (found : Option ℕ) (m : Mode S) → condition_in m ≡ conditions.Gone → restarted recover node found m ≡ node
 restarted_gone recover node found (Up s) e = absurd (cc)
 restarted_gone recover node found Down e = absurd (cc)
-restarted_gone recover node (ReadsList k) Gone e = refl
-restarted_gone recover node Fails Gone e = refl
+restarted_gone recover node (Some k) Gone e = refl
+restarted_gone recover node None Gone e = refl
 
 up_told : {S : Type 0} (n : NodeId) (found : Found) (m : Mode S) → condition_in m ≡ conditions.Up → texts.restart_text (texts.node_name n) found m ≡ texts.idle_line (texts.node_name n) (codes "up")
 up_told n found (Up s) e = refl
@@ -279,26 +261,24 @@ gone_told n found (Up s) e = absurd (cc)
 gone_told n found Down e = absurd (cc)
 gone_told n found Gone e = refl
 
-pub restart_up : (u depth : ℕ) (w : BookingWorld) (old : Nodes) (n : NodeId) (disks : List DiskState) (found : Found) (t : Tier) → u ≤ 2 → AreNodes u depth w old → AreDisks w disks → n.index < 2 * u + 1 → condition_at old t n.index ≡ conditions.Up
-    → Commanded u depth w (worlds.restarts (config u depth) w found t n.index) old disks [] (texts.by_mode w (λ S. texts.restart_text {S = S} (texts.node_name n) found) t n.index) (texts.idle_line (texts.node_name n) (codes "up"))
-restart_up u depth w old n disks found MidTier few k d l e =
-    let is : condition_in (w.mids n.index).mode ≡ conditions.Up = sym (node_condition u depth w old MidTier n.index k l) ∙ e in
-    mid_kept u depth w old n.index disks (restarted (mids.recovered u booking_service depth) (w.mids n.index) found (w.mids n.index).mode) _ (texts.idle_line (texts.node_name n) (codes "up")) few l k d (restarted_up (mids.recovered u booking_service depth) (w.mids n.index) found (w.mids n.index).mode is) (up_told n found (w.mids n.index).mode is)
-restart_up u depth w old n disks found Inv few k d l e =
-    let is : condition_in (w.backs Inv n.index).mode ≡ conditions.Up = sym (node_condition u depth w old Inv n.index k l) ∙ e in
-    back_kept u depth w old Inv n.index disks (restarted (backs.recovered u booking_service Inv) (w.backs Inv n.index) found (w.backs Inv n.index).mode) _ (texts.idle_line (texts.node_name n) (codes "up")) tt few l k d (restarted_up (backs.recovered u booking_service Inv) (w.backs Inv n.index) found (w.backs Inv n.index).mode is) (up_told n found (w.backs Inv n.index).mode is)
-restart_up u depth w old n disks found Pay few k d l e =
-    let is : condition_in (w.backs Pay n.index).mode ≡ conditions.Up = sym (node_condition u depth w old Pay n.index k l) ∙ e in
-    back_kept u depth w old Pay n.index disks (restarted (backs.recovered u booking_service Pay) (w.backs Pay n.index) found (w.backs Pay n.index).mode) _ (texts.idle_line (texts.node_name n) (codes "up")) tt few l k d (restarted_up (backs.recovered u booking_service Pay) (w.backs Pay n.index) found (w.backs Pay n.index).mode is) (up_told n found (w.backs Pay n.index).mode is)
+pub restart_up : (u depth : ℕ) (w : BookingWorld) (old : Nodes) (n : NodeId) (disks : List DiskState) (found : Found) (t : Tier) → u ≤ 2
+    → AreNodes u depth w old → AreDisks w disks → n.index < 2 * u + 1 → condition_at old t n.index ≡ conditions.Up
+    → Commanded u depth w (worlds.restarts (config u depth) w found t n.index) old disks []
+    (texts.restart_text (texts.node_name n) found (w.nodes t n.index).mode) (texts.idle_line (texts.node_name n) (codes "up"))
+restart_up u depth w old n disks found t few k d l e =
+    let node = w.nodes t n.index in
+    let recover : List Fact → State Amounts t = (kind_at (config u depth) t n.index).recovered in
+    let is : condition_in node.mode ≡ conditions.Up = sym (node_condition u depth w old t n.index k l) ∙ e in
+    node_kept u depth w old t n.index disks (restarted recover node (list_of found) node.mode) _ (texts.idle_line (texts.node_name n) (codes "up")) few l k d
+    (restarted_up recover node (list_of found) node.mode is) (up_told n found node.mode is)
 
-pub restart_gone : (u depth : ℕ) (w : BookingWorld) (old : Nodes) (n : NodeId) (disks : List DiskState) (found : Found) (t : Tier) → u ≤ 2 → AreNodes u depth w old → AreDisks w disks → n.index < 2 * u + 1 → condition_at old t n.index ≡ conditions.Gone
-    → Commanded u depth w (worlds.restarts (config u depth) w found t n.index) old disks [] (texts.by_mode w (λ S. texts.restart_text {S = S} (texts.node_name n) found) t n.index) (texts.gone_line (texts.node_name n))
-restart_gone u depth w old n disks found MidTier few k d l e =
-    let is : condition_in (w.mids n.index).mode ≡ conditions.Gone = sym (node_condition u depth w old MidTier n.index k l) ∙ e in
-    mid_kept u depth w old n.index disks (restarted (mids.recovered u booking_service depth) (w.mids n.index) found (w.mids n.index).mode) _ (texts.gone_line (texts.node_name n)) few l k d (restarted_gone (mids.recovered u booking_service depth) (w.mids n.index) found (w.mids n.index).mode is) (gone_told n found (w.mids n.index).mode is)
-restart_gone u depth w old n disks found Inv few k d l e =
-    let is : condition_in (w.backs Inv n.index).mode ≡ conditions.Gone = sym (node_condition u depth w old Inv n.index k l) ∙ e in
-    back_kept u depth w old Inv n.index disks (restarted (backs.recovered u booking_service Inv) (w.backs Inv n.index) found (w.backs Inv n.index).mode) _ (texts.gone_line (texts.node_name n)) tt few l k d (restarted_gone (backs.recovered u booking_service Inv) (w.backs Inv n.index) found (w.backs Inv n.index).mode is) (gone_told n found (w.backs Inv n.index).mode is)
-restart_gone u depth w old n disks found Pay few k d l e =
-    let is : condition_in (w.backs Pay n.index).mode ≡ conditions.Gone = sym (node_condition u depth w old Pay n.index k l) ∙ e in
-    back_kept u depth w old Pay n.index disks (restarted (backs.recovered u booking_service Pay) (w.backs Pay n.index) found (w.backs Pay n.index).mode) _ (texts.gone_line (texts.node_name n)) tt few l k d (restarted_gone (backs.recovered u booking_service Pay) (w.backs Pay n.index) found (w.backs Pay n.index).mode is) (gone_told n found (w.backs Pay n.index).mode is)
+pub restart_gone : (u depth : ℕ) (w : BookingWorld) (old : Nodes) (n : NodeId) (disks : List DiskState) (found : Found) (t : Tier) → u ≤ 2
+    → AreNodes u depth w old → AreDisks w disks → n.index < 2 * u + 1 → condition_at old t n.index ≡ conditions.Gone
+    → Commanded u depth w (worlds.restarts (config u depth) w found t n.index) old disks []
+    (texts.restart_text (texts.node_name n) found (w.nodes t n.index).mode) (texts.gone_line (texts.node_name n))
+restart_gone u depth w old n disks found t few k d l e =
+    let node = w.nodes t n.index in
+    let recover : List Fact → State Amounts t = (kind_at (config u depth) t n.index).recovered in
+    let is : condition_in node.mode ≡ conditions.Gone = sym (node_condition u depth w old t n.index k l) ∙ e in
+    node_kept u depth w old t n.index disks (restarted recover node (list_of found) node.mode) _ (texts.gone_line (texts.node_name n)) few l k d
+    (restarted_gone recover node (list_of found) node.mode is) (gone_told n found node.mode is)

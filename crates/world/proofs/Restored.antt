@@ -17,8 +17,8 @@ use Rattle.log_model.specs.declared.fact.Fact.{Fact as LogFact}
 use Rattle.log_model.specs.Log.{LogState, open_at}
 use Rattle.log_model.specs.Ranges.{IsLogIn}
 use Rattle.log_model.specs.Recover.{onto, newest, recover}
-use Rattle.log_model.specs.World.{Mode}
-use Rattle.log_model.specs.World.Mode.{Up, Down, Gone}
+use Rattle.log_model.specs.Nodes.{Mode}
+use Rattle.log_model.specs.Nodes.Mode.{Up, Down, Gone}
 use Rattle.log_values.specs.declared.any_value.AnyValue.{AnyValue}
 use Rattle.log_values.specs.declared.entry.Entry.{Entry}
 use Rattle.log_values.specs.declared.fact.Fact.{Fact}
@@ -30,6 +30,7 @@ use Rattle.paxos_log.specs.TierLog.{NodeLog, with_state, new_log, newest_first}
 use Rattle.round_model.specs.Lists.{and_then}
 use Rattle.round_model.specs.After.{batch_at, verdict_at}
 use Rattle.round_model.specs.Tables.{tables0}
+use Rattle.round_model.specs.Held.{none_held}
 use Rattle.tier_model.specs.Moves.{log_facts, held_in}
 use Rattle.tier_model.specs.Mid.{Mid, Ready, ready, apply}
 use Rattle.tier_model.specs.MidRows as mids
@@ -116,21 +117,22 @@ restart_reads u me known doubt gone o now v down fresh log logs facts a b at pla
 
 -- NOTHING IS APPLIED
 
-none_held : (t : Tier) (fs older : List Fact) → AllByRecursion (CanWrite t) fs → held_in older ≡ [] → held_in (onto fs older) ≡ []
-none_held t [] older k e = e
-none_held t (Promised b ∷ fs) older k e = none_held t fs (Promised b ∷ older) k.1 e
-none_held t (Accepted p b v ∷ fs) older k e = none_held t fs (Accepted p b v ∷ older) k.1 e
-none_held t (Learned p v ∷ fs) older k e = none_held t fs (Learned p v ∷ older) k.1 e
-none_held t (Held w number code ∷ fs) older k e = absurd k.0
+nothing_held : (u x : ℕ) (t : Tier) (fs older : List Fact) → AllByRecursion (CanWrite t) fs → held_in u x older ≡ none_held u x
+    → held_in u x (onto fs older) ≡ none_held u x
+nothing_held u x t [] older k e = e
+nothing_held u x t (Promised b ∷ fs) older k e = nothing_held u x t fs (Promised b ∷ older) k.1 e
+nothing_held u x t (Accepted p b v ∷ fs) older k e = nothing_held u x t fs (Accepted p b v ∷ older) k.1 e
+nothing_held u x t (Learned p v ∷ fs) older k e = nothing_held u x t fs (Learned p v ∷ older) k.1 e
+nothing_held u x t (Held w number code ∷ fs) older k e = absurd k.0
 
 both_or_none : {A B C : Type 0} (a : Option A) (b : Option B) (g : A → B → Option C) → b ≡ None → and_then a (λ x. and_then b (g x)) ≡ None
 both_or_none None b g e = refl
 both_or_none (Some x) b g e = ap (λ z. and_then z (g x)) e
 
 -- no round is ready while there is no verdict
-caught : (n : ℕ) (σ : Mid) → ready booking_service σ ≡ None → mids.catch_up booking_service n σ ≡ σ
+caught : (n : ℕ) (σ : Mid) → ready booking_service.programs σ ≡ None → mids.catch_up booking_service.programs n σ ≡ σ
 caught zero σ e = refl
-caught (suc n) σ e = ap (λ (o : Option Ready). elim o [ None ↦ σ | Some R ↦ mids.catch_up booking_service n (apply σ R) ]) e
+caught (suc n) σ e = ap (λ (o : Option Ready). elim o [ None ↦ σ | Some R ↦ mids.catch_up booking_service.programs n (apply σ R) ]) e
 
 no_verdict_yet : (vs : List AnyValue) → length vs ≤ 1 → verdict_at vs 0 ≡ None
 no_verdict_yet [] l = refl
@@ -138,50 +140,50 @@ no_verdict_yet (v ∷ []) l = refl
 no_verdict_yet (v ∷ w ∷ vs) l = absurd (omega arith)
 
 -- a middle node
-pub mid_recovers : (u depth : ℕ) (rs : List (List Fact)) (log : LogState AnyValue) → AllByRecursion (CanWrite InMid) (all_facts rs) → log ≡ recover u (log_facts (newest rs)) → length log.learned ≤ 1
-    → as_mid depth (record { log = log; pending = replicate 17 None }) ≡ mids.recovered u booking_service depth (newest rs)
-mid_recovers u depth rs log can e l = sym (
-    caught (length (recover u (log_facts (newest rs))).learned) (mids.bare u depth (newest rs)) never
-    ∙ (ap (λ z. record { log = recover u (log_facts (newest rs)); applied = 0; tables = tables0 depth; pending = replicate 17 None; tally = []; spec = None; held = z; noted = [] }) held
-    ∙ ap (λ z. as_mid depth (record { log = z; pending = replicate 17 None })) (sym e)))
+pub mid_recovers : (u x depth : ℕ) (rs : List (List Fact)) (log : LogState AnyValue) → AllByRecursion (CanWrite InMid) (all_facts rs) → log ≡ recover u (log_facts (newest rs)) → length log.learned ≤ 1
+    → as_mid u x depth (record { log = log; pending = replicate 17 None }) ≡ mids.recovered u booking_service.programs depth x (newest rs)
+mid_recovers u x depth rs log can e l = sym (
+    caught (length (recover u (log_facts (newest rs))).learned) (mids.bare u depth x (newest rs)) never
+    ∙ (ap (λ z. record { log = recover u (log_facts (newest rs)); applied = 0; tables = tables0 depth; pending = replicate 17 None; tally = []; spec = None; held = z }) held
+    ∙ ap (λ z. as_mid u x depth (record { log = z; pending = replicate 17 None })) (sym e)))
   where
-    held : held_in (newest rs) ≡ []
-    held = ap held_in (newest_facts rs) ∙ none_held InMid (all_facts rs) [] can refl
+    held : held_in u x (newest rs) ≡ none_held u x
+    held = ap (held_in u x) (newest_facts rs) ∙ nothing_held u x InMid (all_facts rs) [] can refl
 
     few : length (recover u (log_facts (newest rs))).learned ≤ 1
     few = subst (λ (z : LogState AnyValue). length z.learned ≤ 1) e l
 
-    never : ready booking_service (mids.bare u depth (newest rs)) ≡ None
+    never : ready booking_service.programs (mids.bare u depth x (newest rs)) ≡ None
     never = both_or_none (batch_at (recover u (log_facts (newest rs))).learned 0) (verdict_at (recover u (log_facts (newest rs))).learned 0) _ (no_verdict_yet (recover u (log_facts (newest rs))).learned few)
 
 -- a backend node
 pub back_recovers : (u : ℕ) (t : Tier) (rs : List (List Fact)) (log : LogState AnyValue) → log ≡ recover u (log_facts (newest rs)) → length log.learned ≡ 0
-    → as_back u t log ≡ backs.recovered u booking_service t (newest rs)
+    → as_back u t log ≡ backs.recovered u (booking_service.backend t) (newest rs)
 back_recovers u t rs log e l = sym (
-    ap (λ z. backs.after_values booking_service t (backs.bare u booking_service t (newest rs)) z) (nil_from_length (recover u (log_facts (newest rs))).learned (subst (λ (z : LogState AnyValue). length z.learned ≡ 0) e l))
+    ap (λ z. backs.after_values (booking_service.backend t) (backs.bare u (booking_service.backend t) (newest rs)) z) (nil_from_length (recover u (log_facts (newest rs))).learned (subst (λ (z : LogState AnyValue). length z.learned ≡ 0) e l))
     ∙ ap (λ z. as_back u t z) (sym e))
 
 -- THE NODES
 
-mid_reads : (u depth : ℕ) (lists : List (List (List Fact))) (old new : NodePart (LogState AnyValue)) (pending fresh : List (Option Entry)) (a b : DiskState) (result : Result ℕ Fault) → old.mode ≡ Down → AllStand InMid lists → fresh ≡ replicate 17 None
+mid_reads : (u x depth : ℕ) (lists : List (List (List Fact))) (old new : NodePart (LogState AnyValue)) (pending fresh : List (Option Entry)) (a b : DiskState) (result : Result ℕ Fault) → old.mode ≡ Down → AllStand InMid lists → fresh ≡ replicate 17 None
     → Reads InMid log_itself open_at (λ fs. recover u (log_facts fs)) old new a b lists result
-    → Reads InMid (as_mid depth) (λ part. open_at part.log) (mids.recovered u booking_service depth) (mid_part old pending) (mid_part new fresh) a b lists result
-mid_reads u depth lists old new pending fresh a b (Ok list) down stand f (k, rs, e, (log, m, g, o), d, has, h) =
+    → Reads InMid (as_mid u x depth) (λ part. open_at part.log) (mids.recovered u booking_service.programs depth x) (mid_part old pending) (mid_part new fresh) a b lists result
+mid_reads u x depth lists old new pending fresh a b (Ok list) down stand f (k, rs, e, (log, m, g, o), d, has, h) =
     let fits = one_fits InMid lists k rs stand e in
     let inside : IsLogIn (CanStand InMid) FitsBallot log = subst (IsLogIn (CanStand InMid) FitsBallot) (sym (g ∙ ap (λ z. recover u z) (newest_log rs))) (restored_stands u InMid (all_facts rs) fits.0 fits.1) in (
       k,
       rs,
       e,
-      (record { log = log; pending = replicate 17 None }, ap (λ z. mid_mode z fresh) m ∙ ap (λ z. mid_mode (Up log) z) f, mid_recovers u depth rs log fits.1 g (at_most_one log inside), o),
+      (record { log = log; pending = replicate 17 None }, ap (λ z. mid_mode z fresh) m ∙ ap (λ z. mid_mode (Up log) z) f, mid_recovers u x depth rs log fits.1 g (at_most_one log inside), o),
       d,
       has,
       h,
     )
-mid_reads u depth lists old new pending fresh a b (Err faults.Disk) down stand f (same, stands, cause) =
+mid_reads u x depth lists old new pending fresh a b (Err faults.Disk) down stand f (same, stands, cause) =
     (ap (λ z. mid_part z fresh) same ∙ ap (λ z. record { mode = z; place = old.place; doubt = old.doubt }) (ap (λ z. mid_mode z fresh) down ∙ sym (ap (λ z. mid_mode z pending) down)), stands, cause)
-mid_reads u depth lists old new pending fresh a b (Err faults.Memory) down stand f k = tt
-mid_reads u depth lists old new pending fresh a b (Err (faults.JournalFull n)) down stand f k = absurd k
-mid_reads u depth lists old new pending fresh a b (Err (faults.BadRecord n)) down stand f k = absurd k
+mid_reads u x depth lists old new pending fresh a b (Err faults.Memory) down stand f k = tt
+mid_reads u x depth lists old new pending fresh a b (Err (faults.JournalFull n)) down stand f k = absurd k
+mid_reads u x depth lists old new pending fresh a b (Err (faults.BadRecord n)) down stand f k = absurd k
 
 -- what the log's node told of its restart
 abbrev pub LogReads : LogView → LogView → DiskState → DiskState → Result ℕ Fault → Type 0
@@ -196,15 +198,15 @@ mid_is_down Gone pending e = absurd (cc)
 pub mid_restarts : (depth : ℕ) (old new : LogView) (pending fresh : List (Option Entry)) (now : MidView) (a b : DiskState) (result : Result ℕ Fault) → mid_view old depth pending ≡ now → old.tier ≡ InMid → now.part.mode ≡ Down → fresh ≡ replicate 17 None
     → LogReads old new a b result → Later a b → IsSameNode old new → MidRestarts now (mid_view new depth fresh) a b result
 mid_restarts depth old new pending fresh now a b result v tier down f reads later same = subst (λ (z : MidView). MidRestarts z (mid_view new depth fresh) a b result) v (record {
-  reads = λ lists stands all. mid_reads old.faults depth lists old.part new.part pending fresh a b result (mid_is_down old.part.mode pending (ap (λ (z : MidView). z.part.mode) v ∙ down)) all f
+  reads = λ lists stands all. mid_reads old.faults old.me depth lists old.part new.part pending fresh a b result (mid_is_down old.part.mode pending (ap (λ (z : MidView). z.part.mode) v ∙ down)) all f
       (subst (λ z. Reads z log_itself open_at (λ fs. recover old.faults (log_facts fs)) old.part new.part a b lists result) tier (reads lists stands (subst (λ z. AllStand z lists) (sym tier) all)));
   later = later;
-  same = (same.0, (refl, same.1.1));
+  same = (same.0, (refl, (refl, same.1.1)));
 })
 
 back_reads : (u : ℕ) (t : Tier) (lists : List (List (List Fact))) (old new : NodePart (LogState AnyValue)) (a b : DiskState) (result : Result ℕ Fault) → IsBackend t → AllStand t lists
     → Reads t log_itself open_at (λ fs. recover u (log_facts fs)) old new a b lists result
-    → Reads t (as_back u t) open_at (backs.recovered u booking_service t) old new a b lists result
+    → Reads t (as_back u t) open_at (backs.recovered u (booking_service.backend t)) old new a b lists result
 back_reads u t lists old new a b (Ok list) is stand (k, rs, e, (log, m, g, o), d, has, h) =
     let fits = one_fits t lists k rs stand e in
     let inside : IsLogIn (CanStand t) FitsBallot log = subst (IsLogIn (CanStand t) FitsBallot) (sym (g ∙ ap (λ z. recover u z) (newest_log rs))) (restored_stands u t (all_facts rs) fits.0 fits.1) in
@@ -218,5 +220,5 @@ pub back_restarts : (old new : LogView) (now : BackView) (a b : DiskState) (resu
 back_restarts old new now a b result v is reads later same = subst (λ (z : BackView). BackRestarts z (back_view new) a b result) v (record {
   reads = λ lists stands all. back_reads old.faults old.tier lists old.part new.part a b result is all (reads lists stands all);
   later = later;
-  same = same;
+  same = (same.0, (same.1.0, (refl, same.1.1)));
 })

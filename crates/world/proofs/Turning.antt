@@ -24,8 +24,8 @@ use Rattle.log_model.specs.declared.turn.LogTurn.{LogTurn}
 use Rattle.log_model.specs.Log.{LogState, Turn, told, open_at, is}
 use Rattle.log_model.specs.Rows.{lead, offer, on_msg}
 use Rattle.log_model.specs.Ranges.{IsLogIn, IsTurnIn, IsOwnIn}
-use Rattle.log_model.specs.World.{Mode, writes}
-use Rattle.log_model.specs.World.Mode.{Up, Down}
+use Rattle.log_model.specs.Nodes.{Mode, writes}
+use Rattle.log_model.specs.Nodes.Mode.{Up, Down}
 use Rattle.log_model.proofs.Ranged.{msg_in, lead_in, offer_in}
 use Rattle.log_values.specs.declared.any_value.AnyValue.{AnyValue}
 use Rattle.log_values.specs.declared.fact.Fact.{Fact}

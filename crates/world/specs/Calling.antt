@@ -6,12 +6,8 @@ use Rattle.aeg_base.specs.declared.names.NodeId.{NodeId}
 use Rattle.aeg_base.specs.declared.names.End.{End}
 use Rattle.aeg_base.specs.declared.names.Tier.{Tier}
 use Rattle.aeg_disk.specs.Disk.{DiskState}
-use Rattle.server_model.specs.Backends.{Amounts}
 use Rattle.frames.specs.declared.turn.Turn.{Turn as Answer}
 use Rattle.frames.specs.declared.turn.Fault.{Fault}
-use Rattle.tier_model.specs.Moves.{Move}
-use Rattle.tier_model.specs.Mid.{Mid}
-use Rattle.tier_model.specs.Back.{Back}
 use Rattle.run_model.specs.declared.trace.Found.{Found}
 use Rattle.run_model.specs.declared.trace.Found.TheVariants.{Reads, Fault as Fails}
 use Rattle.run_model.specs.Text.{node_name, idle_line, gone_line}
@@ -21,8 +17,8 @@ use Rattle.world.specs.declared.nodes.condition.Condition.TheVariants.{Up, Down,
 use Rattle.world.specs.declared.parts.arming.StopAt.{StopAt}
 use Rattle.world.specs.declared.parts.Parts.{Parts}
 use Rattle.world.specs.Arming.{armed_with, at_rest}
-use Rattle.world.specs.Parts.{MidView, BackView, is_sure_now}
-use Rattle.world.specs.NodeLists.{MoveIn, ChangedIn}
+use Rattle.world.specs.Parts.{is_sure_now}
+use Rattle.world.specs.NodeLists.{RowOf, MoveIn, ChangedIn}
 use Rattle.world.specs.Watching.{hears_packets, all_grown}
 
 -- where the armed stop was met, the node is sure of its disk
@@ -31,10 +27,10 @@ IsSureIf true old new t x = ChangedIn old new t x (λ S. is_sure_now {S = S})
 IsSureIf false old new t x = new ≡ old
 
 -- The disk was armed, the node made its move, and the power was put back.
-pub record Called (old new : Nodes) (t : Tier) (x : ℕ) (stop : Option StopAt) (disk_before disk_after : DiskState) (before after : List (End × List ℕ)) (mid : MidView → Mid → Move Mid) (back : BackView → Back Amounts → Move (Back Amounts)) (answer : Result Answer Fault) (met : Bool) : Type 0 where
+pub record Called (old new : Nodes) (t : Tier) (x : ℕ) (stop : Option StopAt) (disk_before disk_after : DiskState) (before after : List (End × List ℕ)) (row : RowOf) (answer : Result Answer Fault) (met : Bool) : Type 0 where
   pub between : Nodes
   pub called : DiskState
-  pub moves : MoveIn old between t x (armed_with stop disk_before) called before after mid back answer
+  pub moves : MoveIn old between t x (armed_with stop disk_before) called before after row answer
   pub stopped : met ≡ called.stopped
   pub rests : disk_after ≡ at_rest called
   pub sure : IsSureIf met between new t x

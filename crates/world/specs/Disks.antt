@@ -7,8 +7,8 @@ use Rattle.aeg_base.specs.declared.names.Tier.{Tier}
 use Rattle.aeg_base.specs.declared.names.Tier.TheVariants as tiers
 use Rattle.aeg_disk.specs.Disk.{DiskState, Rose}
 use Rattle.fact_journal.specs.Standing.{HasFacts, StandsFor, IsAtRest, IsBlank}
-use Rattle.log_model.specs.World.{Mode, Node as NodeOf}
-use Rattle.log_model.specs.World.Mode.{Up, Down, Gone}
+use Rattle.log_model.specs.Nodes.{Mode, Node as NodeOf}
+use Rattle.log_model.specs.Nodes.Mode.{Up, Down, Gone}
 use Rattle.log_values.specs.declared.fact.Fact.{Fact}
 use Rattle.tier_model.specs.Moves.{Packet}
 use Rattle.run_model.specs.declared.trace.Fared.{Fared}
@@ -51,9 +51,7 @@ AreDisksOf nodes first disks = (x : ℕ) (disk : DiskState) → x < 5 → slice_
 -- there are 15 disks, and each is its node's
 pub record AreDisks (w : BookingWorld) (disks : List DiskState) : Type 0 where
   pub all : length disks ≡ 15
-  pub mids : AreDisksOf w.mids 0 disks
-  pub invs : AreDisksOf (w.backs tiers.Inv) 5 disks
-  pub pays : AreDisksOf (w.backs tiers.Pay) 10 disks
+  pub at : (t : Tier) → AreDisksOf (w.nodes t) (first_of t) disks
 
 -- FAULTS
 

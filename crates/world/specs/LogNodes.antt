@@ -13,8 +13,8 @@ use Rattle.log_model.specs.declared.turn.Offering.{Offering}
 use Rattle.log_model.specs.declared.turn.Offering.TheVariants.{NotLeader, NoPromises, InFlight, LogFull, Taken, Free}
 use Rattle.log_model.specs.Log.{LogState, Turn, open_at}
 use Rattle.log_model.specs.Ranges.{IsLogIn, IsTurnIn, IsOwnIn}
-use Rattle.log_model.specs.World.{Mode}
-use Rattle.log_model.specs.World.Mode.{Up, Down, Gone}
+use Rattle.log_model.specs.Nodes.{Mode}
+use Rattle.log_model.specs.Nodes.Mode.{Up, Down, Gone}
 use Rattle.log_values.specs.declared.any_value.AnyValue.{AnyValue}
 use Rattle.log_values.specs.declared.entry.Entry.{Entry}
 use Rattle.log_values.specs.Fields.{FitsBallot}
@@ -122,7 +122,7 @@ mid_part part pending = record { mode = mid_mode part.mode pending; place = part
 
 -- the own value of a middle node that is up can stand at its first open position
 abbrev pub OwnStands : MidView → Type 0
-OwnStands m = (part : MidPart) → m.part.mode ≡ Up part → IsOwnIn (CanStand tiers.Mid) (open_at part.log) (own_value m.faults booking_service (as_mid m.depth part))
+OwnStands m = (part : MidPart) → m.part.mode ≡ Up part → IsOwnIn (CanStand tiers.Mid) (open_at part.log) (own_value m.faults booking_service.programs (as_mid m.faults m.me m.depth part))
 
 -- the last packets are those of these messages
 abbrev pub HasSent : Tier → ℕ → List (ℕ × PaxMsg AnyValue) → List (End × List ℕ) → Type 0

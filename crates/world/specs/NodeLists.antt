@@ -1,35 +1,39 @@
 -- The nodes of the three tiers, by their indexes, and a call at one of them.
-use Rattle.std.specs.Prelude.{◌≡◌, ℕ, ◌+◌, ◌*◌, ◌<◌, Bool, true, false, List, [], length, slice_get, slice_set, Option, Some, None}
+use Rattle.std.specs.Prelude.{◌≡◌, ℕ, ◌+◌, ◌*◌, ◌<◌, Bool, true, false, List, length, slice_get, slice_set, Option, Some, None}
 use Rattle.std.specs.declared.result.Result.{Result}
 use Rattle.aeg_base.specs.declared.names.Tier.{Tier}
 use Rattle.aeg_base.specs.declared.names.Tier.TheVariants as tiers
 use Rattle.aeg_base.specs.declared.names.NodeId.{NodeId}
 use Rattle.aeg_base.specs.declared.names.End.{End}
-use Rattle.server_model.specs.Backends.{Amounts}
 use Rattle.log_model.specs.Log.{LogState, nobody}
 use Rattle.aeg_disk.specs.Disk.{DiskState}
-use Rattle.log_model.specs.World.{Mode}
-use Rattle.log_model.specs.World.Mode.{Up, Down, Gone}
+use Rattle.log_model.specs.Nodes.{Mode}
+use Rattle.log_model.specs.Nodes.Mode.{Up, Down, Gone}
 use Rattle.log_values.specs.declared.any_value.AnyValue.{AnyValue}
 use Rattle.frames.specs.declared.message.Msg.{Msg}
 use Rattle.frames.specs.declared.turn.Turn.{Turn as Answer}
 use Rattle.frames.specs.declared.turn.Fault.{Fault}
 use Rattle.round_model.specs.Lists.{each}
 use Rattle.tier_model.specs.Moves.{Move}
-use Rattle.tier_model.specs.Mid.{Mid}
-use Rattle.tier_model.specs.Back.{Back}
+use Rattle.tier_model.specs.Kinds.{Kind}
 use Rattle.world.specs.declared.nodes.all_nodes.Nodes.{Nodes}
 use Rattle.world.specs.declared.nodes.condition.Condition.{Condition}
 use Rattle.world.specs.declared.nodes.condition.Condition.TheVariants as conditions
-use Rattle.world.specs.Parts.{NodePart, MidPart, MidView, BackView, MidMoves, BackMoves, MidRestarts, BackRestarts, MayWrite, CanReach, is_up, is_down_in, new_part, mid_with, back_with}
+use Rattle.world.specs.Parts.{NodePart, MidPart, View, MidView, BackView, PartOf, shape, Moves, Restarts, MayWrite, CanReach, is_up, is_down_in, new_part, view_with}
 
 -- NEW NODES
 
+-- only a middle node has a pipeline
+abbrev pub depth_at : Tier → ℕ → ℕ
+depth_at tiers.Mid depth = depth
+depth_at tiers.Inv depth = 0
+depth_at tiers.Pay depth = 0
+
 abbrev pub new_mid : ℕ → ℕ → ℕ → MidView
-new_mid u depth x = record { faults = u; depth = depth; me = x; part = new_part }
+new_mid u depth x = record { faults = u; tier = tiers.Mid; depth = depth; me = x; part = new_part }
 
 abbrev pub new_back : ℕ → Tier → ℕ → BackView
-new_back u t x = record { faults = u; tier = t; me = x; part = new_part }
+new_back u t x = record { faults = u; tier = t; depth = 0; me = x; part = new_part }
 
 -- all are down, with journals that have not begun
 pub record AreNew (u depth : ℕ) (nodes : Nodes) : Type 0 where
@@ -39,11 +43,11 @@ pub record AreNew (u depth : ℕ) (nodes : Nodes) : Type 0 where
 
 -- A NODE OF THEM
 
--- the backend nodes of a tier
-abbrev pub backs_of : Nodes → Tier → List BackView
-backs_of nodes tiers.Mid = []
-backs_of nodes tiers.Inv = nodes.invs.items
-backs_of nodes tiers.Pay = nodes.pays.items
+-- the nodes of a tier
+abbrev pub views : Nodes → (t : Tier) → List (View (PartOf t))
+views nodes tiers.Mid = nodes.mids.items
+views nodes tiers.Inv = nodes.invs.items
+views nodes tiers.Pay = nodes.pays.items
 
 abbrev pub size_of : Nodes → Tier → ℕ
 size_of nodes tiers.Mid = length nodes.mids.items
@@ -53,18 +57,14 @@ size_of nodes tiers.Pay = length nodes.pays.items
 abbrev pub HasNode : Nodes → NodeId → Type 0
 HasNode nodes n = n.index < size_of nodes n.tier
 
-abbrev pub mid_up : Option MidView → Bool
-mid_up None = false
-mid_up (Some m) = is_up m.part
-
-abbrev pub back_up : Option BackView → Bool
-back_up None = false
-back_up (Some b) = is_up b.part
+abbrev pub view_up : {S : Type 0} → Option (View S) → Bool
+view_up None = false
+view_up (Some v) = is_up v.part
 
 abbrev pub up_in : Nodes → Tier → ℕ → Bool
-up_in nodes tiers.Mid x = mid_up (slice_get nodes.mids.items x)
-up_in nodes tiers.Inv x = back_up (slice_get nodes.invs.items x)
-up_in nodes tiers.Pay x = back_up (slice_get nodes.pays.items x)
+up_in nodes tiers.Mid x = view_up (slice_get nodes.mids.items x)
+up_in nodes tiers.Inv x = view_up (slice_get nodes.invs.items x)
+up_in nodes tiers.Pay x = view_up (slice_get nodes.pays.items x)
 
 abbrev pub up_at : Nodes → NodeId → Bool
 up_at nodes n = up_in nodes n.tier n.index
@@ -83,21 +83,27 @@ CanReachAt nodes n from message = CanReachIn nodes n.tier n.index from message
 
 -- CALLS
 
--- the node x of the list makes the move, and no other changes
-abbrev pub MidsMove : List MidView → List MidView → ℕ → DiskState → DiskState → List (End × List ℕ) → List (End × List ℕ) → (MidView → Mid → Move Mid) → Result Answer Fault → Type 0
-MidsMove old new x disk_before disk_after before after move result = (m : MidView) → slice_get old x ≡ Some m → (n : MidView) × (new ≡ slice_set old x n) × MidMoves m n disk_before disk_after before after (move m) result
+-- all tiers but this one stay
+abbrev pub KeepsElse : Tier → Nodes → Nodes → Type 0
+KeepsElse tiers.Mid old new = (new.invs.items ≡ old.invs.items) × (new.pays.items ≡ old.pays.items)
+KeepsElse tiers.Inv old new = (new.mids.items ≡ old.mids.items) × (new.pays.items ≡ old.pays.items)
+KeepsElse tiers.Pay old new = (new.mids.items ≡ old.mids.items) × (new.invs.items ≡ old.invs.items)
 
-abbrev pub BacksMove : List BackView → List BackView → ℕ → DiskState → DiskState → List (End × List ℕ) → List (End × List ℕ) → (BackView → Back Amounts → Move (Back Amounts)) → Result Answer Fault → Type 0
-BacksMove old new x disk_before disk_after before after move result = (b : BackView) → slice_get old x ≡ Some b → (n : BackView) × (new ≡ slice_set old x n) × BackMoves b n disk_before disk_after before after (move b) result
+-- one of the rows of a node
+abbrev pub RowOf : Type 1
+RowOf = (S : Type 0) → Kind S → S → Move S
+
+-- the node x of the list makes the move of this row, and no other changes
+abbrev pub ListMoves : (t : Tier) → List (View (PartOf t)) → List (View (PartOf t)) → ℕ → DiskState → DiskState → List (End × List ℕ) → List (End × List ℕ) → RowOf → Result Answer Fault → Type 0
+ListMoves t old new x disk_before disk_after before after row result = (v : View (PartOf t)) → slice_get old x ≡ Some v
+    → (n : View (PartOf t)) × (new ≡ slice_set old x n) × Moves (shape t) v n disk_before disk_after before after (row _ ((shape t).rows v)) result
 
 -- at a node of the tier, and the other tiers stay
-abbrev pub MoveIn : Nodes → Nodes → Tier → ℕ → DiskState → DiskState → List (End × List ℕ) → List (End × List ℕ) → (MidView → Mid → Move Mid) → (BackView → Back Amounts → Move (Back Amounts)) → Result Answer Fault → Type 0
-MoveIn old new tiers.Mid x disk_before disk_after before after mid back result = MidsMove old.mids.items new.mids.items x disk_before disk_after before after mid result × ((new.invs.items ≡ old.invs.items) × (new.pays.items ≡ old.pays.items))
-MoveIn old new tiers.Inv x disk_before disk_after before after mid back result = BacksMove old.invs.items new.invs.items x disk_before disk_after before after back result × ((new.mids.items ≡ old.mids.items) × (new.pays.items ≡ old.pays.items))
-MoveIn old new tiers.Pay x disk_before disk_after before after mid back result = BacksMove old.pays.items new.pays.items x disk_before disk_after before after back result × ((new.mids.items ≡ old.mids.items) × (new.invs.items ≡ old.invs.items))
+abbrev pub MoveIn : Nodes → Nodes → Tier → ℕ → DiskState → DiskState → List (End × List ℕ) → List (End × List ℕ) → RowOf → Result Answer Fault → Type 0
+MoveIn old new t x disk_before disk_after before after row result = ListMoves t (views old t) (views new t) x disk_before disk_after before after row result × KeepsElse t old new
 
-abbrev pub NodesMove : Nodes → Nodes → NodeId → DiskState → DiskState → List (End × List ℕ) → List (End × List ℕ) → (MidView → Mid → Move Mid) → (BackView → Back Amounts → Move (Back Amounts)) → Result Answer Fault → Type 0
-NodesMove old new n disk_before disk_after before after mid back result = MoveIn old new n.tier n.index disk_before disk_after before after mid back result
+abbrev pub NodesMove : Nodes → Nodes → NodeId → DiskState → DiskState → List (End × List ℕ) → List (End × List ℕ) → RowOf → Result Answer Fault → Type 0
+NodesMove old new n disk_before disk_after before after row result = MoveIn old new n.tier n.index disk_before disk_after before after row result
 
 -- the disk of the node is such as it may write to
 abbrev pub MayWriteIn : Nodes → Tier → ℕ → DiskState → Type 0
@@ -118,32 +124,21 @@ pub record KeepTiers (nodes : Nodes) : Type 0 where
 abbrev pub is_down : {S : Type 0} → NodePart S → Bool
 is_down part = is_down_in part.mode
 
-abbrev pub mid_down : Option MidView → Bool
-mid_down None = false
-mid_down (Some m) = is_down m.part
-
-abbrev pub back_down : Option BackView → Bool
-back_down None = false
-back_down (Some b) = is_down b.part
+abbrev pub view_down : {S : Type 0} → Option (View S) → Bool
+view_down None = false
+view_down (Some v) = is_down v.part
 
 abbrev pub down_in : Nodes → Tier → ℕ → Bool
-down_in nodes tiers.Mid x = mid_down (slice_get nodes.mids.items x)
-down_in nodes tiers.Inv x = back_down (slice_get nodes.invs.items x)
-down_in nodes tiers.Pay x = back_down (slice_get nodes.pays.items x)
+down_in nodes tiers.Mid x = view_down (slice_get nodes.mids.items x)
+down_in nodes tiers.Inv x = view_down (slice_get nodes.invs.items x)
+down_in nodes tiers.Pay x = view_down (slice_get nodes.pays.items x)
 
 abbrev pub IsDownAt : Nodes → NodeId → Type 0
 IsDownAt nodes n = down_in nodes n.tier n.index ≡ true
 
-abbrev pub MidsRestart : List MidView → List MidView → ℕ → DiskState → DiskState → Result ℕ Fault → Type 0
-MidsRestart old new x before after result = (m : MidView) → slice_get old x ≡ Some m → (n : MidView) × (new ≡ slice_set old x n) × MidRestarts m n before after result
-
-abbrev pub BacksRestart : List BackView → List BackView → ℕ → DiskState → DiskState → Result ℕ Fault → Type 0
-BacksRestart old new x before after result = (b : BackView) → slice_get old x ≡ Some b → (n : BackView) × (new ≡ slice_set old x n) × BackRestarts b n before after result
-
 abbrev pub RestartIn : Nodes → Nodes → Tier → ℕ → DiskState → DiskState → Result ℕ Fault → Type 0
-RestartIn old new tiers.Mid x before after result = MidsRestart old.mids.items new.mids.items x before after result × ((new.invs.items ≡ old.invs.items) × (new.pays.items ≡ old.pays.items))
-RestartIn old new tiers.Inv x before after result = BacksRestart old.invs.items new.invs.items x before after result × ((new.mids.items ≡ old.mids.items) × (new.pays.items ≡ old.pays.items))
-RestartIn old new tiers.Pay x before after result = BacksRestart old.pays.items new.pays.items x before after result × ((new.mids.items ≡ old.mids.items) × (new.invs.items ≡ old.invs.items))
+RestartIn old new t x before after result = ((v : View (PartOf t)) → slice_get (views old t) x ≡ Some v
+    → (n : View (PartOf t)) × (views new t ≡ slice_set (views old t) x n) × Restarts (shape t) v n before after result) × KeepsElse t old new
 
 abbrev pub NodeRestarts : Nodes → Nodes → NodeId → DiskState → DiskState → Result ℕ Fault → Type 0
 NodeRestarts old new n before after result = RestartIn old new n.tier n.index before after result
@@ -152,9 +147,9 @@ NodeRestarts old new n before after result = RestartIn old new n.tier n.index be
 
 -- the node's part is changed so, and nothing else
 abbrev pub ChangedIn : Nodes → Nodes → Tier → ℕ → ((S : Type 0) → NodePart S → NodePart S) → Type 0
-ChangedIn old new tiers.Mid x change = ((m : MidView) → slice_get old.mids.items x ≡ Some m → new.mids.items ≡ slice_set old.mids.items x (mid_with (change MidPart) m)) × ((new.invs.items ≡ old.invs.items) × (new.pays.items ≡ old.pays.items))
-ChangedIn old new tiers.Inv x change = ((b : BackView) → slice_get old.invs.items x ≡ Some b → new.invs.items ≡ slice_set old.invs.items x (back_with (change (LogState AnyValue)) b)) × ((new.mids.items ≡ old.mids.items) × (new.pays.items ≡ old.pays.items))
-ChangedIn old new tiers.Pay x change = ((b : BackView) → slice_get old.pays.items x ≡ Some b → new.pays.items ≡ slice_set old.pays.items x (back_with (change (LogState AnyValue)) b)) × ((new.mids.items ≡ old.mids.items) × (new.invs.items ≡ old.invs.items))
+ChangedIn old new tiers.Mid x change = ((m : MidView) → slice_get old.mids.items x ≡ Some m → new.mids.items ≡ slice_set old.mids.items x (view_with (change MidPart) m)) × ((new.invs.items ≡ old.invs.items) × (new.pays.items ≡ old.pays.items))
+ChangedIn old new tiers.Inv x change = ((b : BackView) → slice_get old.invs.items x ≡ Some b → new.invs.items ≡ slice_set old.invs.items x (view_with (change (LogState AnyValue)) b)) × ((new.mids.items ≡ old.mids.items) × (new.pays.items ≡ old.pays.items))
+ChangedIn old new tiers.Pay x change = ((b : BackView) → slice_get old.pays.items x ≡ Some b → new.pays.items ≡ slice_set old.pays.items x (view_with (change (LogState AnyValue)) b)) × ((new.mids.items ≡ old.mids.items) × (new.invs.items ≡ old.invs.items))
 
 abbrev pub Changes : Nodes → Nodes → NodeId → ((S : Type 0) → NodePart S → NodePart S) → Type 0
 Changes old new n change = ChangedIn old new n.tier n.index change
@@ -166,15 +161,11 @@ condition_in (Up s) = conditions.Up
 condition_in Down = conditions.Down
 condition_in Gone = conditions.Gone
 
-abbrev pub mid_condition : Option MidView → Condition
-mid_condition None = conditions.Down
-mid_condition (Some m) = condition_in m.part.mode
-
-abbrev pub back_condition : Option BackView → Condition
-back_condition None = conditions.Down
-back_condition (Some b) = condition_in b.part.mode
+abbrev pub view_condition : {S : Type 0} → Option (View S) → Condition
+view_condition None = conditions.Down
+view_condition (Some v) = condition_in v.part.mode
 
 abbrev pub condition_at : Nodes → Tier → ℕ → Condition
-condition_at nodes tiers.Mid x = mid_condition (slice_get nodes.mids.items x)
-condition_at nodes tiers.Inv x = back_condition (slice_get nodes.invs.items x)
-condition_at nodes tiers.Pay x = back_condition (slice_get nodes.pays.items x)
+condition_at nodes tiers.Mid x = view_condition (slice_get nodes.mids.items x)
+condition_at nodes tiers.Inv x = view_condition (slice_get nodes.invs.items x)
+condition_at nodes tiers.Pay x = view_condition (slice_get nodes.pays.items x)

@@ -1,5 +1,5 @@
 -- The nodes of the tiers, as far as they go while nothing is run: a node has its log, and a middle node its pending entries.
-use Rattle.std.specs.Prelude.{◌≡◌, ◌⊎◌, ℕ, ◌+◌, ◌*◌, ◌<◌, ◌≤◌, Bool, true, false, ◌&&◌, List, [], ◌++◌, length, map, nat_lt, replicate, Option, Some, None, OnOk, slice_get, if◌then◌else◌}
+use Rattle.std.specs.Prelude.{◌≡◌, ◌⊎◌, ℕ, ◌+◌, ◌*◌, ◌<◌, ◌≤◌, Bool, true, false, ◌&&◌, List, [], ◌++◌, length, map, nat_lt, Option, Some, None, OnOk, slice_get, if◌then◌else◌}
 use Rattle.std.specs.List.{AllByRecursion}
 use Rattle.std.specs.declared.result.Result.{Result}
 use Rattle.std.specs.declared.result.Result.TheVariants.{Ok, Err}
@@ -17,8 +17,8 @@ use Rattle.log_model.specs.declared.message.PaxMsg.{PaxMsg}
 use Rattle.log_model.specs.Log.{LogState, open_at}
 use Rattle.log_model.specs.Recover.{newest}
 use Rattle.log_model.specs.Ranges.{IsMessageIn}
-use Rattle.log_model.specs.World.{Mode, recorded, writes}
-use Rattle.log_model.specs.World.Mode.{Up, Down, Gone}
+use Rattle.log_model.specs.Nodes.{Mode, recorded, writes}
+use Rattle.log_model.specs.Nodes.Mode.{Up, Down, Gone}
 use Rattle.log_values.specs.declared.any_value.AnyValue.{AnyValue}
 use Rattle.log_values.specs.declared.any_value.AnyValue.TheVariants as values
 use Rattle.log_values.specs.declared.mid_value.MidValue.TheVariants.{Batch}
@@ -35,9 +35,10 @@ use Rattle.frames.specs.Frames.{frame, FitsFrame}
 use Rattle.frames.specs.LogMessages.{IsCarried}
 use Rattle.round_model.specs.Service.{is_request}
 use Rattle.round_model.specs.Tables.{tables0}
+use Rattle.round_model.specs.Held.{none_held}
+use Rattle.round_model.specs.Shims.{new_shim}
 use Rattle.tier_model.specs.Moves.{is_node_of, Packet, Move}
-use Rattle.tier_model.specs.MidRows as mids
-use Rattle.tier_model.specs.BackRows as backs
+use Rattle.tier_model.specs.Kinds.{State, Kind, mid_kind, back_kind}
 use Rattle.tier_model.specs.Mid.{Mid}
 use Rattle.tier_model.specs.Back.{Back}
 use Rattle.run_model.specs.BookingRuns.{booking_service}
@@ -50,9 +51,9 @@ pub record MidPart : Type 0 where
   pub log : LogState AnyValue
   pub pending : List (Option Entry)
 
--- no round is applied, no token, answer or Have is there, and nothing was run
-abbrev pub as_mid : ℕ → MidPart → Mid
-as_mid depth part = record { log = part.log; applied = 0; tables = tables0 depth; pending = part.pending; tally = []; spec = None; held = []; noted = [] }
+-- at the node x of 2u+1: no round is applied, no token, answer or Have is there, and nothing was run
+abbrev pub as_mid : ℕ → ℕ → ℕ → MidPart → Mid
+as_mid u x depth part = record { log = part.log; applied = 0; tables = tables0 depth; pending = part.pending; tally = []; spec = None; held = none_held u x }
 
 -- a batch at its position
 abbrev pub IsBatchAt : ℕ → AnyValue → Type 0
@@ -63,7 +64,7 @@ IsBatchAt p v = ⊥
 
 -- no call or floor came
 abbrev pub as_back : ℕ → Tier → LogState AnyValue → Back Amounts
-as_back u t log = record { log = log; state = booking_service.meaning.opening t; kept = []; floor = 1; copies = []; floors = replicate (2 * u + 1) 1 }
+as_back u t log = record { log = log; state = (booking_service.backend t).opening; shim = new_shim u }
 
 -- no value stands in a backend's log
 abbrev pub NoValue : ℕ → AnyValue → Type 0
@@ -100,7 +101,7 @@ pub record AllStand (t : Tier) (lists : List (List (List Fact))) : Type 0 where
 
 -- a client's request
 abbrev pub IsAsked : End → ℕ → List ℕ → Type 0
-IsAsked (Client c) seq text = IsClient c × (IsSeq seq × (is_request booking_service (record { client = c; seq = seq }) text ≡ true))
+IsAsked (Client c) seq text = IsClient c × (IsSeq seq × (is_request booking_service.programs (record { client = c; seq = seq }) text ≡ true))
 IsAsked (Node n) seq text = ⊥
 
 -- requests go to the middle tier
@@ -189,40 +190,80 @@ MayWrite part disk = disk.tells ≡ true → (rs : List (List Fact)) × HasFacts
 
 -- THE NODES
 
--- what contracts see of a middle node, and of a backend node: its tier of 2 * faults + 1, its index, and its part
-pub record MidView : Type 0 where
-  pub faults : ℕ
-  pub depth : ℕ
-  pub me : ℕ
-  pub part : NodePart MidPart
-
-pub record BackView : Type 0 where
+-- What contracts see of a node: its tier of 2 * faults + 1, the depth of its pipeline (a backend has none), its index, and
+-- its part.
+pub record View (S : Type 0) : Type 0 where
   pub faults : ℕ
   pub tier : Tier
+  pub depth : ℕ
   pub me : ℕ
-  pub part : NodePart (LogState AnyValue)
+  pub part : NodePart S
+
+abbrev pub MidView : Type 0
+MidView = View MidPart
+
+abbrev pub BackView : Type 0
+BackView = View (LogState AnyValue)
+
+-- what nodes of a kind have in memory: their states and rows
+pub record Shape (S T : Type 0) : Type 0 where
+  pub whole : View S → S → T
+  pub log : S → LogState AnyValue
+  pub log_in : T → LogState AnyValue
+  pub rows : View S → Kind T
+
+abbrev pub mid_shape : Shape MidPart Mid
+mid_shape = record {
+  whole = λ v. as_mid v.faults v.me v.depth;
+  log = λ part. part.log;
+  log_in = λ σ. σ.log;
+  rows = λ v. mid_kind v.faults booking_service.programs v.depth v.me;
+}
+
+abbrev pub back_shape : Shape (LogState AnyValue) (Back Amounts)
+back_shape = record {
+  whole = λ v. as_back v.faults v.tier;
+  log = λ log. log;
+  log_in = λ σ. σ.log;
+  rows = λ v. back_kind v.faults (booking_service.backend v.tier) v.tier v.me;
+}
+
+-- those of a tier
+abbrev pub PartOf : Tier → Type 0
+PartOf tiers.Mid = MidPart
+PartOf tiers.Inv = LogState AnyValue
+PartOf tiers.Pay = LogState AnyValue
+
+abbrev pub shape : (t : Tier) → Shape (PartOf t) (State Amounts t)
+shape tiers.Mid = mid_shape
+shape tiers.Inv = back_shape
+shape tiers.Pay = back_shape
+
+-- which log is open where
+abbrev pub open_in : {S T : Type 0} → Shape S T → S → ℕ
+open_in k s = open_at (k.log s)
+
+-- all but its part stays
+abbrev pub IsSameView : {S : Type 0} → View S → View S → Type 0
+IsSameView old new = (new.faults ≡ old.faults) × ((new.tier ≡ old.tier) × ((new.depth ≡ old.depth) × (new.me ≡ old.me)))
 
 -- A call of a node that is up makes the move, and its facts are written down before. What the move sends reaches nodes, and
--- has room. All but its part stays.
-pub record MidMoves (old new : MidView) (disk_before disk_after : DiskState) (before after : List (End × List ℕ)) (move : Mid → Move Mid) (result : Result Answer Fault) : Type 0 where
-  pub row : (part : MidPart) → old.part.mode ≡ Up part → Makes (as_mid old.depth) old.part new.part before after (move (as_mid old.depth part)) result
-  pub disk : (part : MidPart) → old.part.mode ≡ Up part → Wrote disk_before disk_after old.part.place new.part.place (move (as_mid old.depth part)).facts result
+-- has room.
+pub record Moves {S T : Type 0} (k : Shape S T) (old new : View S) (disk_before disk_after : DiskState) (before after : List (End × List ℕ)) (move : T → Move T) (result : Result Answer Fault) : Type 0 where
+  pub row : (s : S) → old.part.mode ≡ Up s → Makes (k.whole old) old.part new.part before after (move (k.whole old s)) result
+  pub disk : (s : S) → old.part.mode ≡ Up s → Wrote disk_before disk_after old.part.place new.part.place (move (k.whole old s)).facts result
   pub later : Later disk_before disk_after
-  pub reach : OnOk result ((part : MidPart) → old.part.mode ≡ Up part → AllReach old.faults (move (as_mid old.depth part)).sends)
-  pub few : OnOk result ((part : MidPart) → old.part.mode ≡ Up part → HaveRoom (move (as_mid old.depth part)).sends)
-  pub fits : (part : MidPart) → old.part.mode ≡ Up part → StandIn tiers.Mid (open_at part.log) (move (as_mid old.depth part)).facts
-  pub opens : (part : MidPart) → old.part.mode ≡ Up part → open_at (move (as_mid old.depth part)).state.log ≡ open_after_all (open_at part.log) (move (as_mid old.depth part)).facts
-  pub same : (new.faults ≡ old.faults) × ((new.depth ≡ old.depth) × (new.me ≡ old.me))
+  pub reach : OnOk result ((s : S) → old.part.mode ≡ Up s → AllReach old.faults (move (k.whole old s)).sends)
+  pub few : OnOk result ((s : S) → old.part.mode ≡ Up s → HaveRoom (move (k.whole old s)).sends)
+  pub fits : (s : S) → old.part.mode ≡ Up s → StandIn old.tier (open_in k s) (move (k.whole old s)).facts
+  pub opens : (s : S) → old.part.mode ≡ Up s → open_at (k.log_in (move (k.whole old s)).state) ≡ open_after_all (open_in k s) (move (k.whole old s)).facts
+  pub same : IsSameView old new
 
-pub record BackMoves (old new : BackView) (disk_before disk_after : DiskState) (before after : List (End × List ℕ)) (move : Back Amounts → Move (Back Amounts)) (result : Result Answer Fault) : Type 0 where
-  pub row : (log : LogState AnyValue) → old.part.mode ≡ Up log → Makes (as_back old.faults old.tier) old.part new.part before after (move (as_back old.faults old.tier log)) result
-  pub disk : (log : LogState AnyValue) → old.part.mode ≡ Up log → Wrote disk_before disk_after old.part.place new.part.place (move (as_back old.faults old.tier log)).facts result
-  pub later : Later disk_before disk_after
-  pub reach : OnOk result ((log : LogState AnyValue) → old.part.mode ≡ Up log → AllReach old.faults (move (as_back old.faults old.tier log)).sends)
-  pub few : OnOk result ((log : LogState AnyValue) → old.part.mode ≡ Up log → HaveRoom (move (as_back old.faults old.tier log)).sends)
-  pub fits : (log : LogState AnyValue) → old.part.mode ≡ Up log → StandIn old.tier (open_at log) (move (as_back old.faults old.tier log)).facts
-  pub opens : (log : LogState AnyValue) → old.part.mode ≡ Up log → open_at (move (as_back old.faults old.tier log)).state.log ≡ open_after_all (open_at log) (move (as_back old.faults old.tier log)).facts
-  pub same : (new.faults ≡ old.faults) × ((new.tier ≡ old.tier) × (new.me ≡ old.me))
+abbrev pub MidMoves : MidView → MidView → DiskState → DiskState → List (End × List ℕ) → List (End × List ℕ) → (Mid → Move Mid) → Result Answer Fault → Type 0
+MidMoves old new disk_before disk_after before after move result = Moves mid_shape old new disk_before disk_after before after move result
+
+abbrev pub BackMoves : BackView → BackView → DiskState → DiskState → List (End × List ℕ) → List (End × List ℕ) → (Back Amounts → Move (Back Amounts)) → Result Answer Fault → Type 0
+BackMoves old new disk_before disk_after before after move result = Moves back_shape old new disk_before disk_after before after move result
 
 -- RESTARTS
 
@@ -246,15 +287,16 @@ Reads t whole open_of recover old new before after lists (Err (faults.BadRecord 
 abbrev pub MayRead : Tier → DiskState → Type 0
 MayRead t disk = (lists : List (List (List Fact))) × StandsFor lists disk × AllStand t lists
 
-pub record MidRestarts (old new : MidView) (before after : DiskState) (result : Result ℕ Fault) : Type 0 where
-  pub reads : (lists : List (List (List Fact))) → StandsFor lists before → AllStand tiers.Mid lists → Reads tiers.Mid (as_mid old.depth) (λ part. open_at part.log) (mids.recovered old.faults booking_service old.depth) old.part new.part before after lists result
+pub record Restarts {S T : Type 0} (k : Shape S T) (old new : View S) (before after : DiskState) (result : Result ℕ Fault) : Type 0 where
+  pub reads : (lists : List (List (List Fact))) → StandsFor lists before → AllStand old.tier lists → Reads old.tier (k.whole old) (open_in k) (k.rows old).recovered old.part new.part before after lists result
   pub later : Later before after
-  pub same : (new.faults ≡ old.faults) × ((new.depth ≡ old.depth) × (new.me ≡ old.me))
+  pub same : IsSameView old new
 
-pub record BackRestarts (old new : BackView) (before after : DiskState) (result : Result ℕ Fault) : Type 0 where
-  pub reads : (lists : List (List (List Fact))) → StandsFor lists before → AllStand old.tier lists → Reads old.tier (as_back old.faults old.tier) open_at (backs.recovered old.faults booking_service old.tier) old.part new.part before after lists result
-  pub later : Later before after
-  pub same : (new.faults ≡ old.faults) × ((new.tier ≡ old.tier) × (new.me ≡ old.me))
+abbrev pub MidRestarts : MidView → MidView → DiskState → DiskState → Result ℕ Fault → Type 0
+MidRestarts old new before after result = Restarts mid_shape old new before after result
+
+abbrev pub BackRestarts : BackView → BackView → DiskState → DiskState → Result ℕ Fault → Type 0
+BackRestarts old new before after result = Restarts back_shape old new before after result
 
 -- DOWN, GONE, AND WITHOUT DOUBT
 
@@ -268,8 +310,5 @@ abbrev pub is_sure_now : {S : Type 0} → NodePart S → NodePart S
 is_sure_now part = record { mode = part.mode; place = part.place; doubt = false }
 
 -- a node with another part
-abbrev pub mid_with : (NodePart MidPart → NodePart MidPart) → MidView → MidView
-mid_with change m = record { faults = m.faults; depth = m.depth; me = m.me; part = change m.part }
-
-abbrev pub back_with : (NodePart (LogState AnyValue) → NodePart (LogState AnyValue)) → BackView → BackView
-back_with change b = record { faults = b.faults; tier = b.tier; me = b.me; part = change b.part }
+abbrev pub view_with : {S : Type 0} → (NodePart S → NodePart S) → View S → View S
+view_with change v = record { faults = v.faults; tier = v.tier; depth = v.depth; me = v.me; part = change v.part }

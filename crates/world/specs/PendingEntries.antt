@@ -10,7 +10,7 @@ use Rattle.run_model.specs.BookingRuns.{booking_service}
 pub record IsFirst (e : Entry) : Type 0 where
   pub client : IsClient e.client
   pub seq : e.seq ≡ 1
-  pub request : is_request booking_service (who_of e) e.body ≡ true
+  pub request : is_request booking_service.programs (who_of e) e.body ≡ true
 
 -- a place for each client by its number, and each entry stands at its client's
 pub record ArePending (pending : List (Option Entry)) : Type 0 where

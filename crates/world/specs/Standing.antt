@@ -11,14 +11,12 @@ use Rattle.fact_journal.specs.Fitting.{all_facts, open_after_all}
 use Rattle.aeg_base.specs.declared.names.Tier.{Tier}
 use Rattle.aeg_base.specs.declared.names.Tier.TheVariants as tiers
 use Rattle.server_model.specs.Backends.{Amounts}
-use Rattle.log_model.specs.Log.{open_at}
-use Rattle.log_model.specs.World.{Mode, Node as NodeOf, writes}
-use Rattle.log_model.specs.World.Mode.{Up, Down, Gone}
+use Rattle.log_model.specs.Nodes.{Mode, Node as NodeOf, writes}
+use Rattle.log_model.specs.Nodes.Mode.{Up, Down, Gone}
 use Rattle.log_values.specs.declared.fact.Fact.{Fact}
 use Rattle.log_values.specs.Records.{record_text}
 use Rattle.round_model.specs.Service.{is_request}
-use Rattle.tier_model.specs.Mid.{Mid}
-use Rattle.tier_model.specs.Back.{Back}
+use Rattle.tier_model.specs.Kinds.{State}
 use Rattle.run_model.specs.World.{ClientEnd, journal_length}
 use Rattle.run_model.specs.declared.trace.Fared.{Fared}
 use Rattle.run_model.specs.declared.trace.Fared.TheVariants.{Fault}
@@ -31,7 +29,8 @@ use Rattle.world.specs.declared.nodes.all_nodes.Nodes.{Nodes}
 use Rattle.world.specs.declared.parts.Parts.{Parts}
 use Rattle.run_model.specs.BookingRuns.{config, booking_service, BookingWorld}
 use Rattle.world.specs.Disks.{AreDisks, HasCause, NoneFell}
-use Rattle.world.specs.Parts.{NodePart, MidPart, MidView, BackView, as_mid, as_back, sealed, AreFit, AllReach, AllStand}
+use Rattle.world.specs.Parts.{NodePart, View, PartOf, shape, open_in, as_mid, as_back, sealed, AreFit, AllReach, AllStand}
+use Rattle.world.specs.NodeLists.{depth_at, views}
 use Rattle.world.specs.Watching.{seen_in}
 
 -- A NODE
@@ -76,21 +75,19 @@ pub record IsNode {S T : Type 0} (t : Tier) (whole : S → T) (open_of : S → �
   pub stand : AllStand t (node.records ∷ node.others)
   pub opened : IsOpen open_of part.mode node.records
 
-abbrev pub open_of_mid : MidPart → ℕ
-open_of_mid part = open_at part.log
+-- what is in memory of the node x of the tier t of 2u+1
+abbrev pub state_at : ℕ → ℕ → (t : Tier) → ℕ → PartOf t → State Amounts t
+state_at u depth tiers.Mid x = as_mid u x depth
+state_at u depth tiers.Inv x = as_back u tiers.Inv
+state_at u depth tiers.Pay x = as_back u tiers.Pay
 
--- the middle node x of a tier of 2u+1, and the backend node x of the tier t
-pub record IsMid (u depth x : ℕ) (node : NodeOf Mid Fact) (m : MidView) : Type 0 where
-  pub faults : m.faults ≡ u
-  pub deep : m.depth ≡ depth
-  pub me : m.me ≡ x
-  pub part : IsNode tiers.Mid (as_mid depth) open_of_mid node m.part
-
-pub record IsBack (u : ℕ) (t : Tier) (x : ℕ) (node : NodeOf (Back Amounts) Fact) (b : BackView) : Type 0 where
-  pub faults : b.faults ≡ u
-  pub tier : b.tier ≡ t
-  pub me : b.me ≡ x
-  pub part : IsNode t (as_back u t) open_at node b.part
+-- the node x of the tier t of 2u+1
+pub record IsAt (u depth : ℕ) (t : Tier) (x : ℕ) (node : NodeOf (State Amounts t) Fact) (v : View (PartOf t)) : Type 0 where
+  pub faults : v.faults ≡ u
+  pub tier : v.tier ≡ t
+  pub deep : v.depth ≡ depth_at t depth
+  pub me : v.me ≡ x
+  pub part : IsNode t (state_at u depth t x) (open_in (shape t)) node v.part
 
 -- ALL NODES
 
@@ -100,16 +97,14 @@ pub record AreAll {N V : Type 0} (n : ℕ) (Is : ℕ → N → V → Type 0) (no
   pub each : (x : ℕ) (v : V) → slice_get vs x ≡ Some v → Is x (nodes x) v
 
 pub record AreNodes (u depth : ℕ) (w : BookingWorld) (nodes : Nodes) : Type 0 where
-  pub mids : AreAll (2 * u + 1) (IsMid u depth) w.mids nodes.mids.items
-  pub invs : AreAll (2 * u + 1) (IsBack u tiers.Inv) (w.backs tiers.Inv) nodes.invs.items
-  pub pays : AreAll (2 * u + 1) (IsBack u tiers.Pay) (w.backs tiers.Pay) nodes.pays.items
+  pub at : (t : Tier) → AreAll (2 * u + 1) (IsAt u depth t) (w.nodes t) (views nodes t)
 
 -- CLIENTS
 
 -- while nothing is run no request is done, so a client asks at most once
 abbrev pub AsksOnce : ℕ → ℕ → Option (List ℕ) → Type 0
 AsksOnce y last None = last ≡ 0
-AsksOnce y last (Some text) = (last ≡ 1) × (is_request booking_service (record { client = y; seq = 1 }) text ≡ true)
+AsksOnce y last (Some text) = (last ≡ 1) × (is_request booking_service.programs (record { client = y; seq = 1 }) text ≡ true)
 
 pub record IsClientEnd (y : ℕ) (end : ClientEnd) (c : ClientState) : Type 0 where
   pub is : c ≡ record { number = y; end = end }

@@ -62,7 +62,7 @@ all_grown s = record { mid = grown s.mid; inv = grown s.inv; pay = grown s.pay }
 -- what is seen of a world
 abbrev pub seen_in : {B : Type 0} → Config B → World B → OfTiers Seen
 seen_in c w = record {
-  mid = seen_of c.u (log_soup Mid w.soup) (length w.log);
+  mid = seen_of c.u (log_soup Mid w.soup) (length (w.logs Mid));
   inv = seen_of c.u (log_soup Inv w.soup) (length (w.logs Inv));
   pay = seen_of c.u (log_soup Pay w.soup) (length (w.logs Pay));
 }

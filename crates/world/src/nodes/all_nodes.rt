@@ -4,11 +4,8 @@ ghost use Rattle.svc_api.specs.Plan.{IsBackend};
 ghost use Rattle.aeg_base.specs.declared.names.End.{End};
 ghost use Rattle.log_model.specs.Log.{nobody};
 ghost use Rattle.round_model.specs.Lists.{each};
-ghost use Rattle.tier_model.specs.MidRows as mids;
-ghost use Rattle.tier_model.specs.BackRows as backs;
-ghost use Rattle.run_model.specs.BookingRuns.{booking_service};
 ghost use Rattle.aeg_disk.specs.Disk.{DiskState};
-ghost use Rattle.world.specs.Commands.{mid_row, back_row};
+ghost use Rattle.world.specs.Commands.{row_of};
 ghost use Rattle.world.specs.Parts.{MayRead, goes_down, is_sure_now, is_wiped};
 ghost use Rattle.world.specs.NodeLists.{new_mid, new_back, AreNew, HasNode, KeepTiers, up_at, IsUpAt, IsDownAt, condition_at, Changes, NodesMove, NodeRestarts, CanReachAt, MayWriteAt};
 
@@ -157,7 +154,7 @@ impl Nodes {
         requires up { IsUpAt self.old node }
         requires disk { MayWriteAt self.old node (D.state disk.old) }
         requires reach { CanReachAt self.old node from msg.now }
-        ensures { NodesMove self.old self.new node (D.state disk.old) (D.state disk.new) out.old out.new (λ m σ. mids.on_frame m.faults booking_service m.me σ from msg.now) (λ b σ. backs.on_frame b.faults booking_service b.tier b.me σ from msg.now) result }
+        ensures { NodesMove self.old self.new node (D.state disk.old) (D.state disk.new) out.old out.new (λ S k. k.on_frame from msg.now) result }
     {
         let x = usize::from(node.index);
         match node.tier {
@@ -177,7 +174,7 @@ impl Nodes {
     ) -> Result<Turn, Fault>
         requires up { IsUpAt self.old node }
         requires disk { MayWriteAt self.old node (D.state disk.old) }
-        ensures { NodesMove self.old self.new node (D.state disk.old) (D.state disk.new) out.old out.new (λ m σ. mid_row command m.faults m.me σ) (λ b σ. back_row command b.faults b.tier b.me σ) result }
+        ensures { NodesMove self.old self.new node (D.state disk.old) (D.state disk.new) out.old out.new (λ S k. row_of command k) result }
     {
         let x = usize::from(node.index);
         match node.tier {
@@ -190,7 +187,7 @@ impl Nodes {
     /// The node tells again what may be lost.
     pub fn retry(&mut self, node: NodeId, out: &mut Outbox) -> Result<Turn, Fault>
         requires { IsUpAt self.old node }
-        ensures { (disk : DiskState) → NodesMove self.old self.new node disk disk out.old out.new (λ m σ. mids.retry m.faults m.me σ) (λ b σ. backs.retry b.faults b.tier b.me σ) result }
+        ensures { (disk : DiskState) → NodesMove self.old self.new node disk disk out.old out.new (λ S k. k.retry) result }
     {
         let x = usize::from(node.index);
         match node.tier {

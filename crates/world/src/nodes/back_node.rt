@@ -3,13 +3,13 @@ ghost use Rattle.std.specs.Prelude.{◌≡◌, ℕ, ◌+◌, ◌*◌, ◌<◌, �
 ghost use Rattle.svc_api.specs.Plan.{IsBackend};
 ghost use Rattle.aeg_base.specs.declared.names.End.{End};
 ghost use Rattle.aeg_disk.specs.Disk.{DiskState};
-ghost use Rattle.log_model.specs.World.Mode.{Down};
+ghost use Rattle.log_model.specs.Nodes.Mode.{Down};
 ghost use Rattle.frames.specs.declared.message.Msg.TheVariants as msgs;
 ghost use Rattle.tier_model.specs.BackRows.{on_frame, leads, offers, retry};
 ghost use Rattle.run_model.specs.BookingRuns.{booking_service};
-ghost use Rattle.world.specs.Commands.{back_row};
+ghost use Rattle.world.specs.Commands.{row_of};
 ghost use Rattle.world.specs.NodeLists.{condition_in};
-ghost use Rattle.world.specs.Parts.{BackMoves, BackRestarts, CanReach, MayRead, MayWrite, back_with, goes_down, is_sure_now, is_up, is_wiped, new_part};
+ghost use Rattle.world.specs.Parts.{BackMoves, BackRestarts, CanReach, MayRead, MayWrite, back_shape, goes_down, is_sure_now, is_up, is_wiped, new_part, view_with};
 
 use super::command::Command;
 use super::condition::Condition;
@@ -38,7 +38,7 @@ impl Model for BackNode {
 
     ghost Value = { BackView };
 
-    ghost view = { λ n. record { faults = n.node.faults; tier = n.node.tier; me = n.node.me; part = n.node.part } };
+    ghost view = { λ n. record { faults = n.node.faults; tier = n.node.tier; depth = 0; me = n.node.me; part = n.node.part } };
 
     ghost invariant = { λ n. IsBackend n.node.tier × (n.node.me < 2 * n.node.faults + 1) × (n.node.faults ≤ MAX_FAULTS) };
 }
@@ -49,7 +49,7 @@ impl BackNode {
         requires faults { u ≤ MAX_FAULTS }
         requires tier { IsBackend tier }
         requires node { me < 2 * u + 1 }
-        ensures { result ≡ record { faults = u; tier = tier; me = me; part = new_part } }
+        ensures { result ≡ record { faults = u; tier = tier; depth = 0; me = me; part = new_part } }
     {
         BackNode {
             node: LogNode::new(alloc, u, NodeId { tier, index: me }),
@@ -71,21 +71,21 @@ impl BackNode {
     /// Goes down: all but its disk is lost.
     pub fn crash(&mut self)
         requires { is_up self.old.part ≡ true }
-        ensures { self.new ≡ back_with goes_down self.old }
+        ensures { self.new ≡ view_with goes_down self.old }
     {
         self.node.crash();
     }
 
     /// Is gone for good.
     pub fn wipe(&mut self)
-        ensures { self.new ≡ back_with is_wiped self.old }
+        ensures { self.new ≡ view_with is_wiped self.old }
     {
         self.node.wipe();
     }
 
     /// Is told that its disk has just the records that its stop left.
     pub fn be_sure(&mut self)
-        ensures { self.new ≡ back_with is_sure_now self.old }
+        ensures { self.new ≡ view_with is_sure_now self.old }
     {
         self.node.be_sure();
     }
@@ -110,7 +110,7 @@ impl BackNode {
         requires up { is_up self.old.part ≡ true }
         requires disk { MayWrite self.old.part (D.state disk.old) }
         requires reach { CanReach self.old.faults from self.old.tier msg.now }
-        ensures { BackMoves self.old self.new (D.state disk.old) (D.state disk.new) out.old out.new (λ σ. on_frame self.old.faults booking_service self.old.tier self.old.me σ from msg.now) result }
+        ensures { BackMoves self.old self.new (D.state disk.old) (D.state disk.new) out.old out.new (λ σ. on_frame self.old.faults (booking_service.backend self.old.tier) self.old.tier self.old.me σ from msg.now) result }
     {
         match msg {
             Msg::Log(message) => self.on_log(from, message, disk, out),
@@ -128,7 +128,7 @@ impl BackNode {
         requires up { is_up self.old.part ≡ true }
         requires disk { MayWrite self.old.part (D.state disk.old) }
         requires reach { CanReach self.old.faults from self.old.tier (msgs.Log message.now) }
-        ensures { BackMoves self.old self.new (D.state disk.old) (D.state disk.new) out.old out.new (λ σ. on_frame self.old.faults booking_service self.old.tier self.old.me σ from (msgs.Log message.now)) result }
+        ensures { BackMoves self.old self.new (D.state disk.old) (D.state disk.new) out.old out.new (λ σ. on_frame self.old.faults (booking_service.backend self.old.tier) self.old.tier self.old.me σ from (msgs.Log message.now)) result }
     {
         let Some(index) = self.node.peer(from) else {
             return Ok(Turn::Dropped(Refused::Row(7)));
@@ -140,7 +140,7 @@ impl BackNode {
     fn lead<D: Disk>(&mut self, disk: &mut D, out: &mut Outbox) -> Result<Turn, Fault>
         requires up { is_up self.old.part ≡ true }
         requires disk { MayWrite self.old.part (D.state disk.old) }
-        ensures { BackMoves self.old self.new (D.state disk.old) (D.state disk.new) out.old out.new (λ σ. leads self.old.faults booking_service self.old.tier self.old.me σ) result }
+        ensures { BackMoves self.old self.new (D.state disk.old) (D.state disk.new) out.old out.new (λ σ. leads self.old.faults (booking_service.backend self.old.tier) self.old.tier self.old.me σ) result }
     {
         self.node.lead(disk, out)
     }
@@ -148,7 +148,7 @@ impl BackNode {
     /// Has no value of its own to offer, and none was reported.
     fn offer(&self) -> Turn
         requires { is_up self.now.part ≡ true }
-        ensures { (disk : DiskState) (out : List (End × List ℕ)) → BackMoves self.now self.now disk disk out out (λ σ. offers self.now.faults booking_service self.now.tier self.now.me σ) (Ok result) }
+        ensures { (disk : DiskState) (out : List (End × List ℕ)) → BackMoves self.now self.now disk disk out out (λ σ. offers self.now.faults (booking_service.backend self.now.tier) self.now.tier self.now.me σ) (Ok result) }
     {
         if let Some(cause) = offer_cause(self.node.wants()) {
             return Turn::Idle(cause);
@@ -165,7 +165,7 @@ impl BackNode {
     ) -> Result<Turn, Fault>
         requires up { is_up self.old.part ≡ true }
         requires disk { MayWrite self.old.part (D.state disk.old) }
-        ensures { BackMoves self.old self.new (D.state disk.old) (D.state disk.new) out.old out.new (λ σ. back_row command self.old.faults self.old.tier self.old.me σ) result }
+        ensures { BackMoves self.old self.new (D.state disk.old) (D.state disk.new) out.old out.new (row_of command (back_shape.rows self.old)) result }
     {
         match command {
             Command::Lead => self.lead(disk, out),

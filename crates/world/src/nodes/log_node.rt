@@ -5,7 +5,7 @@ ghost use Rattle.log_model.specs.Log.{LogState, open_at};
 ghost use Rattle.log_model.specs.Rows.{on_msg as message_row, lead as lead_row, offer as offer_row, wants as wants_of};
 ghost use Rattle.log_model.specs.Ranges.{IsTurnIn, IsOwnIn};
 ghost use Rattle.log_model.specs.Recover.{recover};
-ghost use Rattle.log_model.specs.World.Mode.{Up, Down};
+ghost use Rattle.log_model.specs.Nodes.Mode.{Up, Down};
 ghost use Rattle.log_values.specs.declared.any_value.AnyValue.{AnyValue};
 ghost use Rattle.log_values.specs.Fields.{FitsBallot};
 ghost use Rattle.paxos_log.specs.TierLog.{CanOffer};

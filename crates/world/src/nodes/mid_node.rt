@@ -5,14 +5,14 @@ ghost use Rattle.aeg_base.specs.declared.names.End.{End};
 ghost use Rattle.log_model.specs.Log.{open_at};
 ghost use Rattle.log_model.specs.Ranges.{IsOwnIn};
 ghost use Rattle.aeg_disk.specs.Disk.{DiskState};
-ghost use Rattle.log_model.specs.World.Mode.{Up, Down};
+ghost use Rattle.log_model.specs.Nodes.Mode.{Up, Down};
 ghost use Rattle.frames.specs.declared.message.Msg.TheVariants as msgs;
 ghost use Rattle.tier_model.specs.MidRows.{on_frame, leads, offers, retry, own_value, own_cause};
 ghost use Rattle.run_model.specs.BookingRuns.{booking_service};
-ghost use Rattle.world.specs.Commands.{mid_row};
+ghost use Rattle.world.specs.Commands.{row_of};
 ghost use Rattle.world.specs.LogNodes.{OwnStands};
 ghost use Rattle.world.specs.NodeLists.{condition_in};
-ghost use Rattle.world.specs.Parts.{CanReach, CanStand, IsAsked, MayRead, MayWrite, MidMoves, MidPart, MidRestarts, as_mid, goes_down, is_sure_now, is_up, is_wiped, mid_with, new_part};
+ghost use Rattle.world.specs.Parts.{CanReach, CanStand, IsAsked, MayRead, MayWrite, MidMoves, MidPart, MidRestarts, as_mid, goes_down, is_sure_now, is_up, is_wiped, mid_shape, new_part, view_with};
 
 use super::command::Command;
 use super::condition::Condition;
@@ -47,7 +47,7 @@ impl Model for MidNode {
 
     ghost Value = { MidView };
 
-    ghost view = { λ n. record { faults = n.node.faults; depth = n.depth; me = n.node.me; part = mid_part n.node.part n.pending } };
+    ghost view = { λ n. record { faults = n.node.faults; tier = tiers.Mid; depth = n.depth; me = n.node.me; part = mid_part n.node.part n.pending } };
 
     ghost invariant = { λ n. (n.node.tier ≡ tiers.Mid) × (n.node.me < 2 * n.node.faults + 1) × (n.node.faults ≤ MAX_FAULTS) };
 }
@@ -57,7 +57,7 @@ impl MidNode {
     pub fn new(alloc: Global, u: u8, depth: u8, me: u8) -> Self
         requires faults { u ≤ MAX_FAULTS }
         requires node { me < 2 * u + 1 }
-        ensures { result ≡ record { faults = u; depth = depth; me = me; part = new_part } }
+        ensures { result ≡ record { faults = u; tier = tiers.Mid; depth = depth; me = me; part = new_part } }
     {
         let id = NodeId {
             tier: Tier::Mid,
@@ -86,21 +86,21 @@ impl MidNode {
     /// Goes down: all but its disk is lost.
     pub fn crash(&mut self)
         requires { is_up self.old.part ≡ true }
-        ensures { self.new ≡ mid_with goes_down self.old }
+        ensures { self.new ≡ view_with goes_down self.old }
     {
         self.node.crash();
     }
 
     /// Is gone for good.
     pub fn wipe(&mut self)
-        ensures { self.new ≡ mid_with is_wiped self.old }
+        ensures { self.new ≡ view_with is_wiped self.old }
     {
         self.node.wipe();
     }
 
     /// Is told that its disk has just the records that its stop left.
     pub fn be_sure(&mut self)
-        ensures { self.new ≡ mid_with is_sure_now self.old }
+        ensures { self.new ≡ view_with is_sure_now self.old }
     {
         self.node.be_sure();
     }
@@ -126,7 +126,7 @@ impl MidNode {
         requires up { is_up self.old.part ≡ true }
         requires disk { MayWrite self.old.part (D.state disk.old) }
         requires reach { CanReach self.old.faults from tiers.Mid msg.now }
-        ensures { MidMoves self.old self.new (D.state disk.old) (D.state disk.new) out.old out.new (λ σ. on_frame self.old.faults booking_service self.old.me σ from msg.now) result }
+        ensures { MidMoves self.old self.new (D.state disk.old) (D.state disk.new) out.old out.new (λ σ. on_frame self.old.faults booking_service.programs self.old.me σ from msg.now) result }
     {
         match msg {
             Msg::Log(message) => self.on_log(from, message, disk, out),
@@ -139,7 +139,7 @@ impl MidNode {
     fn lead<D: Disk>(&mut self, disk: &mut D, out: &mut Outbox) -> Result<Turn, Fault>
         requires up { is_up self.old.part ≡ true }
         requires disk { MayWrite self.old.part (D.state disk.old) }
-        ensures { MidMoves self.old self.new (D.state disk.old) (D.state disk.new) out.old out.new (λ σ. leads self.old.faults booking_service self.old.me σ) result }
+        ensures { MidMoves self.old self.new (D.state disk.old) (D.state disk.new) out.old out.new (λ σ. leads self.old.faults booking_service.programs self.old.me σ) result }
     {
         self.node.lead(disk, out)
     }
@@ -148,7 +148,7 @@ impl MidNode {
     fn offer<D: Disk>(&mut self, disk: &mut D, out: &mut Outbox) -> Result<Turn, Fault>
         requires up { is_up self.old.part ≡ true }
         requires disk { MayWrite self.old.part (D.state disk.old) }
-        ensures { MidMoves self.old self.new (D.state disk.old) (D.state disk.new) out.old out.new (λ σ. offers self.old.faults booking_service self.old.me σ) result }
+        ensures { MidMoves self.old self.new (D.state disk.old) (D.state disk.new) out.old out.new (λ σ. offers self.old.faults booking_service.programs self.old.me σ) result }
     {
         let wants = self.node.wants();
         if let Some(cause) = offer_cause(wants) {
@@ -170,7 +170,7 @@ impl MidNode {
     ) -> Result<Turn, Fault>
         requires up { is_up self.old.part ≡ true }
         requires disk { MayWrite self.old.part (D.state disk.old) }
-        ensures { MidMoves self.old self.new (D.state disk.old) (D.state disk.new) out.old out.new (λ σ. mid_row command self.old.faults self.old.me σ) result }
+        ensures { MidMoves self.old self.new (D.state disk.old) (D.state disk.new) out.old out.new (row_of command (mid_shape.rows self.old)) result }
     {
         match command {
             Command::Lead => self.lead(disk, out),
@@ -197,7 +197,7 @@ impl MidNode {
         requires up { is_up self.old.part ≡ true }
         requires disk { MayWrite self.old.part (D.state disk.old) }
         requires reach { CanReach self.old.faults from tiers.Mid (msgs.Log message.now) }
-        ensures { MidMoves self.old self.new (D.state disk.old) (D.state disk.new) out.old out.new (λ σ. on_frame self.old.faults booking_service self.old.me σ from (msgs.Log message.now)) result }
+        ensures { MidMoves self.old self.new (D.state disk.old) (D.state disk.new) out.old out.new (λ σ. on_frame self.old.faults booking_service.programs self.old.me σ from (msgs.Log message.now)) result }
     {
         let Some(index) = self.node.peer(from) else {
             return Ok(Turn::Dropped(Refused::Row(7)));
@@ -207,7 +207,7 @@ impl MidNode {
 
     fn on_request(&mut self, from: End, seq: u32, body: &Bytes) -> Result<Turn, Fault>
         requires { IsAsked from seq body.now }
-        ensures { (disk : DiskState) (out : List (End × List ℕ)) → MidMoves self.old self.new disk disk out out (λ σ. on_frame self.old.faults booking_service self.old.me σ from (msgs.Request seq body.now)) result }
+        ensures { (disk : DiskState) (out : List (End × List ℕ)) → MidMoves self.old self.new disk disk out out (λ σ. on_frame self.old.faults booking_service.programs self.old.me σ from (msgs.Request seq body.now)) result }
     {
         let End::Client(client) = from else {
             return Ok(Turn::Dropped(Refused::Row(7)));
@@ -228,7 +228,7 @@ impl MidNode {
     /// first one can be offered.
     fn own_value(&self) -> Result<Option<AnyValue>, Memory>
         requires { is_up self.now.part ≡ true }
-        ensures value { (part : MidPart) → self.now.part.mode ≡ Up part → IfOk result (λ own. own ≡ own_value self.now.faults booking_service (as_mid self.now.depth part)) }
+        ensures value { (part : MidPart) → self.now.part.mode ≡ Up part → IfOk result (λ own. own ≡ own_value self.now.faults booking_service.programs (as_mid self.now.faults self.now.me self.now.depth part)) }
         ensures range { (part : MidPart) → self.now.part.mode ≡ Up part → IfOk result (λ own. IsOwnIn (CanStand tiers.Mid) (open_at part.log) own) }
         // It can stand there, whether or not there was memory for it.
         ensures stands { OwnStands self.now }
@@ -247,7 +247,7 @@ impl MidNode {
     /// Why it has none.
     fn own_cause(&self) -> Idle
         requires { is_up self.now.part ≡ true }
-        ensures { (part : MidPart) → self.now.part.mode ≡ Up part → result ≡ own_cause self.now.faults (as_mid self.now.depth part) }
+        ensures { (part : MidPart) → self.now.part.mode ≡ Up part → result ≡ own_cause self.now.faults (as_mid self.now.faults self.now.me self.now.depth part) }
     {
         if self.node.first_open() > 0 {
             return Idle::NoTokens { have: 0 };

@@ -66,9 +66,9 @@ impl Pending {
 
     /// The entries of the lowest eight clients that have one. While nothing is run each of them is fresh.
     pub fn batch(&self, alloc: Global) -> Result<Vec<Entry>, Memory>
-        ensures batch { (depth : ℕ) → IfOk result (λ batch. batch.items ≡ batch_of booking_service (tables0 depth) self.now) }
+        ensures batch { (depth : ℕ) → IfOk result (λ batch. batch.items ≡ batch_of booking_service.programs (tables0 depth) self.now) }
         ensures fit { IfOk result (λ batch. FitsMid (Batch batch.items)) }
-        ensures fits { (depth : ℕ) → FitsMid (Batch (batch_of booking_service (tables0 depth) self.now)) }
+        ensures fits { (depth : ℕ) → FitsMid (Batch (batch_of booking_service.programs (tables0 depth) self.now)) }
     {
         let mut batch = Vec::new(alloc);
         for client in 0..CLIENTS {

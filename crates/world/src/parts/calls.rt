@@ -1,11 +1,8 @@
 // Calls at nodes, during which a disk may stop.
 ghost use Rattle.std.specs.Prelude.{◌≡◌};
-ghost use Rattle.tier_model.specs.BackRows as backs;
-ghost use Rattle.tier_model.specs.MidRows as mids;
-ghost use Rattle.run_model.specs.BookingRuns.{booking_service};
 ghost use Rattle.world.specs.Arming.{armed_with, at_rest};
 ghost use Rattle.world.specs.Calling.{Called, IsSureIf};
-ghost use Rattle.world.specs.Commands.{mid_row, back_row};
+ghost use Rattle.world.specs.Commands.{row_of};
 ghost use Rattle.world.specs.Parts.{MayRead};
 ghost use Rattle.world.specs.NodeLists.{HasNode, IsUpAt, IsDownAt, KeepTiers, MayWriteAt, CanReachAt, NodeRestarts};
 
@@ -40,7 +37,7 @@ pub fn obey<D: Device>(
 ) -> (Result<Turn, Fault>, bool)
     requires up { IsUpAt nodes.old node }
     requires disk { MayWriteAt nodes.old node (armed_with stop (D.state disk.old)) }
-    ensures { Called nodes.old nodes.new node.tier node.index stop (D.state disk.old) (D.state disk.new) out.old out.new (λ m σ. mid_row command m.faults m.me σ) (λ b σ. back_row command b.faults b.tier b.me σ) result.0 result.1 }
+    ensures { Called nodes.old nodes.new node.tier node.index stop (D.state disk.old) (D.state disk.new) out.old out.new (λ S k. row_of command k) result.0 result.1 }
 {
     arm(disk, stop);
     let answer = nodes.obey(node, command, disk, out);
@@ -61,7 +58,7 @@ pub fn deliver<D: Device>(
     requires up { IsUpAt nodes.old node }
     requires disk { MayWriteAt nodes.old node (armed_with stop (D.state disk.old)) }
     requires reach { CanReachAt nodes.old node from msg.now }
-    ensures { Called nodes.old nodes.new node.tier node.index stop (D.state disk.old) (D.state disk.new) out.old out.new (λ m σ. mids.on_frame m.faults booking_service m.me σ from msg.now) (λ b σ. backs.on_frame b.faults booking_service b.tier b.me σ from msg.now) result.0 result.1 }
+    ensures { Called nodes.old nodes.new node.tier node.index stop (D.state disk.old) (D.state disk.new) out.old out.new (λ S k. k.on_frame from msg.now) result.0 result.1 }
 {
     arm(disk, stop);
     let answer = nodes.deliver(node, from, msg, disk, out);

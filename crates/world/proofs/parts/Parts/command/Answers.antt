@@ -2,7 +2,7 @@ use Rattle.std.proofs.Common.{rules, ◌≡◌, ◌+◌, ◌*◌, ◌<◌, true,
 use Rattle.std.specs.Prelude.{map}
 use Rattle.world.specs.Arming.{asked_of, fared_by}
 use Rattle.world.specs.Calling.{Called, absent_text}
-use Rattle.world.specs.Commands.{mid_row, back_row, event_of}
+use Rattle.world.specs.Commands.{row_of, event_of}
 use Rattle.world.specs.Disks.{place_of}
 use Rattle.world.specs.NodeLists.{up_at, condition_at}
 use Rattle.world.specs.Telling.{told_command}
@@ -12,7 +12,14 @@ use Rattle.world.proofs.Calling.{disk_read, disks_left, may_write_at}
 use Rattle.world.proofs.CommandEvents.{faulty_by, finds_by, place_by, happens_by}
 use Rattle.world.proofs.Playing.{plays_by, plays_idle}
 use Rattle.world.proofs.Room.{nodes_fit}
+use Rattle.world.proofs.Present.{has_shown}
 use Rattle.world.proofs.parts.Parts.command.Goals as goal
+
+pub is_up-requires : goal.is_up-requires
+is_up-requires g c = let r = c.requires.shown in has_shown r.0 r.1 r.2 c.args.self.now c.args.node r.3 c.requires.there
+
+pub pass_over-requires-clause-there : goal.pass_over-requires-clause-there
+pass_over-requires-clause-there g c = let r = c.requires.shown in has_shown r.0 r.1 r.2 c.args.self.now c.args.node r.3 c.requires.there
 
 pub returns-then-not-is_up : goal.returns-then-not-is_up
 returns-then-not-is_up g c =
@@ -35,7 +42,7 @@ obey-answer-requires-clause-disk g c =
 pub send-requires : goal.send-requires
 send-requires g c =
     let up : up_at c.args.self.now.nodes c.args.node ≡ true = sym c.is_up.ensures ∙ search rules in
-    nodes_fit c.args.self.now.nodes c.obey-answer.ensures.between c.args.node.tier c.args.node.index _ c.obey-answer.ensures.called c.args.self.now.soup c.new-out.result c.obey-answer.new.out (λ m σ. mid_row c.args.command m.faults m.me σ) (λ b σ. back_row c.args.command b.faults b.tier b.me σ) _ c.requires.few c.new-out.ensures up c.obey-answer.ensures.moves c.in_ok-add_command.ensures.memory
+    nodes_fit c.args.self.now.nodes c.obey-answer.ensures.between c.args.node.tier c.args.node.index _ c.obey-answer.ensures.called c.args.self.now.soup c.new-out.result c.obey-answer.new.out (λ S k. row_of c.args.command k) _ c.requires.few c.new-out.ensures up c.obey-answer.ensures.moves c.in_ok-add_command.ensures.memory
 
 pub returns : goal.returns
 returns g c =
@@ -47,7 +54,7 @@ returns g c =
     let answer = c.obey-answer.result.0 in
     let met = c.obey-answer.result.1 in
     let by = fared_by c.args.stop met answer in
-    let called = subst (λ z. Called c.args.self.now.nodes c.obey-answer.new.nodes c.args.node.tier c.args.node.index c.args.stop disk (state c.obey-answer.new.disk) z c.obey-answer.new.out (λ m σ. mid_row c.args.command m.faults m.me σ) (λ b σ. back_row c.args.command b.faults b.tier b.me σ) answer met) c.new-out.ensures c.obey-answer.ensures in
+    let called = subst (λ z. Called c.args.self.now.nodes c.obey-answer.new.nodes c.args.node.tier c.args.node.index c.args.stop disk (state c.obey-answer.new.disk) z c.obey-answer.new.out (λ S k. row_of c.args.command k) answer met) c.new-out.ensures c.obey-answer.ensures in
     plays_by c.args.self.now c.send.new.self c.obey-answer.new.nodes c.obey-answer.new.out (map state c.args.disks.now) _ (place_of c.args.node) disk (state c.obey-answer.new.disk) (asked_of c.args.stop) by c.fared-fared.result (told_command c.args.node met answer) c.args.lines.now c.add_command.new.out (λ f. event_of c.args.command c.args.node f) r
     (λ u depth w s d. let h = command_by u depth w c.args.self.now.nodes c.obey-answer.new.nodes c.args.node c.args.command c.args.stop (map state c.args.disks.now) disk (state c.obey-answer.new.disk) c.obey-answer.new.out answer met c.args.node.tier
     (record { few = s.few; nodes_are = s.nodes; disks_are = d; there = subst (λ z. c.args.node.index < 2 * z + 1) s.size c.requires.there; disk_is = here; up = up }) c.requires.stop c.in_ok-add_command.ensures.memory called in

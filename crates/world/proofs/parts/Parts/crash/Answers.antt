@@ -6,7 +6,14 @@ use Rattle.world.specs.NodeLists.{up_at, condition_at}
 use Rattle.world.proofs.Crashing.{crash_by, crash_rests}
 use Rattle.world.proofs.Counted.{falls_none}
 use Rattle.world.proofs.Playing.{made, on_ok_three}
+use Rattle.world.proofs.Present.{has_shown}
 use Rattle.world.proofs.parts.Parts.crash.Goals as goal
+
+pub is_up-requires : goal.is_up-requires
+is_up-requires c = let r = c.requires.shown in has_shown r.0 r.1 r.2 c.args.self.now c.args.node r.3 c.requires.there
+
+pub pass_over-requires-clause-there : goal.pass_over-requires-clause-there
+pass_over-requires-clause-there c = let r = c.requires.shown in has_shown r.0 r.1 r.2 c.args.self.now c.args.node r.3 c.requires.there
 
 pub returns-then-not-is_up : goal.returns-then-not-is_up
 returns-then-not-is_up c =

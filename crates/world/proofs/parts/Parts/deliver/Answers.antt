@@ -5,9 +5,6 @@ use Rattle.frames.specs.declared.message.Msg.{Msg}
 use Rattle.frames.specs.Frames.{header_for}
 use Rattle.run_model.specs.declared.trace.TraceEvent.TheVariants as events
 use Rattle.run_model.specs.Text.{none_line, lost_line}
-use Rattle.tier_model.specs.MidRows as mids
-use Rattle.tier_model.specs.BackRows as backs
-use Rattle.run_model.specs.BookingRuns.{booking_service}
 use Rattle.world.specs.Arming.{asked_of, fared_by}
 use Rattle.world.specs.Calling.{Called, parts_after}
 use Rattle.world.specs.Disks.{place_of}
@@ -77,7 +74,7 @@ deliver-answer-requires-clause-reach g c =
 pub send-requires-2 : goal.send-requires-2
 send-requires-2 g c =
     let up : up_at c.args.self.now.nodes c.in-Some.node ≡ true = sym c.is_up.ensures ∙ search rules in
-    nodes_fit c.args.self.now.nodes c.deliver-answer.ensures.between c.in-Some.node.tier c.in-Some.node.index _ c.deliver-answer.ensures.called c.args.self.now.soup c.new-out.result c.deliver-answer.new.out (λ m σ. mids.on_frame m.faults booking_service m.me σ c.in-Some-2.header.from c.in-Some-2.msg) (λ b σ. backs.on_frame b.faults booking_service b.tier b.me σ c.in-Some-2.header.from c.in-Some-2.msg) _
+    nodes_fit c.args.self.now.nodes c.deliver-answer.ensures.between c.in-Some.node.tier c.in-Some.node.index _ c.deliver-answer.ensures.called c.args.self.now.soup c.new-out.result c.deliver-answer.new.out (λ S k. k.on_frame c.in-Some-2.header.from c.in-Some-2.msg) _
     c.requires.few c.new-out.ensures up c.deliver-answer.ensures.moves c.in_ok-add_frame.ensures.memory
 
 pub returns : goal.returns
@@ -91,7 +88,7 @@ returns g c =
     let answer = c.deliver-answer.result.0 in
     let met = c.deliver-answer.result.1 in
     let by = fared_by c.args.stop met answer in
-    let called = subst (λ z. Called c.args.self.now.nodes c.deliver-answer.new.nodes c.in-Some.node.tier c.in-Some.node.index c.args.stop disk (state c.deliver-answer.new.disk) z c.deliver-answer.new.out (λ m σ. mids.on_frame m.faults booking_service m.me σ c.in-Some-2.header.from c.in-Some-2.msg) (λ b σ. backs.on_frame b.faults booking_service b.tier b.me σ c.in-Some-2.header.from c.in-Some-2.msg) answer met) c.new-out.ensures c.deliver-answer.ensures in
+    let called = subst (λ z. Called c.args.self.now.nodes c.deliver-answer.new.nodes c.in-Some.node.tier c.in-Some.node.index c.args.stop disk (state c.deliver-answer.new.disk) z c.deliver-answer.new.out (λ S k. k.on_frame c.in-Some-2.header.from c.in-Some-2.msg) answer met) c.new-out.ensures c.deliver-answer.ensures in
     plays_by c.args.self.now c.send-2.new.self c.deliver-answer.new.nodes c.deliver-answer.new.out (map state c.args.disks.now) _ (place_of c.in-Some.node) disk (state c.deliver-answer.new.disk) (asked_of c.args.stop) by c.fared-fared.result (told_frame c.in-Some.node met answer) c.args.lines.now c.add_frame.new.out (λ f. events.Deliver c.args.packet f) r
     (λ u depth w s d.
     let a = addressed u depth w c.args.self.now c.args.packet c.in-Some.node s to in

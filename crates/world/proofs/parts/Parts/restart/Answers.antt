@@ -8,7 +8,11 @@ use Rattle.world.proofs.Playing.{made}
 use Rattle.world.proofs.Counted.{falls_none}
 use Rattle.world.proofs.Rising.{zero_least, same_soup}
 use Rattle.world.proofs.Restarting.{restart_up, restart_gone}
+use Rattle.world.proofs.Present.{has_shown}
 use Rattle.world.proofs.parts.Parts.restart.Goals as goal
+
+pub condition-requires : goal.condition-requires
+condition-requires g c = let r = c.requires.shown in has_shown r.0 r.1 r.2 c.args.self.now c.args.node r.3 c.requires.there
 
 pub returns-in_ok-send-in-Up-clause-plays : goal.returns-in_ok-send-in-Up-clause-plays
 returns-in_ok-send-in-Up-clause-plays g c =

@@ -2,8 +2,6 @@ use Rattle.std.proofs.Common.{rules, ◌≡◌, ◌+◌, ◌*◌, ◌<◌, true,
 use Rattle.std.proofs.lemmas.Result.{on_ok_weaker}
 use Rattle.aeg_base.specs.declared.names.End.TheVariants as ends
 use Rattle.run_model.specs.declared.trace.TraceEvent.TheVariants as events
-use Rattle.tier_model.specs.MidRows as mids
-use Rattle.tier_model.specs.BackRows as backs
 use Rattle.world.specs.Calling.{absent_text}
 use Rattle.world.specs.NodeLists.{up_at, condition_at, MoveIn}
 use Rattle.world.specs.Telling.{told_command}
@@ -12,7 +10,14 @@ use Rattle.world.proofs.Calling.{disk_of, a_disk}
 use Rattle.world.proofs.Counted.{falls_none}
 use Rattle.world.proofs.Playing.{made, on_ok_three}
 use Rattle.world.proofs.Room.{nodes_fit}
+use Rattle.world.proofs.Present.{has_shown}
 use Rattle.world.proofs.parts.Parts.retry.Goals as goal
+
+pub is_up-requires : goal.is_up-requires
+is_up-requires c = let r = c.requires.shown in has_shown r.0 r.1 r.2 c.args.self.now c.args.node r.3 c.requires.there
+
+pub pass_over-requires-clause-there : goal.pass_over-requires-clause-there
+pass_over-requires-clause-there c = let r = c.requires.shown in has_shown r.0 r.1 r.2 c.args.self.now c.args.node r.3 c.requires.there
 
 pub returns-then-not-is_up : goal.returns-then-not-is_up
 returns-then-not-is_up c =
@@ -24,7 +29,7 @@ returns-then-not-is_up c =
 pub send-requires : goal.send-requires
 send-requires c =
     let up : up_at c.args.self.now.nodes c.args.node ≡ true = sym c.is_up.ensures ∙ search rules in
-    nodes_fit c.args.self.now.nodes c.retry-answer.new.self c.args.node.tier c.args.node.index a_disk a_disk c.args.self.now.soup c.new-out.result c.retry-answer.new.out (λ m σ. mids.retry m.faults m.me σ) (λ b σ. backs.retry b.faults b.tier b.me σ) c.retry-answer.result c.requires.few c.new-out.ensures up (c.retry-answer.ensures a_disk) c.in_ok-add_command.ensures.memory
+    nodes_fit c.args.self.now.nodes c.retry-answer.new.self c.args.node.tier c.args.node.index a_disk a_disk c.args.self.now.soup c.new-out.result c.retry-answer.new.out (λ S k. k.retry) c.retry-answer.result c.requires.few c.new-out.ensures up (c.retry-answer.ensures a_disk) c.in_ok-add_command.ensures.memory
 
 pub returns : goal.returns
 returns c =
@@ -32,7 +37,7 @@ returns c =
     on_ok_weaker c.send.result (λ sent disks u depth w s d.
     let there = subst (λ z. c.args.node.index < 2 * z + 1) s.size c.requires.there in
     let at = disk_of w u c.args.node.index c.args.node.tier disks s.few d there in
-    let moves = subst (λ z. MoveIn c.args.self.now.nodes c.retry-answer.new.self c.args.node.tier c.args.node.index at.0 at.0 z c.retry-answer.new.out (λ m σ. mids.retry m.faults m.me σ) (λ b σ. backs.retry b.faults b.tier b.me σ) c.retry-answer.result) c.new-out.ensures (c.retry-answer.ensures at.0) in
+    let moves = subst (λ z. MoveIn c.args.self.now.nodes c.retry-answer.new.self c.args.node.tier c.args.node.index at.0 at.0 z c.retry-answer.new.out (λ S k. k.retry) c.retry-answer.result) c.new-out.ensures (c.retry-answer.ensures at.0) in
     made u depth w c.args.self.now c.send.new.self c.retry-answer.new.self c.retry-answer.new.out disks disks (events.Retry (ends.Node c.args.node)) (told_command c.args.node false c.retry-answer.result) c.args.lines.now c.add_command.new.out s sent.1
     (retry_by u depth w c.args.self.now.nodes c.retry-answer.new.self c.args.node disks at.0 c.retry-answer.new.out c.retry-answer.result c.args.node.tier (record { few = s.few; nodes_are = s.nodes; disks_are = d; there = there; disk_is = at.1; up = up }) c.in_ok-add_command.ensures.memory moves)
     sent.0 c.in_ok-add_command.ensures.told (λ f. absurd (cc)) (falls_none disks) tt) c.send.ensures

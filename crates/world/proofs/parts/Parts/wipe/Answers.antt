@@ -11,7 +11,14 @@ use Rattle.world.proofs.Counted.{falls_none}
 use Rattle.world.proofs.Playing.{made}
 use Rattle.world.proofs.Rising.{made_on, wiped_falls}
 use Rattle.world.proofs.Wiping.{wipe_by, wipe_rests}
+use Rattle.world.proofs.Present.{has_shown}
 use Rattle.world.proofs.parts.Parts.wipe.Goals as goal
+
+pub condition-requires : goal.condition-requires
+condition-requires g c = let r = c.requires.shown in has_shown r.0 r.1 r.2 c.args.self.now c.args.node r.3 c.requires.there
+
+pub wipe-requires : goal.wipe-requires
+wipe-requires g c = let r = c.requires.shown in has_shown r.0 r.1 r.2 c.args.self.now c.args.node r.3 c.requires.there
 
 pub returns-then-is_gone : goal.returns-then-is_gone
 returns-then-is_gone g c =

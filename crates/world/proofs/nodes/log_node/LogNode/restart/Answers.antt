@@ -1,7 +1,7 @@
 use Rattle.std.proofs.Common.{◌∙◌, sym, subst, false, Ok}
 use Rattle.log_model.specs.Log.{open_at}
 use Rattle.log_model.specs.Recover.{recover}
-use Rattle.log_model.specs.World.Mode.{Up}
+use Rattle.log_model.specs.Nodes.Mode.{Up}
 use Rattle.tier_model.specs.Moves.{log_facts}
 use Rattle.world.specs.Parts.{Reads}
 use Rattle.world.specs.LogNodes.{log_itself}

@@ -1,5 +1,5 @@
 use Rattle.std.proofs.Common.{◌∙◌, ap, length, subst, sym, Ok}
-use Rattle.log_model.specs.World.Mode.{Up}
+use Rattle.log_model.specs.Nodes.Mode.{Up}
 use Rattle.world.specs.declared.nodes.working.Working.{Working}
 use Rattle.world.specs.Parts.{Makes}
 use Rattle.world.specs.LogNodes.{whole_turn, log_move, log_itself}
