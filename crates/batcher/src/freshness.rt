@@ -1,11 +1,11 @@
 // Whether an entry is fresh.
-ghost use Rattle.std.specs.Prelude.{◌≡◌, IfOk};
+ghost use Rattle.std.specs.Prelude.{◌≡◌, IfOk, Ok, false};
 ghost use Rattle.log_values.specs.Fields.{IsClient};
 ghost use Rattle.server_model.specs.Booking.{booking_table};
 ghost use Rattle.round_model.specs.Service.{Programs};
 ghost use Rattle.round_model.specs.Tables.{Tables, is_fresh};
 ghost use Rattle.batcher.specs.Clients.{Agrees};
-ghost use Rattle.batcher.specs.Tabled.{is_fresh_by};
+ghost use Rattle.batcher.specs.Tabled.{is_next, is_fresh_by};
 
 use crate::Clients;
 use aeg_base::{Memory, ReqId};
@@ -32,11 +32,12 @@ fn is_booking_request(clients: &Clients, e: &Entry) -> bool
     read_request(e.body.items()).is_ok()
 }
 
-/// Whether the entry is a request of the service, its client's next, and the client has none in progress. There may be
-/// no memory only where the service is asked, which it is of an entry with its client's next number alone.
+/// Whether the entry is a request of the service, its client's next, and the client has none in progress. The service is
+/// asked only of an entry with its client's next number, so elsewhere no memory is taken.
 pub fn fresh_in<S: Service>(svc: &S, clients: &Clients, e: &Entry) -> Result<bool, Memory>
     requires { IsClient e.now.client }
-    ensures { (m : Programs) (T : Tables) → m.table ≡ S.table svc.now → Agrees clients.now T → IfOk result (λ fresh. fresh ≡ is_fresh m T e.now) }
+    ensures fresh { (m : Programs) (T : Tables) → m.table ≡ S.table svc.now → Agrees clients.now T → IfOk result (λ fresh. fresh ≡ is_fresh m T e.now) }
+    ensures elsewhere { is_next clients.now e.now ≡ false → result ≡ Ok false }
 {
     is_request_of(svc, clients, e)
 }
@@ -48,7 +49,8 @@ pub(crate) fn is_request_of<S: Service>(
     e: &Entry,
 ) -> Result<bool, Memory>
     requires { IsClient e.now.client }
-    ensures { IfOk result (λ fresh. fresh ≡ is_fresh_by (S.table svc.now) clients.now e.now) }
+    ensures fresh { IfOk result (λ fresh. fresh ≡ is_fresh_by (S.table svc.now) clients.now e.now) }
+    ensures elsewhere { is_next clients.now e.now ≡ false → result ≡ Ok false }
 {
     if !clients.is_next(e) {
         return Ok(false);
