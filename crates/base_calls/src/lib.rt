@@ -9,6 +9,8 @@ mod booking_jobs;
 #[cfg(test)]
 mod booking_segments;
 #[cfg(test)]
+mod held_packets;
+#[cfg(test)]
 mod in_turn;
 #[cfg(test)]
 mod journal_records;

@@ -5,6 +5,8 @@
 #[cfg(test)]
 mod acceptors_and_learners;
 #[cfg(test)]
+mod clients_and_batches;
+#[cfg(test)]
 mod frame_bytes;
 #[cfg(test)]
 mod journals_of_facts;
@@ -16,5 +18,7 @@ mod message_copies;
 mod one_log;
 #[cfg(test)]
 mod played_scripts;
+#[cfg(test)]
+mod round_tallies;
 #[cfg(test)]
 mod scripts_and_packets;

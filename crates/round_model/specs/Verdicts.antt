@@ -4,13 +4,9 @@ use Rattle.std.specs.Str.{bytes_eq}
 use Rattle.log_values.specs.declared.mid_value.Verdict.{Verdict}
 use Rattle.log_values.specs.declared.mid_value.Verdict.TheVariants.{Commit, Serial}
 use Rattle.log_model.specs.Log.{count_below}
+use Rattle.round_model.specs.declared.claim.Claim.{Claim}
 use Rattle.round_model.specs.Lists.{is_some, and_then, lowest}
 use Rattle.round_model.specs.Numbered.{find}
-
--- what a node came to in a round: its token, and the order in which its segments finished
-pub record Claim : Type 0 where
-  pub token : List ℕ
-  pub order : List ℕ
 
 -- a claim with its round and the node that made it
 pub record Vote : Type 0 where

@@ -2,5 +2,7 @@
 #![tactic(auto)]
 
 mod answer;
+mod claim;
 
 pub use answer::Answer;
+pub use claim::Claim;
