@@ -8,7 +8,7 @@ use Rattle.round_model.specs.declared.answer.Answer.{Answer}
 use Rattle.round_model.specs.Numbered.{rises, find, put, passes, least_open}
 use Rattle.aeg_base.specs.declared.names.Tier.{Tier}
 use Rattle.round_model.specs.Lists.{and_then}
-use Rattle.round_model.specs.Held.{HeldState, answers_of, told_by, holders, is_usable, code_if_usable, usable, IsHeldByMany, floor, floor_of}
+use Rattle.round_model.specs.Held.{HeldState, answers_of, told_by, is_usable, code_if_usable, usable, IsHeldByMany, floor, floor_of}
 use Rattle.round_model.proofs.NumberedLaws.{find_put, least_open_is, least_open_from, least_open_below, least_open_fails}
 
 -- THE FLOOR
