@@ -7,14 +7,20 @@ mod acceptors_and_learners;
 #[cfg(test)]
 mod frame_bytes;
 #[cfg(test)]
+mod held_answers;
+#[cfg(test)]
 mod journals_of_facts;
 #[cfg(test)]
 mod marks;
 #[cfg(test)]
 mod message_copies;
 #[cfg(test)]
+mod numbered_tables;
+#[cfg(test)]
 mod one_log;
 #[cfg(test)]
 mod played_scripts;
 #[cfg(test)]
 mod scripts_and_packets;
+#[cfg(test)]
+mod shim_calls;
