@@ -1,5 +1,5 @@
 // The answers that a replica holds, of all tiers.
-ghost use Rattle.std.specs.Prelude.{◌≡◌, ◌<◌, ◌≤◌, ◌+◌, ◌*◌, ◌↔◌, ℕ, not, map, None, Some, IsTrue, IsSome, OnOk, OnErr, IfOk};
+ghost use Rattle.std.specs.Prelude.{◌≡◌, ◌<◌, ◌≤◌, ◌+◌, ◌*◌, ◌↔◌, ℕ, not, map, None, Some, IsTrue, OnOk, OnErr, IfOk};
 ghost use Rattle.round_model.specs.Lists.{is_some};
 ghost use Rattle.round_model.specs.Numbered.{rises, find, passes};
 ghost use Rattle.round_model.specs.Held.{none_held, answers_of, held_code, is_usable, usable, IsHeldByMany, is_noted, holds};
@@ -159,7 +159,7 @@ impl Held {
     pub fn floor(&self, tier: Tier) -> CallNo
         ensures floor { result ≡ floor self.now tier }
         ensures from { 1 ≤ result }
-        ensures below { (k : ℕ) → 1 ≤ k → k < result → IsSome (usable self.now tier k) }
+        ensures below { (k : ℕ) → 1 ≤ k → k < result → IsTrue (is_some (usable self.now tier k)) }
         ensures least { result < u32.MAX → usable self.now tier result ≡ None }
     {
         self.of(tier).floor

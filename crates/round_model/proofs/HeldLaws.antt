@@ -1,5 +1,5 @@
--- Held answers: what is usable, that it stays so, and what the floor is.
-use Rattle.std.proofs.Common.{◌≡◌, ℕ, zero, suc, ◌+◌, ◌*◌, ◌<◌, ◌≤◌, Bool, true, false, ◌||◌, ◌==◌, List, [], ◌∷◌, set, Option, Some, None, IsSome}
+-- Held answers: what is usable, that it stays so, what the floor is, and what is found after one was added.
+use Rattle.std.proofs.Common.{◌≡◌, ℕ, zero, suc, ◌+◌, ◌*◌, ◌<◌, ◌≤◌, Bool, true, false, ◌||◌, ◌==◌, List, [], ◌∷◌, set, Option, Some, None}
 use Rattle.std.proofs.Common.{if◌then◌else◌, refl, sym, ap, ◌∙◌, ◌↔◌, arith}
 use Rattle.std.proofs.lemmas.Bool.Decides.{nat_tests}
 use Rattle.log_model.specs.Log.{count_below, has, is}
@@ -7,9 +7,13 @@ use Rattle.log_model.proofs.Basics.{count-more}
 use Rattle.round_model.specs.declared.answer.Answer.{Answer}
 use Rattle.round_model.specs.Numbered.{rises, find, put, passes, least_open}
 use Rattle.aeg_base.specs.declared.names.Tier.{Tier}
-use Rattle.round_model.specs.Lists.{and_then}
-use Rattle.round_model.specs.Held.{HeldState, answers_of, told_by, is_usable, code_if_usable, usable, IsHeldByMany, floor, floor_of}
-use Rattle.round_model.proofs.NumberedLaws.{find_put, least_open_is, least_open_from, least_open_below, least_open_fails}
+use Rattle.aeg_base.specs.declared.names.Tier.TheVariants.{Mid, Inv, Pay}
+use Rattle.server_model.specs.Server.{same_tier}
+use Rattle.round_model.specs.Lists.{is_some, and_then}
+use Rattle.round_model.specs.Held.{HeldState, answers_of, untold, told_by, is_usable, code_if_usable, usable, holds, takes_as, takes, heard}
+use Rattle.round_model.specs.Held.{hears, floor, floor_of}
+pub use Rattle.round_model.specs.Held.{IsHeldByMany}
+use Rattle.round_model.proofs.NumberedLaws.{rises_put, find_put, least_open_is, least_open_from, least_open_below, least_open_fails}
 
 -- THE FLOOR
 
@@ -80,10 +84,57 @@ pub told_stays : (u me : ℕ) (o : Option Answer) (a b : Answer) (y : ℕ) → S
     → is_usable u me b ≡ true
 told_stays u me o a b y found is h = let h' : is_usable u me a ≡ true = rw (← found) at h in rw is (still_usable u me a y h')
 
+-- THE ANSWERS OF ALL TIERS
+
+-- each tier's answers are in order
+pub record InOrder (h : HeldState) : Type 0 where
+  pub mid : rises 0 h.answers.mid ≡ true
+  pub inv : rises 0 h.answers.inv ≡ true
+  pub pay : rises 0 h.answers.pay ≡ true
+
+pub in_order : (h : HeldState) (t : Tier) → InOrder h → rises 0 (answers_of h t) ≡ true
+in_order h Mid o = o.mid
+in_order h Inv o = o.inv
+in_order h Pay o = o.pay
+
+pub in_order_holds : (h : HeldState) (t : Tier) (n : ℕ) (a : Answer) → InOrder h → InOrder (holds h t n a)
+in_order_holds h Mid n a o = record { mid = rises_put 0 h.answers.mid n a (omega arith) o.mid; inv = o.inv; pay = o.pay }
+in_order_holds h Inv n a o = record { mid = o.mid; inv = rises_put 0 h.answers.inv n a (omega arith) o.inv; pay = o.pay }
+in_order_holds h Pay n a o = record { mid = o.mid; inv = o.inv; pay = rises_put 0 h.answers.pay n a (omega arith) o.pay }
+
+-- adding an answer, and a Have, keep the order
+pub in_order_takes : (h : HeldState) (t : Tier) (n code : ℕ) → InOrder h → InOrder (takes h t n code)
+in_order_takes h t n code o = which (find (answers_of h t) n)
+  where
+    which : (b : Option Answer) → InOrder (takes_as h t n code b)
+    which None = in_order_holds h t n (untold code) o
+    which (Some a) = o
+
+pub in_order_hears : (h : HeldState) (y : ℕ) (t : Tier) (n code : ℕ) → InOrder h → InOrder (hears h y t n code)
+in_order_hears h y t n code o = in_order_holds h t n (heard (find (answers_of h t) n) code y) o
+
+-- what is found once an answer is added: at its own tier, and at another
+pub find_holds : (h : HeldState) (t : Tier) (n : ℕ) (a : Answer) (k : ℕ)
+    → find (answers_of (holds h t n a) t) k ≡ (if n == k then Some a else find (answers_of h t) k)
+find_holds h Mid n a k = find_put h.answers.mid n a k
+find_holds h Inv n a k = find_put h.answers.inv n a k
+find_holds h Pay n a k = find_put h.answers.pay n a k
+
+pub answers_holds : (h : HeldState) (t s : Tier) (n : ℕ) (a : Answer) → same_tier t s ≡ false → answers_of (holds h t n a) s ≡ answers_of h s
+answers_holds h Mid Mid n a d = absurd (cc)
+answers_holds h Mid Inv n a d = refl
+answers_holds h Mid Pay n a d = refl
+answers_holds h Inv Mid n a d = refl
+answers_holds h Inv Inv n a d = absurd (cc)
+answers_holds h Inv Pay n a d = refl
+answers_holds h Pay Mid n a d = refl
+answers_holds h Pay Inv n a d = refl
+answers_holds h Pay Pay n a d = absurd (cc)
+
 -- WHAT IS USABLE
 
 -- a usable answer is held, and more than u replicas are known to hold it
-usable_held : (h : HeldState) (t : Tier) (n code : ℕ) → usable h t n ≡ Some code → IsHeldByMany h t n code
+pub usable_held : (h : HeldState) (t : Tier) (n code : ℕ) → usable h t n ≡ Some code → IsHeldByMany h t n code
 usable_held h t n code is = which (find (answers_of h t) n) refl is
   where
     which : (o : Option Answer) → find (answers_of h t) n ≡ o → and_then o (code_if_usable h.faults h.me) ≡ Some code → IsHeldByMany h t n code
@@ -95,7 +146,7 @@ usable_held h t n code is = which (find (answers_of h t) n) refl is
         by_test false u is = absurd (cc)
 
 -- and an answer that is held and that more than u replicas are known to hold is usable
-held_usable : (h : HeldState) (t : Tier) (n code : ℕ) → IsHeldByMany h t n code → usable h t n ≡ Some code
+pub held_usable : (h : HeldState) (t : Tier) (n code : ℕ) → IsHeldByMany h t n code → usable h t n ≡ Some code
 held_usable h t n code k =
     let test : is_usable h.faults h.me k.answer ≡ true = grind (arith, nat_tests, k.many) in
     rw k.found (rw test (ap (λ c. Some c) k.has_code))
@@ -109,20 +160,26 @@ usable_exactly s h t n o r seen found is code = (λ e. usable_held h t n code (s
     is' : r ≡ usable h t n
     is' = is ∙ rw seen (rw found refl)
 
--- an answer that passes the test has a code that is usable
-passing : (u me : ℕ) (o : Option Answer) → passes (is_usable u me) o ≡ true → IsSome (and_then o (code_if_usable u me))
-passing u me None h = absurd (cc)
-passing u me (Some a) h = rw h refl
+-- usable is passing the test
+pub usable_passes : (h : HeldState) (t : Tier) (n : ℕ) → is_some (usable h t n) ≡ passes (is_usable h.faults h.me) (find (answers_of h t) n)
+usable_passes h t n = which (find (answers_of h t) n)
+  where
+    which : (o : Option Answer) → is_some (and_then o (code_if_usable h.faults h.me)) ≡ passes (is_usable h.faults h.me) o
+    which None = refl
+    which (Some a) = by_test (is_usable h.faults h.me a)
+      where
+        by_test : (b : Bool) → is_some (if b then Some a.code else None) ≡ b
+        by_test true = refl
+        by_test false = refl
 
--- and one that fails it has none
+-- an answer that fails the test has no code that is usable
 failing : (u me : ℕ) (o : Option Answer) → passes (is_usable u me) o ≡ false → and_then o (code_if_usable u me) ≡ None
 failing u me None h = refl
 failing u me (Some a) h = rw h refl
 
 -- the floor is the least number from 1 that isn't usable: all below it are
-pub floor_usable : (h : HeldState) (t : Tier) (k : ℕ) → 1 ≤ k → k < floor h t → IsSome (usable h t k)
-floor_usable h t k low high =
-    passing h.faults h.me (find (answers_of h t) k) (floor_below h.faults h.me (answers_of h t) k low high)
+pub floor_usable : (h : HeldState) (t : Tier) (k : ℕ) → 1 ≤ k → k < floor h t → is_some (usable h t k) ≡ true
+floor_usable h t k low high = usable_passes h t k ∙ floor_below h.faults h.me (answers_of h t) k low high
 
 -- and it isn't, but where it is the greatest number
 pub floor_unusable : (h : HeldState) (t : Tier) → rises 0 (answers_of h t) ≡ true → floor h t < 4294967295

@@ -29,7 +29,7 @@ lowest_suc n test = step (lowest n test)
     step (Some i) = refl
 
 -- a number that passes, with none below it that does
-lowest_at : (n m : ℕ) (test : ℕ → Bool) → lowest n test ≡ None → test n ≡ true → n < m → lowest m test ≡ Some n
+pub lowest_at : (n m : ℕ) (test : ℕ → Bool) → lowest n test ≡ None → test n ≡ true → n < m → lowest m test ≡ Some n
 lowest_at n zero test none is lt = absurd (omega arith)
 lowest_at n (suc m) test none is lt = lowest_suc m test ∙ step (n == m) refl (lowest_at n m test none is)
   where
@@ -44,12 +44,12 @@ or_last_some None true n i h = inr (refl, cc)
 or_last_some None false n i h = absurd (cc)
 or_last_some (Some j) b n i h = inl h
 
-lowest_passes : (n : ℕ) (test : ℕ → Bool) (i : ℕ) → lowest n test ≡ Some i → test i ≡ true
+pub lowest_passes : (n : ℕ) (test : ℕ → Bool) (i : ℕ) → lowest n test ≡ Some i → test i ≡ true
 lowest_passes zero test i h = absurd (cc)
 lowest_passes (suc n) test i h =
     elim (or_last_some (lowest n test) (test n) n i (sym (lowest_suc n test) ∙ h)) [ inl e ↦ lowest_passes n test i e | inr p ↦ rw p.1 at p.0 ]
 
-lowest_none : (n : ℕ) (test : ℕ → Bool) → ((i : ℕ) → i < n → test i ≡ false) → lowest n test ≡ None
+pub lowest_none : (n : ℕ) (test : ℕ → Bool) → ((i : ℕ) → i < n → test i ≡ false) → lowest n test ≡ None
 lowest_none zero test all = refl
 lowest_none (suc n) test all =
     let rest : lowest n test ≡ None = lowest_none n test (λ i lt. all i (omega arith)) in let here : test n ≡ false = all n (omega arith) in
@@ -60,7 +60,7 @@ or_last_none None true n h = absurd (cc)
 or_last_none None false n h = (refl, refl)
 or_last_none (Some j) b n h = absurd (cc)
 
-none_passes : (n : ℕ) (test : ℕ → Bool) → lowest n test ≡ None → (i : ℕ) → i < n → test i ≡ false
+pub none_passes : (n : ℕ) (test : ℕ → Bool) → lowest n test ≡ None → (i : ℕ) → i < n → test i ≡ false
 none_passes zero test none i lt = absurd (omega arith)
 none_passes (suc n) test none i lt =
     let both : (lowest n test ≡ None) × (test n ≡ false) = or_last_none (lowest n test) (test n) n (sym (lowest_suc n test) ∙ none) in
@@ -73,7 +73,7 @@ none_passes (suc n) test none i lt =
 -- THE TEXT THAT AGREES
 
 -- none is backed where none agrees
-unbacked : (u : ℕ) (row : List (Option (List ℕ))) → agreed u row ≡ None → lowest (2 * u + 1) (λ y. is_backed u row (copy_of row y)) ≡ None
+pub unbacked : (u : ℕ) (row : List (Option (List ℕ))) → agreed u row ≡ None → lowest (2 * u + 1) (λ y. is_backed u row (copy_of row y)) ≡ None
 unbacked u row h = step (lowest (2 * u + 1) (λ y. is_backed u row (copy_of row y))) refl h
   where
     step : (o : Option ℕ) → lowest (2 * u + 1) (λ y. is_backed u row (copy_of row y)) ≡ o → and_then o (copy_of row) ≡ None → o ≡ None
@@ -127,7 +127,7 @@ agreed_stays u row s text free h =
     rw before refl
 
 -- more than u nodes gave the text that agrees
-agreed_many : (u : ℕ) (row : List (Option (List ℕ))) (text : List ℕ) → agreed u row ≡ Some text → u < givers u row text
+pub agreed_many : (u : ℕ) (row : List (Option (List ℕ))) (text : List ℕ) → agreed u row ≡ Some text → u < givers u row text
 agreed_many u row text h = step (lowest (2 * u + 1) (λ y. is_backed u row (copy_of row y))) refl h
   where
     step : (o : Option ℕ) → lowest (2 * u + 1) (λ y. is_backed u row (copy_of row y)) ≡ o → and_then o (copy_of row) ≡ Some text → u < givers u row text
@@ -190,20 +190,28 @@ has_copies : (u : ℕ) (o : Option (List (Option (List ℕ)))) (text : List ℕ)
 has_copies u None text h = absurd (cc)
 has_copies u (Some row) text h = refl
 
-pub ready_least : (s : ShimState) (call : ℕ × List ℕ) → rises 0 s.copies ≡ true → AreWaiting s.kept s.floor s.copies → ready s ≡ Some call
+-- its copies agree on its text, and those of no lower number agree
+pub record AgreesFirst (s : ShimState) (call : ℕ × List ℕ) : Type 0 where
+  pub agrees : and_then (find s.copies call.0) (agreed s.faults) ≡ Some call.1
+  pub least : (k : ℕ) → k < call.0 → and_then (find s.copies k) (agreed s.faults) ≡ None
+
+pub ready_least : (s : ShimState) (call : ℕ × List ℕ) → rises 0 s.copies ≡ true → ready s ≡ Some call → AgreesFirst s call
+ready_least s call h is = record {
+  agrees = sym (find_picked (agreed s.faults) 0 s.copies call.0 h) ∙ first_found (ready_calls s.faults s.copies) call is;
+  least = λ k lt. sym (find_picked (agreed s.faults) 0 s.copies k h)
+      ∙ first_least 0 (ready_calls s.faults s.copies) call k (rises_picked (agreed s.faults) 0 s.copies h) is lt;
+}
+
+-- so it is the least of which more than u nodes gave one text
+pub ready_is_least : (s : ShimState) (call : ℕ × List ℕ) → rises 0 s.copies ≡ true → AreWaiting s.kept s.floor s.copies → ready s ≡ Some call
     → IsLeastReady s call
-ready_least s call h waiting is =
-    let agrees : and_then (find s.copies call.0) (agreed s.faults) ≡ Some call.1
-    = sym (find_picked (agreed s.faults) 0 s.copies call.0 h) ∙ first_found (ready_calls s.faults s.copies) call is in
+ready_is_least s call h waiting is =
+    let first_one : AgreesFirst s call = ready_least s call h is in
     record {
-      waits = waiting call.0 (has_copies s.faults (find s.copies call.0) call.1 agrees);
-      many = agreed_many s.faults (copies_at s call.0) call.1 (agreed_there s.faults (find s.copies call.0) ∙ agrees);
-      least = λ k text lt. few_gave s.faults (copies_at s k) text (agreed_there s.faults (find s.copies k) ∙ below k lt);
+      waits = waiting call.0 (has_copies s.faults (find s.copies call.0) call.1 first_one.agrees);
+      many = agreed_many s.faults (copies_at s call.0) call.1 (agreed_there s.faults (find s.copies call.0) ∙ first_one.agrees);
+      least = λ k text lt. few_gave s.faults (copies_at s k) text (agreed_there s.faults (find s.copies k) ∙ first_one.least k lt);
     }
-  where
-    below : (k : ℕ) → k < call.0 → and_then (find s.copies k) (agreed s.faults) ≡ None
-    below k lt = sym (find_picked (agreed s.faults) 0 s.copies k h)
-        ∙ first_least 0 (ready_calls s.faults s.copies) call k (rises_picked (agreed s.faults) 0 s.copies h) is lt
 
 -- where none is ready, no call's copies agree
 pub ready_none : (s : ShimState) → rises 0 s.copies ≡ true → ready s ≡ None → IsNoneReady s
@@ -221,7 +229,7 @@ and_true true b h = h
 and_true false b h = absurd (cc)
 
 -- u+1 nodes told it or a higher one
-due_many : (u : ℕ) (floors : List ℕ) (y : ℕ) → 0 < due_among u floors y → many_at_least u floors (due_among u floors y) ≡ true
+pub due_many : (u : ℕ) (floors : List ℕ) (y : ℕ) → 0 < due_among u floors y → many_at_least u floors (due_among u floors y) ≡ true
 due_many u floors zero lt = absurd (omega arith)
 due_many u floors (suc y) lt = which (is_more u floors (due_among u floors y) (floor_at floors y)) refl (due_many u floors y)
   where
@@ -232,7 +240,7 @@ due_many u floors (suc y) lt = which (is_more u floors (due_among u floors y) (f
     which false e before = before (rw e at lt)
 
 -- and so did u+1 nodes no floor that is higher
-due_greatest : (u : ℕ) (floors : List ℕ) (n y : ℕ) → y < n → many_at_least u floors (floor_at floors y) ≡ true → floor_at floors y ≤ due_among u floors n
+pub due_greatest : (u : ℕ) (floors : List ℕ) (n y : ℕ) → y < n → many_at_least u floors (floor_at floors y) ≡ true → floor_at floors y ≤ due_among u floors n
 due_greatest u floors zero y lt many = absurd (omega arith)
 due_greatest u floors (suc n) y lt many =
     which (is_more u floors (due_among u floors n) (floor_at floors n)) refl (λ below. due_greatest u floors n y below many)

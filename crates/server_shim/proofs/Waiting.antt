@@ -9,7 +9,7 @@ use Rattle.round_model.specs.Shims.{ShimState, copy_of, copies_or_none, copies_a
 use Rattle.round_model.specs.Shims.{IsNoneReady}
 use Rattle.round_model.proofs.NumberedLaws.{find_put, find_without, find_from, find_picked, rises_put, rises_without, rises_from}
 use Rattle.round_model.proofs.NumberedLaws.{picked_put_some, picked_put_none, picked_without, picked_from, without_none, without_put}
-use Rattle.round_model.proofs.ShimLaws.{agreed_stays, ready_least, ready_none}
+use Rattle.round_model.proofs.ShimLaws.{agreed_stays, ready_is_least, ready_none}
 use Rattle.server_shim.specs.Calls.{AreReady}
 
 -- READY CALLS
@@ -131,7 +131,7 @@ pub least_in : {B : Type 0} (seen_as : B → ℕ × List ℕ) (s h : ShimState) 
     → AreWaiting s.kept s.floor s.copies → option_map seen_as o ≡ first R → IfSome o (λ b. IsLeastReady h (seen_as b))
 least_in seen_as s h R None e ready waiting is = tt
 least_in seen_as s h R (Some b) e ready waiting is =
-    rw (← e) (ready_least s (seen_as b) ready.sorted waiting (sym (is ∙ ap (λ S. first S) ready.picked)))
+    rw (← e) (ready_is_least s (seen_as b) ready.sorted waiting (sym (is ∙ ap (λ S. first S) ready.picked)))
 
 pub nothing_in : {B : Type 0} (seen_as : B → ℕ × List ℕ) (s h : ShimState) (R : List (ℕ × List ℕ)) (o : Option B) → s ≡ h → AreReady s.faults s.copies R
     → option_map seen_as o ≡ first R → IfNone o (IsNoneReady h)
