@@ -9,11 +9,15 @@ mod clients_and_batches;
 #[cfg(test)]
 mod frame_bytes;
 #[cfg(test)]
+mod held_answers;
+#[cfg(test)]
 mod journals_of_facts;
 #[cfg(test)]
 mod marks;
 #[cfg(test)]
 mod message_copies;
+#[cfg(test)]
+mod numbered_tables;
 #[cfg(test)]
 mod one_log;
 #[cfg(test)]
@@ -22,3 +26,5 @@ mod played_scripts;
 mod round_tallies;
 #[cfg(test)]
 mod scripts_and_packets;
+#[cfg(test)]
+mod shim_calls;

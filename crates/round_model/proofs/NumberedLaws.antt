@@ -1,5 +1,6 @@
 -- Tables by number: what is found after a change, that a change keeps the order, and where in the list it is made.
-use Rattle.std.proofs.Common.{◌≡◌, ◌≢◌, ℕ, zero, suc, ◌<◌, ◌≤◌, Bool, true, false, ◌==◌, List, [], ◌∷◌, length, get_or, Option, Some, None, if◌then◌else◌, refl, arith}
+use Rattle.std.proofs.Common.{◌≡◌, ℕ, zero, suc, ◌<◌, ◌≤◌, Bool, true, false, ◌==◌, List, [], ◌∷◌, length, get_or}
+use Rattle.std.proofs.Common.{Option, Some, None, if◌then◌else◌, refl, arith}
 use Rattle.std.specs.Prelude.{nat_lt}
 use Rattle.std.proofs.lemmas.Bool.Decides.{nat_tests}
 use Rattle.round_model.specs.Lists.{and_then}
@@ -48,7 +49,8 @@ find_picked f m (e ∷ es) k h = let r = risen m e es h in
     let rest : find (picked f es) k ≡ and_then (find es k) f = find_picked f (suc e.0) es k r.rest in
     picked_step e k f (f e.1) es refl below rest
   where
-    picked_step : {A B : Type 0} (e : ℕ × A) (k : ℕ) (f : A → Option B) (o : Option B) (es : List (ℕ × A)) → f e.1 ≡ o → (k < suc e.0 → find es k ≡ None) → find (picked f es) k ≡ and_then (find es k) f
+    picked_step : {A B : Type 0} (e : ℕ × A) (k : ℕ) (f : A → Option B) (o : Option B) (es : List (ℕ × A)) → f e.1 ≡ o → (k < suc e.0 → find es k ≡ None)
+        → find (picked f es) k ≡ and_then (find es k) f
         → find (picked_as e.0 o (picked f es)) k ≡ and_then (if e.0 == k then Some e.1 else find es k) f
     picked_step e k f None es is below rest = grind (arith, nat_tests, below)
     picked_step e k f (Some b) es is below rest = grind (arith, nat_tests, below)
@@ -72,7 +74,8 @@ rises_picked f m [] h = refl
 rises_picked f m (e ∷ es) h = let r = risen m e es h in
     picked_rises e (f e.1) m (picked f es) r.least (rises_picked f (suc e.0) es r.rest)
   where
-    picked_rises : {A B : Type 0} (e : ℕ × A) (o : Option B) (m : ℕ) (rest : List (ℕ × B)) → m ≤ e.0 → rises (suc e.0) rest ≡ true → rises m (picked_as e.0 o rest) ≡ true
+    picked_rises : {A B : Type 0} (e : ℕ × A) (o : Option B) (m : ℕ) (rest : List (ℕ × B)) → m ≤ e.0 → rises (suc e.0) rest ≡ true
+        → rises m (picked_as e.0 o rest) ≡ true
     picked_rises e None m rest le h = rises_lower m (suc e.0) rest (omega arith) h
     picked_rises e (Some b) m rest le h = grind (arith, nat_tests)
 
@@ -104,48 +107,59 @@ without_put (e ∷ es) n a h = grind (arith, nat_tests, without_put es n a)
 pub number_from : {A : Type 0} (m : ℕ) (es : List (ℕ × A)) (i : ℕ) (d : ℕ × A) → rises m es ≡ true → i < length es → m ≤ (get_or es i d).0
 number_from m [] i d h lt = absurd (omega arith)
 number_from m (e ∷ es) zero d h lt = (risen m e es h).least
-number_from m (e ∷ es) (suc i) d h lt = let r = risen m e es h in let rest : suc e.0 ≤ (get_or es i d).0 = number_from (suc e.0) es i d r.rest (omega arith) in omega (arith, rest, r.least)
+number_from m (e ∷ es) (suc i) d h lt =
+    let r = risen m e es h in let rest : suc e.0 ≤ (get_or es i d).0 = number_from (suc e.0) es i d r.rest (omega arith) in omega (arith, rest, r.least)
 
 -- numbers rise along the list
-pub numbers_rise : {A : Type 0} (m : ℕ) (es : List (ℕ × A)) (i j : ℕ) (d : ℕ × A) → rises m es ≡ true → i < j → j < length es → (get_or es i d).0 < (get_or es j d).0
+pub numbers_rise : {A : Type 0} (m : ℕ) (es : List (ℕ × A)) (i j : ℕ) (d : ℕ × A) → rises m es ≡ true → i < j → j < length es
+    → (get_or es i d).0 < (get_or es j d).0
 numbers_rise m [] i j d h lt in_range = absurd (omega arith)
 numbers_rise m (e ∷ es) i zero d h lt in_range = absurd (omega arith)
-numbers_rise m (e ∷ es) zero (suc j) d h lt in_range = let r = risen m e es h in let rest : suc e.0 ≤ (get_or es j d).0 = number_from (suc e.0) es j d r.rest (omega arith) in omega (arith, rest)
+numbers_rise m (e ∷ es) zero (suc j) d h lt in_range =
+    let r = risen m e es h in let rest : suc e.0 ≤ (get_or es j d).0 = number_from (suc e.0) es j d r.rest (omega arith) in omega (arith, rest)
 numbers_rise m (e ∷ es) (suc i) (suc j) d h lt in_range = numbers_rise (suc e.0) es i j d (risen m e es h).rest (omega arith) (omega arith)
 
 -- WHAT IS PICKED OF A CHANGED TABLE
 
 -- a number for which f gives something has that among the picked
-pub picked_put_some : {A B : Type 0} (f : A → Option B) (m : ℕ) (es : List (ℕ × A)) (n : ℕ) (a : A) (b : B) → rises m es ≡ true → f a ≡ Some b → picked f (put es n a) ≡ put (picked f es) n b
+pub picked_put_some : {A B : Type 0} (f : A → Option B) (m : ℕ) (es : List (ℕ × A)) (n : ℕ) (a : A) (b : B) → rises m es ≡ true → f a ≡ Some b
+    → picked f (put es n a) ≡ put (picked f es) n b
 picked_put_some f m [] n a b h is = grind (arith, nat_tests, is)
 picked_put_some f m (e ∷ es) n a b h is = let r = risen m e es h in
     let rest : rises (suc e.0) (picked f es) ≡ true = rises_picked f (suc e.0) es r.rest in
-    puts e n b f (f e.1) a es is refl (picked_put_some f (suc e.0) es n a b r.rest is) (λ lt. put_first (picked f es) n b (rises_lower (suc n) (suc e.0) (picked f es) (omega arith) rest))
+    puts e n b f (f e.1) a es is refl (picked_put_some f (suc e.0) es n a b r.rest is)
+    (λ lt. put_first (picked f es) n b (rises_lower (suc n) (suc e.0) (picked f es) (omega arith) rest))
   where
-    puts : {A B : Type 0} (e : ℕ × A) (n : ℕ) (b : B) (f : A → Option B) (o : Option B) (a : A) (es : List (ℕ × A)) → f a ≡ Some b → f e.1 ≡ o → picked f (put es n a) ≡ put (picked f es) n b
+    puts : {A B : Type 0} (e : ℕ × A) (n : ℕ) (b : B) (f : A → Option B) (o : Option B) (a : A) (es : List (ℕ × A)) → f a ≡ Some b → f e.1 ≡ o
+        → picked f (put es n a) ≡ put (picked f es) n b
         → (n < suc e.0 → put (picked f es) n b ≡ (n, b) ∷ picked f es) → picked f (put (e ∷ es) n a) ≡ put (picked_as e.0 o (picked f es)) n b
     puts e n b f None a es is here rest first = grind (arith, nat_tests, is, here, first)
     puts e n b f (Some c) a es is here rest first = grind (arith, nat_tests, is, here, first)
 
 -- a number for which f gives nothing has nothing among the picked
-pub picked_put_none : {A B : Type 0} (f : A → Option B) (m : ℕ) (es : List (ℕ × A)) (n : ℕ) (a : A) → rises m es ≡ true → f a ≡ None → picked f (put es n a) ≡ without (picked f es) n
+pub picked_put_none : {A B : Type 0} (f : A → Option B) (m : ℕ) (es : List (ℕ × A)) (n : ℕ) (a : A) → rises m es ≡ true → f a ≡ None
+    → picked f (put es n a) ≡ without (picked f es) n
 picked_put_none f m [] n a h is = grind (arith, nat_tests, is)
 picked_put_none f m (e ∷ es) n a h is = let r = risen m e es h in
     let rest : rises (suc e.0) (picked f es) ≡ true = rises_picked f (suc e.0) es r.rest in
-    puts e n f (f e.1) a es is refl (picked_put_none f (suc e.0) es n a r.rest is) (λ lt. without_none (picked f es) n (find_below (suc e.0) (picked f es) n rest lt))
+    puts e n f (f e.1) a es is refl (picked_put_none f (suc e.0) es n a r.rest is)
+    (λ lt. without_none (picked f es) n (find_below (suc e.0) (picked f es) n rest lt))
   where
-    puts : {A B : Type 0} (e : ℕ × A) (n : ℕ) (f : A → Option B) (o : Option B) (a : A) (es : List (ℕ × A)) → f a ≡ None → f e.1 ≡ o → picked f (put es n a) ≡ without (picked f es) n
+    puts : {A B : Type 0} (e : ℕ × A) (n : ℕ) (f : A → Option B) (o : Option B) (a : A) (es : List (ℕ × A)) → f a ≡ None → f e.1 ≡ o
+        → picked f (put es n a) ≡ without (picked f es) n
         → (n < suc e.0 → without (picked f es) n ≡ picked f es) → picked f (put (e ∷ es) n a) ≡ without (picked_as e.0 o (picked f es)) n
     puts e n f None a es is here rest first = grind (arith, nat_tests, is, here, first)
     puts e n f (Some c) a es is here rest first = grind (arith, nat_tests, is, here, first)
 
-pub picked_without : {A B : Type 0} (f : A → Option B) (m : ℕ) (es : List (ℕ × A)) (n : ℕ) → rises m es ≡ true → picked f (without es n) ≡ without (picked f es) n
+pub picked_without : {A B : Type 0} (f : A → Option B) (m : ℕ) (es : List (ℕ × A)) (n : ℕ) → rises m es ≡ true
+    → picked f (without es n) ≡ without (picked f es) n
 picked_without f m [] n h = refl
 picked_without f m (e ∷ es) n h = let r = risen m e es h in
     let rest : rises (suc e.0) (picked f es) ≡ true = rises_picked f (suc e.0) es r.rest in
     goes e n f (f e.1) es refl (picked_without f (suc e.0) es n r.rest) (λ lt. without_none (picked f es) n (find_below (suc e.0) (picked f es) n rest lt))
   where
-    goes : {A B : Type 0} (e : ℕ × A) (n : ℕ) (f : A → Option B) (o : Option B) (es : List (ℕ × A)) → f e.1 ≡ o → picked f (without es n) ≡ without (picked f es) n
+    goes : {A B : Type 0} (e : ℕ × A) (n : ℕ) (f : A → Option B) (o : Option B) (es : List (ℕ × A)) → f e.1 ≡ o
+        → picked f (without es n) ≡ without (picked f es) n
         → (n < suc e.0 → without (picked f es) n ≡ picked f es) → picked f (without (e ∷ es) n) ≡ without (picked_as e.0 o (picked f es)) n
     goes e n f None es here rest first = grind (arith, nat_tests, here, first)
     goes e n f (Some c) es here rest first = grind (arith, nat_tests, here, first)
@@ -154,7 +168,8 @@ pub picked_from : {A B : Type 0} (f : A → Option B) (m : ℕ) (es : List (ℕ 
 picked_from f m [] n h = refl
 picked_from f m (e ∷ es) n h = let r = risen m e es h in
     let rest : rises (suc e.0) (picked f es) ≡ true = rises_picked f (suc e.0) es r.rest in
-    goes e n f (f e.1) es refl (picked_from f (suc e.0) es n r.rest) (λ le. from_first (picked f es) n (rises_lower n (suc e.0) (picked f es) (omega arith) rest))
+    goes e n f (f e.1) es refl (picked_from f (suc e.0) es n r.rest)
+    (λ le. from_first (picked f es) n (rises_lower n (suc e.0) (picked f es) (omega arith) rest))
   where
     goes : {A B : Type 0} (e : ℕ × A) (n : ℕ) (f : A → Option B) (o : Option B) (es : List (ℕ × A)) → f e.1 ≡ o → picked f (from es n) ≡ from (picked f es) n
         → (n ≤ e.0 → from (picked f es) n ≡ picked f es) → picked f (from (e ∷ es) n) ≡ from (picked_as e.0 o (picked f es)) n
@@ -164,13 +179,20 @@ picked_from f m (e ∷ es) n h = let r = risen m e es h in
 -- THE LEAST NUMBER THAT IS OPEN
 
 -- a number that doesn't pass, below which all from n on pass, is the least that is open
-pub least_open_is : {A : Type 0} (test : A → Bool) (m n f : ℕ) (es : List (ℕ × A)) → rises m es ≡ true → n ≤ f → ((k : ℕ) → n ≤ k → k < f → passes test (find es k) ≡ true) → passes test (find es f) ≡ false → least_open test n es ≡ f
+pub least_open_is : {A : Type 0} (test : A → Bool) (m n f : ℕ) (es : List (ℕ × A)) → rises m es ≡ true → n ≤ f
+    → ((k : ℕ) → n ≤ k → k < f → passes test (find es k) ≡ true) → passes test (find es f) ≡ false → least_open test n es ≡ f
 least_open_is test m n f [] h le all fails = grind (arith, nat_tests, all n)
 least_open_is test m n f (e ∷ es) h le all fails =
     let r = risen m e es h in
     let below : n < suc e.0 → find es n ≡ None = λ lt. find_below (suc e.0) es n r.rest lt in
-    let skips : e.0 < n → least_open test n es ≡ f = λ lt. least_open_is test (suc e.0) n f es r.rest le (λ k low high. grind (arith, nat_tests, all k low high)) (grind (arith, nat_tests)) in
-    let goes_on : e.0 ≡ n → n < f → least_open test (suc n) es ≡ f = λ same lt. least_open_is test (suc e.0) (suc n) f es r.rest (omega arith) (λ k low high. grind (arith, nat_tests, all k (omega arith) high)) (grind (arith, nat_tests)) in
+    let skips : e.0 < n → least_open test n es ≡ f =
+    λ lt. least_open_is test (suc e.0) n f es r.rest le (λ k low high. grind (arith, nat_tests, all k low high)) (grind (arith, nat_tests)) in
+    let goes_on : e.0 ≡ n → n < f → least_open test (suc n) es ≡ f =
+    λ same lt. least_open_is test (suc e.0) (suc n) f es r.rest (omega arith) (λ k low high. grind (
+      arith,
+      nat_tests,
+      all k (omega arith) high,
+    )) (grind (arith, nat_tests)) in
     grind (arith, nat_tests, below, skips, goes_on, all n (omega arith))
 
 pub least_open_from : {A : Type 0} (test : A → Bool) (n : ℕ) (es : List (ℕ × A)) → n ≤ least_open test n es
@@ -188,42 +210,15 @@ least_open_fails test m n [] h = refl
 least_open_fails test m n (e ∷ es) h =
     let r = risen m e es h in
     let below : n < suc e.0 → find es n ≡ None = λ lt. find_below (suc e.0) es n r.rest lt in
-    grind (arith, nat_tests, below, least_open_fails test (suc e.0) n es r.rest, least_open_fails test (suc e.0) (suc n) es r.rest, least_open_from test n es, least_open_from test (suc n) es)
-
--- ONE CHANGE AFTER ANOTHER
-
--- the last of two puts counts
-pub put_put : {A : Type 0} (es : List (ℕ × A)) (n : ℕ) (a b : A) → put (put es n a) n b ≡ put es n b
-put_put [] n a b = grind (arith, nat_tests)
-put_put (e ∷ es) n a b = grind (arith, nat_tests, put_put es n a b)
-
--- puts of two numbers in either order leave one table
-pub put_comm : {A : Type 0} (es : List (ℕ × A)) (n k : ℕ) (a b : A) → n ≢ k → put (put es n a) k b ≡ put (put es k b) n a
-put_comm [] n k a b differ = grind (arith, nat_tests)
-put_comm (e ∷ es) n k a b differ = grind (arith, nat_tests, put_comm es n k a b differ)
-
-same_pair : {A : Type 0} (e f : ℕ × A) → e.0 ≡ f.0 → e.1 ≡ f.1 → e ≡ f
-same_pair (n, a) (k, b) p q = rw p (rw q refl)
-
--- tables in which the same is found are one
-pub same_tables : {A : Type 0} (m : ℕ) (es fs : List (ℕ × A)) → rises m es ≡ true → rises m fs ≡ true → ((k : ℕ) → find es k ≡ find fs k) → es ≡ fs
-same_tables m [] [] h i same = refl
-same_tables m [] (f ∷ fs) h i same = let here : None ≡ find (f ∷ fs) f.0 = same f.0 in grind (arith, nat_tests, here)
-same_tables m (e ∷ es) [] h i same = let here : find (e ∷ es) e.0 ≡ None = same e.0 in grind (arith, nat_tests, here)
-same_tables m (e ∷ es) (f ∷ fs) h i same =
-    let r = risen m e es h in
-    let q = risen m f fs i in
-    let at_e : find (e ∷ es) e.0 ≡ find (f ∷ fs) e.0 = same e.0 in
-    let at_f : find (e ∷ es) f.0 ≡ find (f ∷ fs) f.0 = same f.0 in
-    let low_e : f.0 < suc e.0 → find es f.0 ≡ None = find_below (suc e.0) es f.0 r.rest in
-    let low_f : e.0 < suc f.0 → find fs e.0 ≡ None = find_below (suc f.0) fs e.0 q.rest in
-    let numbers : e.0 ≡ f.0 = grind (arith, nat_tests, at_e, at_f, low_e, low_f) in
-    let values : e.1 ≡ f.1 = grind (arith, nat_tests, at_e, numbers) in
-    let q' : rises (suc e.0) fs ≡ true = rw numbers q.rest in
-    let rest : (k : ℕ) → find es k ≡ find fs k = λ k. grind (arith, nat_tests, same k, numbers, find_below (suc e.0) es k r.rest, find_below (suc e.0) fs k q') in
-    let tails : es ≡ fs = same_tables (suc e.0) es fs r.rest q' rest in
-    let heads : e ≡ f = same_pair e f numbers values in
-    rw heads (rw tails refl)
+    grind (
+      arith,
+      nat_tests,
+      below,
+      least_open_fails test (suc e.0) n es r.rest,
+      least_open_fails test (suc e.0) (suc n) es r.rest,
+      least_open_from test n es,
+      least_open_from test (suc n) es,
+    )
 
 -- THE FIRST ENTRY
 
@@ -234,4 +229,5 @@ first_found (d ∷ es) e h = let same : d ≡ e = (cc) in rw (← same) (grind (
 
 pub first_least : {A : Type 0} (m : ℕ) (es : List (ℕ × A)) (e : ℕ × A) (k : ℕ) → rises m es ≡ true → first es ≡ Some e → k < e.0 → find es k ≡ None
 first_least m [] e k h f lt = absurd (cc)
-first_least m (d ∷ es) e k h f lt = let same : d ≡ e = (cc) in let lt' : k < d.0 = rw same lt in let r = risen m d es h in grind (arith, nat_tests, find_below (suc d.0) es k r.rest)
+first_least m (d ∷ es) e k h f lt =
+    let same : d ≡ e = (cc) in let lt' : k < d.0 = rw same lt in let r = risen m d es h in grind (arith, nat_tests, find_below (suc d.0) es k r.rest)

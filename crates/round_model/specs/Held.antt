@@ -1,5 +1,5 @@
 -- The answers that a replica holds, by tier and number, and who else is known to hold them.
-use Rattle.std.specs.Prelude.{ℕ, ◌+◌, ◌*◌, Bool, true, false, ◌||◌, nat_lt, List, [], map, replicate, slice_set, Option, Some, None, if◌then◌else◌}
+use Rattle.std.specs.Prelude.{◌≡◌, ℕ, ◌+◌, ◌*◌, ◌<◌, Bool, true, false, ◌||◌, nat_lt, List, [], map, replicate, slice_set, Option, Some, None, if◌then◌else◌}
 use Rattle.aeg_base.specs.declared.names.Tier.{Tier}
 use Rattle.log_model.specs.Log.{count_below, has, is}
 use Rattle.round_model.specs.declared.answer.Answer.{Answer}
@@ -49,6 +49,13 @@ code_if_usable u me a = if is_usable u me a then Some a.code else None
 -- the code of an answer that is held and that u+1 replicas are known to hold
 abbrev pub usable : HeldState → Tier → ℕ → Option ℕ
 usable h t n = and_then (find (answers_of h t) n) (code_if_usable h.faults h.me)
+
+-- an answer is held with this code, and more than u replicas, this one among them, are known to hold it
+pub record IsHeldByMany (h : HeldState) (t : Tier) (n code : ℕ) : Type 0 where
+  pub answer : Answer
+  pub found : find (answers_of h t) n ≡ Some answer
+  pub has_code : answer.code ≡ code
+  pub many : h.faults < holders h.faults h.me answer
 
 abbrev pub has_told : Option Answer → ℕ → Bool
 has_told None y = false

@@ -1,5 +1,6 @@
 -- What a backend replica keeps between its middle nodes and its log: copies of calls, answers, and floors.
-use Rattle.std.specs.Prelude.{ℕ, zero, suc, ◌+◌, ◌*◌, Bool, false, ◌&&◌, ◌||◌, nat_lt, nat_le, List, [], replicate, slice_index, slice_index_or, slice_set, Option, Some, None, if◌then◌else◌}
+use Rattle.std.specs.Prelude.{◌≡◌, ℕ, zero, suc, ◌+◌, ◌*◌, ◌<◌, ◌≤◌, Bool, true, false, ◌&&◌, ◌||◌, nat_lt, nat_le, List, [], replicate, slice_index}
+use Rattle.std.specs.Prelude.{slice_index_or, slice_set, Option, Some, None, if◌then◌else◌}
 use Rattle.std.specs.Str.{bytes_eq}
 use Rattle.log_model.specs.Log.{count_below}
 use Rattle.round_model.specs.Lists.{is_some, and_then, lowest}
@@ -80,6 +81,20 @@ ready_calls u copies = picked (agreed u) copies
 abbrev pub ready : ShimState → Option (ℕ × List ℕ)
 ready s = first (ready_calls s.faults s.copies)
 
+-- the calls of which there are copies wait: none was served, and none is below the floor
+abbrev pub AreWaiting : List (ℕ × ℕ) → ℕ → List (ℕ × List (Option (List ℕ))) → Type 0
+AreWaiting kept floor copies = (k : ℕ) → is_some (find copies k) ≡ true → (nat_lt k floor || is_some (find kept k)) ≡ false
+
+-- a call that waits and of which u+1 nodes gave this text, while of no lower number u+1 nodes gave one text
+pub record IsLeastReady (s : ShimState) (call : ℕ × List ℕ) : Type 0 where
+  pub waits : is_done s call.0 ≡ false
+  pub many : s.faults < givers s.faults (copies_at s call.0) call.1
+  pub least : (k : ℕ) (text : List ℕ) → k < call.0 → givers s.faults (copies_at s k) text ≤ s.faults
+
+-- of no call u+1 nodes gave one text
+abbrev pub IsNoneReady : ShimState → Type 0
+IsNoneReady s = (k : ℕ) (text : List ℕ) → givers s.faults (copies_at s k) text ≤ s.faults
+
 -- SERVING AND SETTLING
 
 -- the call is served with this code: its copies are dropped
@@ -124,6 +139,11 @@ due u floors = due_among u floors (2 * u + 1)
 -- the (u+1)-th largest floor that was told, where it is above the settled one
 abbrev pub due_floor : ShimState → Option ℕ
 due_floor s = if nat_lt s.floor (due s.faults s.floors) then Some (due s.faults s.floors) else None
+
+-- u+1 nodes told this floor or a higher one, and of all floors that were told it is the greatest such one
+pub record IsGreatestTold (s : ShimState) (floor : ℕ) : Type 0 where
+  pub many : many_at_least s.faults s.floors floor ≡ true
+  pub greatest : (y : ℕ) → y < 2 * s.faults + 1 → many_at_least s.faults s.floors (floor_at s.floors y) ≡ true → floor_at s.floors y ≤ floor
 
 -- the 16 highest numbers that are kept, ascending, with their codes
 abbrev pub highest : ShimState → List (ℕ × ℕ)

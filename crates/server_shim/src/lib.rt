@@ -1,0 +1,11 @@
+//! What a backend replica keeps between its middle nodes and its log: copies of calls, answers, and floors.
+#![tactic(auto)]
+
+mod calls;
+mod copies;
+mod floors;
+mod kept;
+mod shim;
+
+pub use kept::Kept;
+pub use shim::Shim;
