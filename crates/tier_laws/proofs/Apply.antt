@@ -21,7 +21,8 @@ use Rattle.round_model.specs.Held.{held_code}
 use Rattle.round_model.specs.Numbered.{find, rises, without}
 use Rattle.round_model.proofs.NumberedLaws.{find_without, rises_without}
 use Rattle.round_model.specs.Settling.{finish_of, fits}
-use Rattle.round_model.specs.Verdicts.{Claim, Claims, claim_of, claims_in, claims_or_none}
+use Rattle.round_model.specs.declared.claim.Claim.{Claim}
+use Rattle.round_model.specs.Verdicts.{Claims, claim_of, claims_in, claims_or_none}
 use Rattle.run_model.specs.World.{Config}
 use Rattle.svc_api.specs.declared.action.Ending.{Ending}
 use Rattle.svc_api.specs.declared.action.Ending.TheVariants.{Call, Reply}

@@ -19,7 +19,8 @@ use Rattle.tier_laws.proofs.Holding.{noted_held, taken_held, told_held}
 use Rattle.round_model.specs.Lists.{put_at, and_then, is_some}
 use Rattle.round_model.specs.Service.{Programs}
 use Rattle.round_model.specs.Tables.{last_of, kept_of, pending_of, job_of, wants}
-use Rattle.round_model.specs.Verdicts.{Claim, Claims, Vote, claim, claim_of, claims_in, claims_or_none, with_claim}
+use Rattle.round_model.specs.declared.claim.Claim.{Claim}
+use Rattle.round_model.specs.Verdicts.{Claims, Vote, claim, claim_of, claims_in, claims_or_none, with_claim}
 use Rattle.run_model.specs.World.{Config, the_run}
 use Rattle.tier_laws.proofs.Lists.{at_here, at_there, pushed}
 use Rattle.tier_laws.proofs.Apply.{every-each}

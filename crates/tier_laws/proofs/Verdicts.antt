@@ -17,7 +17,8 @@ use Rattle.round_model.specs.Numbered.{find}
 use Rattle.round_model.specs.declared.answer.Answer.{Answer}
 use Rattle.round_model.specs.Lists.{and_then, is_some, lowest}
 use Rattle.round_model.specs.Tables.{Codes as Answers, Number, Want, answered, as_seg, job_of, wants}
-use Rattle.round_model.specs.Verdicts.{Claim, Claims, Vote, claim_of, has_token, how_many, is_backed, same_token, verdict, verdict_by}
+use Rattle.round_model.specs.declared.claim.Claim.{Claim}
+use Rattle.round_model.specs.Verdicts.{Claims, Vote, claim_of, has_token, how_many, is_backed, same_token, verdict, verdict_by}
 use Rattle.run_model.specs.World.{Config}
 use Rattle.server_model.specs.Server.{same_tier}
 use Rattle.tier_laws.proofs.Lists.{tier_eq, some_of}

@@ -33,7 +33,8 @@ use Rattle.frames.specs.declared.turn.Idle.TheVariants as why
 use Rattle.std.specs.Option.{is_some as std_some}
 use Rattle.round_model.specs.Lists.{is_some, is_nil, and_then, concat, each, odd, half}
 use Rattle.round_model.specs.Tables.{tables0, fresh_pending, batch_of, Parked}
-use Rattle.round_model.specs.Verdicts.{Claim, no_claims, claim_of, is_backed, how_many, verdict, verdict_by, serial_if}
+use Rattle.round_model.specs.declared.claim.Claim.{Claim}
+use Rattle.round_model.specs.Verdicts.{no_claims, claim_of, is_backed, how_many, verdict, verdict_by, serial_if}
 use Rattle.round_model.proofs.ShimLaws.{lowest_none}
 use Rattle.tier_model.specs.Moves.{Move, idles, says, log_packets, asks, offer_cause}
 use Rattle.tier_model.specs.Mid.{Mid, in_log}

@@ -8,7 +8,8 @@ use Rattle.round_model.proofs.HeldLaws.{InOrder}
 use Rattle.round_model.specs.Held.{HeldState, held_code, is_noted}
 use Rattle.round_model.specs.Numbered.{rises}
 use Rattle.round_model.specs.Tables.{pending_of}
-use Rattle.round_model.specs.Verdicts.{Claim, Vote, claim_of, claims_in}
+use Rattle.round_model.specs.declared.claim.Claim.{Claim}
+use Rattle.round_model.specs.Verdicts.{Vote, claim_of, claims_in}
 use Rattle.run_model.specs.World.{Config}
 use Rattle.tier_laws.proofs.Codes.{code_of}
 use Rattle.tier_laws.proofs.Ledger.{TablesOk}
