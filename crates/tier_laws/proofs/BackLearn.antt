@@ -108,7 +108,7 @@ tied_same {B} b xs ys σ e q k = record {
 learn_call : {B : Type 0} (c : Config B) (P : Past B) (t : Tier) (x : ℕ) (vs xs : List AnyValue) (σ : Back B) (n : ℕ) (text : List ℕ) → BackKnown c P t vs
     → MoreLog (xs ++ OfBack (Called n text) ∷ []) vs → Tied (c.service.backend t) xs σ → BackOther c P t σ
     → Learnt c P t x (xs ++ OfBack (Called n text) ∷ []) (after_value (c.service.backend t) σ (OfBack (Called n text)))
-        (value_sends c.u (c.service.backend t) t x σ (OfBack (Called n text)))
+    (value_sends c.u (c.service.backend t) t x σ (OfBack (Called n text)))
 learn_call {B} c P t x vs xs σ n text known pre tied other = go (passes σ n) refl
   where
     b : Backend B

@@ -306,7 +306,7 @@ back_retry_ok {B} c P t vs h soup x σ k = record {
     right : Every (λ (e : ℕ × ℕ). P.server.served t e.0 ≡ Some e.1) (highest σ.shim)
     right = drop_every (λ (e : ℕ × ℕ). P.server.served t e.0 ≡ Some e.1) (length σ.shim.kept - 16) σ.shim.kept
         (every-weaker (λ (e : ℕ × ℕ). find σ.shim.kept e.0 ≡ Some e.1) (λ (e : ℕ × ℕ). P.server.served t e.0 ≡ Some e.1)
-            (λ e f. k.other.kept e.0 e.1 f) σ.shim.kept (entries 0 σ.shim.kept k.tied.in_order))
+        (λ e f. k.other.kept e.0 e.1 f) σ.shim.kept (entries 0 σ.shim.kept k.tied.in_order))
 
 -- LEADING AND OFFERING
 

@@ -160,7 +160,7 @@ notes_ok {B} c P t vs h soup x σ from n text k e =
     cond_both (is_some (copy_of (copies_at σ.shim n) from)) (idles σ why.Nothing) (becomes (copied σ from n text)) (BackMoveOk c P t h soup x)
     (λ f. back_stays c P t vs h soup x σ k)
     (λ f. back_plain c P t vs h soup x σ (copied σ from n text) [] k refl none_nil other
-        (reshim (c.service.backend t) σ.log.learned σ (notes σ.shim from n text) refl refl k.tied) tt)
+    (reshim (c.service.backend t) σ.log.learned σ (notes σ.shim from n text) refl refl k.tied) tt)
   where
     -- the copies of a call with one more
     row : List (Option (List ℕ))

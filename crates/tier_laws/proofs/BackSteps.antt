@@ -112,8 +112,7 @@ pay_here c w x σ few lx i up = record {
 restored : {B : Type 0} (c : Config B) (P Q : Past B) (t : Tier) (vs : List AnyValue) (F : List Fact) → BackKnown c P t vs → Grows P Q → MoreLog (learned_in (log_facts F)) vs
     → BackBeside c Q t (recovered c.u (c.service.backend t) F) × ((recovered c.u (c.service.backend t) F).log ≡ recover c.u (log_facts F))
 restored {B} c P Q t vs F k g pre =
-    let r = recovered_ok c P t vs F k pre in
-    (
+    let r = recovered_ok c P t vs F k pre in (
       record {
         other = back_other-more c P Q t (recovered c.u (c.service.backend t) F) g r.1;
         tied = subst (λ (s : LogState AnyValue). Tied (c.service.backend t) s.learned (recovered c.u (c.service.backend t) F)) (sym r.2) r.0;

@@ -169,8 +169,7 @@ pub usable_ok : {B : Type 0} (c : Config B) (P : Past B) (x : ℕ) (σ : Mid) (t
 usable_ok {B} c P x σ t n code k o e =
     let m : IsHeldByMany σ.held t n code = usable_held σ.held t n code e in
     let held : held_code σ.held t n ≡ Some code = ap (λ z. and_then z (λ (q : Answer). Some q.code)) m.found ∙ ap Some m.has_code in
-    let many : c.u < count_below (2 * c.u + 1) (λ y. is σ.held.me y || has m.answer.noted y) = subst (λ z. z < count_below (2 * z + 1) (λ y. is σ.held.me y || has m.answer.noted y)) o.held.faults m.many in
-    (
+    let many : c.u < count_below (2 * c.u + 1) (λ y. is σ.held.me y || has m.answer.noted y) = subst (λ z. z < count_below (2 * z + 1) (λ y. is σ.held.me y || has m.answer.noted y)) o.held.faults m.many in (
       (held_right c P x σ k o).at t n code held,
       omega (arith, many, count-more (2 * c.u + 1) (λ y. is σ.held.me y || has m.answer.noted y) (holds P t n) (λ y h. holder c P x σ.held t n m.answer y o.held m.found h)),
     )
