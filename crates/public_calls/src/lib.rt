@@ -21,6 +21,8 @@ mod one_log;
 #[cfg(test)]
 mod played_scripts;
 #[cfg(test)]
+mod round_jobs;
+#[cfg(test)]
 mod scripts_and_packets;
 #[cfg(test)]
 mod shim_calls;
