@@ -24,6 +24,7 @@ mod one_log;
 mod played_scripts;
 #[cfg(test)]
 mod round_tallies;
+mod round_jobs;
 #[cfg(test)]
 mod scripts_and_packets;
 #[cfg(test)]

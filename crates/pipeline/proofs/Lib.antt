@@ -1,0 +1,11 @@
+pub mod Missing
+pub mod Fitting
+pub mod Clients
+pub mod Rising
+pub mod Wants
+pub mod Moves
+pub mod Fields
+pub mod Ready
+pub mod Verdicts
+pub mod Gathered
+pub mod Entered
