@@ -23,8 +23,9 @@ mod one_log;
 #[cfg(test)]
 mod played_scripts;
 #[cfg(test)]
-mod round_tallies;
 mod round_jobs;
+#[cfg(test)]
+mod round_tallies;
 #[cfg(test)]
 mod scripts_and_packets;
 #[cfg(test)]
