@@ -168,7 +168,7 @@ none_ahead_cut new F h =
 -- LENGTH
 
 length_onto : {A : Type 0} (xs ys : List A) → length (onto xs ys) ≡ length xs + length ys
-length_onto [] ys = refl
+length_onto [] ys = omega arith
 length_onto (x ∷ xs) ys = omega (arith, length_onto xs (x ∷ ys))
 
 length_held : (h : HeldState) → length (held_record h) ≡ held_count h

@@ -3,7 +3,7 @@ use Rattle.std.proofs.Common.{◌≡◌, ℕ, zero, Bool, true, false, ◌==◌,
 use Rattle.aeg_base.specs.declared.names.Tier.{Tier}
 use Rattle.aeg_base.specs.declared.names.Tier.TheVariants.{Mid, Inv, Pay}
 use Rattle.log_model.specs.Chosen.{or_else}
-use Rattle.log_model.specs.Recover.{onto}
+use Rattle.log_model.specs.Recover.{onto, recover}
 use Rattle.log_model.specs.declared.fact.Fact.{Fact as LogFact}
 use Rattle.log_model.specs.declared.fact.Fact.TheVariants as logs
 use Rattle.log_values.specs.declared.any_value.AnyValue.{AnyValue}
@@ -15,7 +15,7 @@ use Rattle.round_model.specs.Lists.{and_then}
 use Rattle.round_model.specs.Numbered.{find}
 use Rattle.round_model.specs.declared.answer.Answer.{Answer}
 use Rattle.server_model.specs.Server.{same_tier}
-use Rattle.tier_model.specs.Moves.{as_fact, held_in}
+use Rattle.tier_model.specs.Moves.{as_fact, log_facts, held_in}
 use Rattle.recovery_laws.specs.Snapshots.{holding, held_record, log_record, snapshot_record, snapshot}
 use Rattle.recovery_laws.proofs.Tables.{is_call, or_none, find_takes, same_held}
 
@@ -136,16 +136,16 @@ first_held h s k =
     ∙ ap (or_else (first s k (map (holding Mid) h.answers.mid))) (first_append s k (map (holding Inv) h.answers.inv) (map (holding Pay) h.answers.pay))
     ∙ rw (first_holding Mid s k h.answers.mid) (rw (first_holding Inv s k h.answers.inv) (rw (first_holding Pay s k h.answers.pay) (by s)))
   where
-    code : Option Answer → Option ℕ
-    code o = and_then o (λ a. Some a.code)
-
-    by : (s : Tier) → or_else (if same_tier Mid s then and_then (find h.answers.mid k) (λ a. Some a.code) else None) (or_else (if same_tier Inv s then and_then (find h.answers.inv k) (λ a. Some a.code) else None) (if same_tier Pay s then and_then (find h.answers.pay k) (λ a. Some a.code) else None)) ≡ held_code h s k
+    by : (s : Tier) → or_else (if same_tier Mid s then and_then (find h.answers.mid k) (λ a. Some a.code) else None)
+        (or_else (if same_tier Inv s then and_then (find h.answers.inv k) (λ a. Some a.code) else None)
+        (if same_tier Pay s then and_then (find h.answers.pay k) (λ a. Some a.code) else None)) ≡ held_code h s k
     by Mid = or_none (held_code h Mid k)
     by Inv = or_none (held_code h Inv k)
     by Pay = refl
 
 pub snapshot_codes : (F : List Fact) (s : Tier) (k : ℕ) → oldest s k (snapshot F) ≡ oldest s k F
 snapshot_codes F s k =
-    oldest_onto s k (snapshot_record F) [] ∙ first_append s k (held_record (held_in 0 0 F)) _
-    ∙ ap (or_else (first s k (held_record (held_in 0 0 F)))) (first_of_log s k _) ∙ or_none (first s k (held_record (held_in 0 0 F)))
-    ∙ first_held (held_in 0 0 F) s k ∙ held_oldest 0 0 F s k
+    let answers : List Fact = held_record (held_in 0 0 F) in
+    let log : List (LogFact AnyValue) = log_record (recover 0 (log_facts F)) in
+    oldest_onto s k (snapshot_record F) [] ∙ first_append s k answers (map as_fact log) ∙ ap (or_else (first s k answers)) (first_of_log s k log)
+    ∙ or_none (first s k answers) ∙ first_held (held_in 0 0 F) s k ∙ held_oldest 0 0 F s k

@@ -34,20 +34,16 @@ newest_before records older = newest_newer records [] older
 -- THE HIGHEST BALLOT
 
 -- no acceptance has a higher one
+still_below : {V : Type 0} (b c : Ballot) (o : Option (Ballot × V)) → IfSome o (λ a. is_below b a.0 ≡ false) → IfSome o (λ a. is_below (higher b c) a.0 ≡ false)
+still_below b c None h = tt
+still_below b c (Some a) h = higher_left b c a.0 h
+
 pub accepted_below : {V : Type 0} (F : List (Fact V)) (p : ℕ) → IfSome (accepted_in p F) (λ a. is_below (promised_in F) a.0 ≡ false)
 accepted_below [] p = tt
-accepted_below (Promised c ∷ F) p = still (accepted_in p F) (accepted_below F p)
-  where
-    still : (o : Option (Ballot × V)) → IfSome o (λ a. is_below (promised_in F) a.0 ≡ false) → IfSome o (λ a. is_below (higher (promised_in F) c) a.0 ≡ false)
-    still None h = tt
-    still (Some a) h = higher_left (promised_in F) c a.0 h
-accepted_below {V} (Accepted q c w ∷ F) p =
+accepted_below (Promised c ∷ F) p = still_below (promised_in F) c (accepted_in p F) (accepted_below F p)
+accepted_below (Accepted q c w ∷ F) p =
     cond_both (q == p) (Some (c, w)) (accepted_in p F) (λ o. IfSome o (λ a. is_below (higher (promised_in F) c) a.0 ≡ false))
-    (λ e. higher_right (promised_in F) c) (λ e. still (accepted_in p F) (accepted_below F p))
-  where
-    still : (o : Option (Ballot × V)) → IfSome o (λ a. is_below (promised_in F) a.0 ≡ false) → IfSome o (λ a. is_below (higher (promised_in F) c) a.0 ≡ false)
-    still None h = tt
-    still (Some a) h = higher_left (promised_in F) c a.0 h
+    (λ e. higher_right (promised_in F) c) (λ e. still_below (promised_in F) c (accepted_in p F) (accepted_below F p))
 accepted_below (Learned q w ∷ F) p = accepted_below F p
 
 -- WHAT A RECORD'S PARTS ADD
@@ -86,7 +82,7 @@ after_values vs = record {
 }
 
 -- the ballot of an acceptance, or none
-ballot_of : {V : Type 0} → Option (Ballot × V) → Ballot
+abbrev ballot_of : {V : Type 0} → Option (Ballot × V) → Ballot
 ballot_of None = no_ballot
 ballot_of (Some a) = a.0
 
@@ -166,20 +162,20 @@ length_acceptance : {V : Type 0} (p : ℕ) (o : Option (Ballot × V)) → length
 length_acceptance p None = omega arith
 length_acceptance p (Some a) = omega arith
 
-length_promise : {V : Type 0} (b : Ballot) → length (promise {V = V} b) ≤ 1
-length_promise {V} b = go (same_ballot b no_ballot)
+length_promise : (V : Type 0) (b : Ballot) → length (promise {V = V} b) ≤ 1
+length_promise V b = go (same_ballot b no_ballot)
   where
     go : (t : Bool) → length {A = Fact V} (if t then [] else Promised b ∷ []) ≤ 1
     go true = omega arith
     go false = omega arith
 
 pub length_log_record : {V : Type 0} (log : LogState V) → length (log_record log) ≤ length log.learned + 2
-length_log_record log =
+length_log_record {V} log =
     omega (
       arith,
       length-append (learnings 0 log.learned) (acceptance (open_at log) log.accepted ++ promise log.promised),
       length-append (acceptance (open_at log) log.accepted) (promise log.promised),
       length_learnings 0 log.learned,
       length_acceptance (open_at log) log.accepted,
-      length_promise log.promised,
+      length_promise V log.promised,
     )
