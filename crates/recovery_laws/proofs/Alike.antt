@@ -22,7 +22,7 @@ use Rattle.tier_model.specs.Kinds.{Kind, kind, State}
 use Rattle.tier_model.specs.MidRows as mids
 use Rattle.tier_model.specs.BackRows as backs
 use Rattle.tier_model.proofs.Facts.{log_facts-onto}
-use Rattle.recovery_laws.specs.Snapshots.{AreAlike, NoneAhead, holding, held_record, held_count, log_record, snapshot_record, snapshot}
+use Rattle.recovery_laws.specs.Snapshots.{AreAlike, NoneAhead, RecoverSame, holding, held_record, held_count, log_record, snapshot_record, snapshot}
 use Rattle.recovery_laws.proofs.Logs.{log_snapshot, snapshot_leaves, snapshot_log, same_log, none_past, newest_before, length_log_record}
 use Rattle.recovery_laws.proofs.Codes.{oldest, code_for, held_oldest, same_answers, snapshot_codes}
 
@@ -48,11 +48,14 @@ log_facts_of (logs.Learned p v ∷ fs) = ap (λ z. logs.Learned p v ∷ z) (log_
 
 snapshot_facts : (F : List Fact) → log_facts (snapshot F) ≡ log_snapshot (log_facts F)
 snapshot_facts F =
+    let log : List (LogFact AnyValue) = log_record (recover 0 (log_facts F)) in
     log_facts-onto (snapshot_record F) []
-    ∙ ap (λ z. onto z []) (log_facts-append (held_record (held_in 0 0 F)) _ ∙ ap (λ z. z ++ log_facts (map as_fact (log_record (recover 0 (log_facts F))))) (none (held_in 0 0 F)) ∙ log_facts_of _)
+    ∙ ap (λ z. onto z []) (log_facts-append (held_record (held_in 0 0 F)) (map as_fact log) ∙ ap (λ z. z ++ log_facts (map as_fact log)) (none (held_in 0 0 F)) ∙ log_facts_of log)
   where
     none : (h : HeldState) → log_facts (held_record h) ≡ []
-    none h = no_log Mid h.answers.mid _ ∙ no_log Inv h.answers.inv _ ∙ ap log_facts (sym (append-nil (map (holding Pay) h.answers.pay))) ∙ no_log Pay h.answers.pay []
+    none h =
+        no_log Mid h.answers.mid (map (holding Inv) h.answers.inv ++ map (holding Pay) h.answers.pay) ∙ no_log Inv h.answers.inv (map (holding Pay) h.answers.pay)
+        ∙ ap log_facts (sym (append-nil (map (holding Pay) h.answers.pay))) ∙ no_log Pay h.answers.pay []
 
 -- WHAT A RESTART RECOVERS
 
@@ -78,11 +81,12 @@ alike_same F G a = record {
 back_recovers : {B : Type 0} (u : ℕ) (b : Backend B) (F G : List Fact) → AreSame F G → backs.recovered u b F ≡ backs.recovered u b G
 back_recovers u b F G s = ap (λ log. backs.after_values b (record { log = log; state = b.opening; shim = new_shim u }) log.learned) (s.log u)
 
-pub same_recovers : {B : Type 0} (u x depth : ℕ) (m : Service B) (t : Tier) (F G : List Fact) → AreSame F G → (kind u m depth t x).recovered F ≡ (kind u m depth t x).recovered G
-same_recovers u x depth m Mid F G s =
-    ap₂ (λ log held. mids.catch_up m.programs (length log.learned) (record { log = log; applied = 0; tables = tables0 depth; pending = replicate 17 None; tally = []; spec = None; held = held })) (s.log u) (s.held u x)
-same_recovers u x depth m Inv F G s = back_recovers u (m.backend Inv) F G s
-same_recovers u x depth m Pay F G s = back_recovers u (m.backend Pay) F G s
+pub same_recovers : (B : Type 0) (F G : List Fact) → AreSame F G → RecoverSame B F G
+same_recovers B F G s u x depth m Mid =
+    ap₂ (λ log held. mids.catch_up m.programs (length log.learned)
+    (record { log = log; applied = 0; tables = tables0 depth; pending = replicate 17 None; tally = []; spec = None; held = held })) (s.log u) (s.held u x)
+same_recovers B F G s u x depth m Inv = back_recovers u (m.backend Inv) F G s
+same_recovers B F G s u x depth m Pay = back_recovers u (m.backend Pay) F G s
 
 pub same_snapshot : (F G : List Fact) → AreSame F G → snapshot F ≡ snapshot G
 same_snapshot F G s = ap₂ (λ held log. onto (held_record held ++ map as_fact (log_record log)) []) (s.held 0 0) (s.log 0)
@@ -135,14 +139,15 @@ snapshot_alike F h =
     at p (inl e) = subst (λ q. accepted_in q (log_facts F) ≡ accepted_in q (log_snapshot (log_facts F))) e (sym (snapshot_leaves (log_facts F)).accepted)
     at p (inr l) = none_past (log_facts F) p h l ∙ sym ((snapshot_leaves (log_facts F)).past p l)
 
-pub newer_recovers : {B : Type 0} (u x depth : ℕ) (m : Service B) (t : Tier) (new F : List Fact) → NoneAhead (log_facts F)
-    → (kind u m depth t x).recovered (new ++ snapshot F) ≡ (kind u m depth t x).recovered (new ++ F)
-newer_recovers u x depth m t new F h = sym (same_recovers u x depth m t (new ++ F) (new ++ snapshot F) (alike_same (new ++ F) (new ++ snapshot F) (newer_alike new F (snapshot F) (snapshot_alike F h))))
+pub newer_recovers : (B : Type 0) (new F : List Fact) → NoneAhead (log_facts F) → RecoverSame B (new ++ snapshot F) (new ++ F)
+newer_recovers B new F h u x depth m t =
+    let alike : AreAlike (new ++ F) (new ++ snapshot F) = newer_alike new F (snapshot F) (snapshot_alike F h) in
+    sym (same_recovers B (new ++ F) (new ++ snapshot F) (alike_same (new ++ F) (new ++ snapshot F) alike) u x depth m t)
 
-pub records_recover : {B : Type 0} (u x depth : ℕ) (m : Service B) (t : Tier) (new : List (List Fact)) (F : List Fact) → NoneAhead (log_facts F)
-    → (kind u m depth t x).recovered (newest_onto new (snapshot F)) ≡ (kind u m depth t x).recovered (newest_onto new F)
-records_recover u x depth m t new F h =
-    ap (kind u m depth t x).recovered (newest_before new (snapshot F)) ∙ newer_recovers u x depth m t (newest new) F h
+pub records_recover : (B : Type 0) (new : List (List Fact)) (F : List Fact) → NoneAhead (log_facts F)
+    → RecoverSame B (newest_onto new (snapshot F)) (newest_onto new F)
+records_recover B new F h u x depth m t =
+    ap (kind u m depth t x).recovered (newest_before new (snapshot F)) ∙ newer_recovers B (newest new) F h u x depth m t
     ∙ ap (kind u m depth t x).recovered (sym (newest_before new F))
 
 learned_on : (new F G : List (LogFact AnyValue)) → learned_in F ≡ learned_in G → learned_in (new ++ F) ≡ learned_in (new ++ G)

@@ -13,7 +13,9 @@ use Rattle.log_values.specs.declared.any_value.AnyValue.{AnyValue}
 use Rattle.log_values.specs.declared.fact.Fact.{Fact}
 use Rattle.log_values.specs.declared.fact.Fact.TheVariants.{Held}
 use Rattle.round_model.specs.Held.{HeldState, held_code}
+use Rattle.round_model.specs.Service.{Service}
 use Rattle.round_model.specs.declared.answer.Answer.{Answer}
+use Rattle.tier_model.specs.Kinds.{Kind, kind}
 use Rattle.tier_model.specs.Moves.{as_fact, log_facts, held_in}
 
 -- RECORDS OF A STATE
@@ -65,6 +67,10 @@ pub record AreAlike (F G : List Fact) : Type 0 where
   pub learned : learned_in (log_facts F) ≡ learned_in (log_facts G)
   pub accepted : (p : ℕ) → length (learned_in (log_facts F)) ≤ p → accepted_in p (log_facts F) ≡ accepted_in p (log_facts G)
   pub codes : (u x : ℕ) (t : Tier) (n : ℕ) → held_code (held_in u x F) t n ≡ held_code (held_in u x G) t n
+
+-- each node recovers the same state from both, whatever its tier and its service
+abbrev pub RecoverSame : (B : Type 0) → List Fact → List Fact → Type 0
+RecoverSame B F G = (u x depth : ℕ) (m : Service B) (t : Tier) → (kind u m depth t x).recovered F ≡ (kind u m depth t x).recovered G
 
 -- nothing was accepted ahead of the position that was open then: so many values were learned in older facts
 abbrev pub NoneAhead : {V : Type 0} → List (LogFact V) → Type 0

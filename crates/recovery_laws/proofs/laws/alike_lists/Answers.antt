@@ -2,7 +2,7 @@ use Rattle.recovery_laws.proofs.Alike.{alike_same, same_recovers, same_snapshot,
 use Rattle.recovery_laws.proofs.laws.alike_lists.Goals as goal
 
 pub returns-clause-recovers : goal.returns-clause-recovers
-returns-clause-recovers g a u x depth m t F G h = same_recovers u x depth m t F G (alike_same F G h)
+returns-clause-recovers g a F G h = same_recovers g.row.B.Denot F G (alike_same F G h)
 
 pub returns-clause-same_snapshot : goal.returns-clause-same_snapshot
 returns-clause-same_snapshot g a F G h = same_snapshot F G (alike_same F G h)
