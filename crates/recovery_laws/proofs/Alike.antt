@@ -1,10 +1,10 @@
 -- Lists of facts from which a restart recovers the same.
-use Rattle.std.proofs.Common.{◌≡◌, ℕ, suc, ◌+◌, ◌*◌, ◌≤◌, ◌<◌, ◌⊎◌, Bool, true, false, List, [], ◌∷◌, ◌++◌, map, length, length-append, append-nil, eq-or-lt_of_le, replicate, refl, sym, ap, ap₂, ◌∙◌, subst, inl, inr, arith, Some, None, Option, if◌then◌else◌, ◌==◌}
+use Rattle.std.proofs.Common.{◌≡◌, ℕ, ◌+◌, ◌≤◌, ◌<◌, ◌⊎◌, List, [], ◌∷◌, ◌++◌, ◌∙◌, if◌then◌else◌, ◌==◌}
+use Rattle.std.proofs.Common.{map, length, length-append, append-nil, eq-or-lt_of_le, replicate, refl, sym, ap, ap₂, subst, inl, inr, arith, Some, None}
 use Rattle.std.proofs.lemmas.List.{length-map}
 use Rattle.aeg_base.specs.declared.names.Tier.{Tier}
 use Rattle.aeg_base.specs.declared.names.Tier.TheVariants.{Mid, Inv, Pay}
 use Rattle.log_model.specs.Chosen.{or_else}
-use Rattle.log_model.specs.Log.{LogState}
 use Rattle.log_model.specs.Recover.{onto, newest_onto, newest, higher, promised_in, learned_in, accepted_in, recover}
 use Rattle.log_model.specs.declared.fact.Fact.{Fact as LogFact}
 use Rattle.log_model.specs.declared.fact.Fact.TheVariants as logs
@@ -13,18 +13,18 @@ use Rattle.log_values.specs.declared.any_value.AnyValue.{AnyValue}
 use Rattle.log_values.specs.declared.fact.Fact.{Fact}
 use Rattle.log_values.specs.declared.fact.Fact.TheVariants.{Promised, Accepted, Learned, Held}
 use Rattle.round_model.specs.Held.{HeldState, held_code}
-use Rattle.round_model.specs.Service.{Service, Backend}
+use Rattle.round_model.specs.Service.{Backend}
 use Rattle.round_model.specs.Shims.{new_shim}
 use Rattle.round_model.specs.Tables.{tables0}
 use Rattle.round_model.specs.declared.answer.Answer.{Answer}
 use Rattle.tier_model.specs.Moves.{as_fact, log_facts, held_in}
-use Rattle.tier_model.specs.Kinds.{Kind, kind, State}
+use Rattle.tier_model.specs.Kinds.{kind}
 use Rattle.tier_model.specs.MidRows as mids
 use Rattle.tier_model.specs.BackRows as backs
 use Rattle.tier_model.proofs.Facts.{log_facts-onto}
-use Rattle.recovery_laws.specs.Snapshots.{AreAlike, NoneAhead, RecoverSame, holding, held_record, held_count, log_record, snapshot_record, snapshot}
+use Rattle.recovery_laws.specs.Snapshots.{AreAlike, LearnedInOrder, NoneAhead, RecoverSame, holding, held_record, held_count, log_record, snapshot_record, snapshot}
 use Rattle.recovery_laws.proofs.Logs.{log_snapshot, snapshot_leaves, snapshot_log, same_log, none_past, newest_before, length_log_record}
-use Rattle.recovery_laws.proofs.Codes.{oldest, code_for, held_oldest, same_answers, snapshot_codes}
+use Rattle.recovery_laws.proofs.Codes.{code_for, held_oldest, same_answers, snapshot_codes}
 
 -- THE FACTS OF THE LOG
 
@@ -50,11 +50,13 @@ snapshot_facts : (F : List Fact) → log_facts (snapshot F) ≡ log_snapshot (lo
 snapshot_facts F =
     let log : List (LogFact AnyValue) = log_record (recover 0 (log_facts F)) in
     log_facts-onto (snapshot_record F) []
-    ∙ ap (λ z. onto z []) (log_facts-append (held_record (held_in 0 0 F)) (map as_fact log) ∙ ap (λ z. z ++ log_facts (map as_fact log)) (none (held_in 0 0 F)) ∙ log_facts_of log)
+    ∙ ap (λ z. onto z []) (log_facts-append (held_record (held_in 0 0 F)) (map as_fact log)
+    ∙ ap (λ z. z ++ log_facts (map as_fact log)) (none (held_in 0 0 F)) ∙ log_facts_of log)
   where
     none : (h : HeldState) → log_facts (held_record h) ≡ []
     none h =
-        no_log Mid h.answers.mid (map (holding Inv) h.answers.inv ++ map (holding Pay) h.answers.pay) ∙ no_log Inv h.answers.inv (map (holding Pay) h.answers.pay)
+        no_log Mid h.answers.mid (map (holding Inv) h.answers.inv ++ map (holding Pay) h.answers.pay)
+        ∙ no_log Inv h.answers.inv (map (holding Pay) h.answers.pay)
         ∙ ap log_facts (sym (append-nil (map (holding Pay) h.answers.pay))) ∙ no_log Pay h.answers.pay []
 
 -- WHAT A RESTART RECOVERS
@@ -73,7 +75,7 @@ snapshot_same F = record {
 pub alike_same : (F G : List Fact) → AreAlike F G → AreSame F G
 alike_same F G a = record {
   log = λ u. same_log u (log_facts F) (log_facts G) a.promised a.learned
-    (a.accepted (length (learned_in (log_facts F))) (omega arith) ∙ ap (λ vs. accepted_in (length vs) (log_facts G)) a.learned);
+      (a.accepted (length (learned_in (log_facts F))) (omega arith) ∙ ap (λ vs. accepted_in (length vs) (log_facts G)) a.learned);
   held = λ u x. same_answers u x F G (λ s k. sym (held_oldest 0 0 F s k) ∙ a.codes 0 0 s k ∙ held_oldest 0 0 G s k);
 }
 
@@ -135,7 +137,8 @@ snapshot_alike F h =
       codes = λ u x t n. held_oldest u x F t n ∙ sym (snapshot_codes F t n) ∙ sym (held_oldest u x (snapshot F) t n);
     }
   where
-    at : (p : ℕ) → (length (learned_in (log_facts F)) ≡ p) ⊎ (length (learned_in (log_facts F)) < p) → accepted_in p (log_facts F) ≡ accepted_in p (log_snapshot (log_facts F))
+    at : (p : ℕ) → (length (learned_in (log_facts F)) ≡ p) ⊎ (length (learned_in (log_facts F)) < p)
+        → accepted_in p (log_facts F) ≡ accepted_in p (log_snapshot (log_facts F))
     at p (inl e) = subst (λ q. accepted_in q (log_facts F) ≡ accepted_in q (log_snapshot (log_facts F))) e (sym (snapshot_leaves (log_facts F)).accepted)
     at p (inr l) = none_past (log_facts F) p h l ∙ sym ((snapshot_leaves (log_facts F)).past p l)
 
@@ -163,12 +166,27 @@ none_ahead_on (logs.Promised b ∷ new) F G e g h = none_ahead_on new F G e g h
 none_ahead_on (logs.Accepted p b v ∷ new) F G e g h = (subst (λ vs. p ≤ length vs) (learned_on new F G e) h.0, none_ahead_on new F G e g h.1)
 none_ahead_on (logs.Learned p v ∷ new) F G e g h = none_ahead_on new F G e g h
 
+in_order_on : (new F G : List (LogFact AnyValue)) → learned_in F ≡ learned_in G → LearnedInOrder G → LearnedInOrder (new ++ F) → LearnedInOrder (new ++ G)
+in_order_on [] F G e g h = g
+in_order_on (logs.Promised b ∷ new) F G e g h = in_order_on new F G e g h
+in_order_on (logs.Accepted p b v ∷ new) F G e g h = in_order_on new F G e g h
+in_order_on (logs.Learned p v ∷ new) F G e g h = (h.0 ∙ ap length (learned_on new F G e), in_order_on new F G e g h.1)
+
+-- the facts of the log, where older ones are cut
+cut_facts : (new F : List Fact) → log_facts (new ++ snapshot F) ≡ log_facts new ++ log_snapshot (log_facts F)
+cut_facts new F = log_facts-append new (snapshot F) ∙ ap (λ z. log_facts new ++ z) (snapshot_facts F)
+
 pub none_ahead_cut : (new F : List Fact) → NoneAhead (log_facts (new ++ F)) → NoneAhead (log_facts (new ++ snapshot F))
 none_ahead_cut new F h =
-    let L : List (LogFact AnyValue) = log_facts F in
-    let s = snapshot_leaves L in
-    let all : log_facts (new ++ snapshot F) ≡ log_facts new ++ log_snapshot L = log_facts-append new (snapshot F) ∙ ap (λ z. log_facts new ++ z) (snapshot_facts F) in
-    subst NoneAhead (sym all) (none_ahead_on (log_facts new) L (log_snapshot L) (sym s.learned) s.none_ahead (subst NoneAhead (log_facts-append new F) h))
+    let s = snapshot_leaves (log_facts F) in
+    let all : NoneAhead (log_facts new ++ log_facts F) = subst NoneAhead (log_facts-append new F) h in
+    subst NoneAhead (sym (cut_facts new F)) (none_ahead_on (log_facts new) (log_facts F) (log_snapshot (log_facts F)) (sym s.learned) s.none_ahead all)
+
+pub in_order_cut : (new F : List Fact) → LearnedInOrder (log_facts (new ++ F)) → LearnedInOrder (log_facts (new ++ snapshot F))
+in_order_cut new F h =
+    let s = snapshot_leaves (log_facts F) in
+    let all : LearnedInOrder (log_facts new ++ log_facts F) = subst LearnedInOrder (log_facts-append new F) h in
+    subst LearnedInOrder (sym (cut_facts new F)) (in_order_on (log_facts new) (log_facts F) (log_snapshot (log_facts F)) (sym s.learned) s.in_order all)
 
 -- LENGTH
 

@@ -1,5 +1,5 @@
 -- The highest ballot of some facts.
-use Rattle.std.proofs.Common.{◌≡◌, true, false, Bool, refl, arith, if◌then◌else◌}
+use Rattle.std.proofs.Common.{◌≡◌, false, refl, arith}
 use Rattle.std.proofs.lemmas.Bool.{cond_both}
 use Rattle.aeg_base.specs.Ballots.{no_ballot, is_below}
 use Rattle.aeg_base.specs.declared.names.Ballot.{Ballot}

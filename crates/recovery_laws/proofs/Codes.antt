@@ -1,5 +1,5 @@
 -- The answers that facts hold: of each call the oldest code.
-use Rattle.std.proofs.Common.{◌≡◌, ℕ, zero, Bool, true, false, ◌==◌, List, [], ◌∷◌, ◌++◌, map, refl, sym, ap, ◌∙◌, Option, Some, None, option_map, if◌then◌else◌}
+use Rattle.std.proofs.Common.{◌≡◌, ℕ, Bool, true, false, ◌==◌, List, [], ◌∷◌, ◌++◌, map, refl, sym, ap, ◌∙◌, Option, Some, None, option_map, if◌then◌else◌}
 use Rattle.aeg_base.specs.declared.names.Tier.{Tier}
 use Rattle.aeg_base.specs.declared.names.Tier.TheVariants.{Mid, Inv, Pay}
 use Rattle.log_model.specs.Chosen.{or_else}
@@ -110,10 +110,12 @@ same_answers u x F G h =
 
 -- THE CODES OF A SNAPSHOT
 
-first_holding : (t s : Tier) (k : ℕ) (es : List (ℕ × Answer)) → first s k (map (holding t) es) ≡ (if same_tier t s then and_then (find es k) (λ a. Some a.code) else None)
+first_holding : (t s : Tier) (k : ℕ) (es : List (ℕ × Answer))
+    → first s k (map (holding t) es) ≡ (if same_tier t s then and_then (find es k) (λ a. Some a.code) else None)
 first_holding t s k es = go (same_tier t s) refl es
   where
-    go : (b : Bool) → same_tier t s ≡ b → (es : List (ℕ × Answer)) → first s k (map (holding t) es) ≡ (if b then and_then (find es k) (λ a. Some a.code) else None)
+    go : (b : Bool) → same_tier t s ≡ b → (es : List (ℕ × Answer))
+        → first s k (map (holding t) es) ≡ (if b then and_then (find es k) (λ a. Some a.code) else None)
     go true e [] = refl
     go false e [] = refl
     go true e (d ∷ es) = rw e (by (d.0 == k) (go true e es))

@@ -1,5 +1,5 @@
 -- A small list of facts and its snapshot, computed; and why nothing may be accepted ahead.
-use Rattle.std.proofs.Common.{◌≡◌, ℕ, List, [], ◌∷◌, ◌++◌, refl, Some, None}
+use Rattle.std.proofs.Common.{◌≡◌, ℕ, List, [], ◌∷◌, refl, Some, None}
 use Rattle.aeg_base.specs.declared.names.Ballot.{Ballot}
 use Rattle.aeg_base.specs.declared.names.Tier.TheVariants.{Inv, Pay}
 use Rattle.log_model.specs.Recover.{recover}

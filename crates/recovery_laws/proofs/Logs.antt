@@ -1,7 +1,7 @@
 -- The facts of a log: a snapshot of them leaves the same log, and what newer facts add.
 use Rattle.std.proofs.Common.{◌≡◌, ℕ, suc, ◌+◌, ◌<◌, ◌≤◌, Bool, true, false, List, [], ◌∷◌, ◌++◌, length, length-append, append_assoc, append-nil}
-use Rattle.std.proofs.Common.{refl, sym, ap, ap₂, ◌∙◌, subst, arith, Option, Some, None, IfSome, if◌then◌else◌, ◌==◌, replicate, ◌*◌}
-use Rattle.std.proofs.lemmas.Bool.{cond_both, ne_eqb, eq-eqb, eqb-false}
+use Rattle.std.proofs.Common.{refl, sym, ap, ◌∙◌, subst, arith, Option, Some, None, IfSome, if◌then◌else◌, ◌==◌, replicate, ◌*◌}
+use Rattle.std.proofs.lemmas.Bool.{cond_both, ne_eqb, eq-eqb}
 use Rattle.aeg_base.specs.Ballots.{no_ballot, same_ballot, is_below}
 use Rattle.aeg_base.specs.declared.names.Ballot.{Ballot}
 use Rattle.log_model.proofs.Ballots.{same_true}
@@ -10,7 +10,7 @@ use Rattle.log_model.specs.Log.{LogState, open_at}
 use Rattle.log_model.specs.Recover.{onto, newest_onto, newest, higher, promised_in, learned_in, accepted_in, recover}
 use Rattle.log_model.specs.declared.fact.Fact.{Fact}
 use Rattle.log_model.specs.declared.fact.Fact.TheVariants.{Promised, Accepted, Learned}
-use Rattle.recovery_laws.specs.Snapshots.{learnings, acceptance, promise, log_record, NoneAhead}
+use Rattle.recovery_laws.specs.Snapshots.{learnings, acceptance, promise, log_record, LearnedInOrder, NoneAhead}
 use Rattle.recovery_laws.proofs.Ballots.{same_height, none_lowest, higher_is, higher_left, higher_right}
 
 -- LISTS
@@ -64,6 +64,11 @@ none_ahead_past : {V : Type 0} (p : ℕ) (vs : List V) (F : List (Fact V)) → N
 none_ahead_past p [] F h = h
 none_ahead_past p (v ∷ vs) F h = none_ahead_past (suc p) vs (Learned p v ∷ F) h
 
+in_order_past : {V : Type 0} (p : ℕ) (vs : List V) (F : List (Fact V)) → p ≡ length (learned_in F) → LearnedInOrder F
+    → LearnedInOrder (onto (learnings p vs) F)
+in_order_past p [] F e h = h
+in_order_past p (v ∷ vs) F e h = in_order_past (suc p) vs (Learned p v ∷ F) (omega (arith, e, length_push (learned_in F) v)) (e, h)
+
 -- What some facts leave: this promise, these values, this acceptance at the first open position, and none at later ones.
 pub record Leaves {V : Type 0} (b : Ballot) (vs : List V) (o : Option (Ballot × V)) (F : List (Fact V)) : Type 0 where
   pub promised : promised_in F ≡ b
@@ -71,6 +76,7 @@ pub record Leaves {V : Type 0} (b : Ballot) (vs : List V) (o : Option (Ballot ×
   pub accepted : accepted_in (length vs) F ≡ o
   pub past : (p : ℕ) → length vs < p → accepted_in p F ≡ None
   pub none_ahead : NoneAhead F
+  pub in_order : LearnedInOrder F
 
 after_values : {V : Type 0} (vs : List V) → Leaves no_ballot vs None (onto (learnings 0 vs) [])
 after_values vs = record {
@@ -79,6 +85,7 @@ after_values vs = record {
   accepted = accepted_past (length vs) 0 vs [];
   past = λ p l. accepted_past p 0 vs [];
   none_ahead = none_ahead_past 0 vs [] tt;
+  in_order = in_order_past 0 vs [] refl tt;
 }
 
 -- the ballot of an acceptance, or none
@@ -95,6 +102,7 @@ after_acceptance vs (Some a) F s = record {
   accepted = rw (eq-eqb (length vs) (length vs) refl) refl;
   past = λ p l. rw (ne_eqb (length vs) p (λ e. omega (arith, e, l))) (s.past p l);
   none_ahead = (omega (arith, ap length s.learned), s.none_ahead);
+  in_order = s.in_order;
 }
 
 after_promise : {V : Type 0} (b c : Ballot) (vs : List V) (o : Option (Ballot × V)) (F : List (Fact V)) → is_below b c ≡ false → Leaves c vs o F
@@ -112,6 +120,7 @@ after_promise {V} b c vs o F high s = go (same_ballot b no_ballot) refl
       accepted = s.accepted;
       past = s.past;
       none_ahead = s.none_ahead;
+      in_order = s.in_order;
     }
 
 -- SNAPSHOTS OF A LOG
@@ -119,20 +128,24 @@ after_promise {V} b c vs o F high s = go (same_ballot b no_ballot) refl
 abbrev pub log_snapshot : {V : Type 0} → List (Fact V) → List (Fact V)
 log_snapshot F = onto (log_record (recover 0 F)) []
 
+-- as its parts are written, one before the other
+in_parts : {V : Type 0} (vs : List V) (o : Option (Ballot × V)) (b : Ballot) → onto (learnings 0 vs ++ (acceptance (length vs) o ++ promise b)) []
+    ≡ onto (promise b) (onto (acceptance (length vs) o) (onto (learnings 0 vs) []))
+in_parts vs o b =
+    onto_append (learnings 0 vs) (acceptance (length vs) o ++ promise b) [] ∙ onto_append (acceptance (length vs) o) (promise b) (onto (learnings 0 vs) [])
+
 pub snapshot_leaves : {V : Type 0} (F : List (Fact V)) → Leaves (promised_in F) (learned_in F) (accepted_in (length (learned_in F)) F) (log_snapshot F)
 snapshot_leaves {V} F =
     let vs : List V = learned_in F in
     let o : Option (Ballot × V) = accepted_in (length vs) F in
     let top : is_below (promised_in F) (ballot_of o) ≡ false = at_most o (accepted_below F (length vs)) in
-    subst (Leaves (promised_in F) vs o) (sym parts) (after_promise (promised_in F) (ballot_of o) vs o _ top (after_acceptance vs o _ (after_values vs)))
+    let voted : List (Fact V) = onto (acceptance (length vs) o) (onto (learnings 0 vs) []) in
+    subst (Leaves (promised_in F) vs o) (sym (in_parts vs o (promised_in F)))
+    (after_promise (promised_in F) (ballot_of o) vs o voted top (after_acceptance vs o (onto (learnings 0 vs) []) (after_values vs)))
   where
     at_most : (o : Option (Ballot × V)) → IfSome o (λ a. is_below (promised_in F) a.0 ≡ false) → is_below (promised_in F) (ballot_of o) ≡ false
     at_most None h = none_lowest (promised_in F)
     at_most (Some a) h = h
-
-    parts : log_snapshot F ≡ onto (promise (promised_in F)) (onto (acceptance (length (learned_in F)) (accepted_in (length (learned_in F)) F)) (onto (learnings 0 (learned_in F)) []))
-    parts = onto_append (learnings 0 (learned_in F)) (acceptance (length (learned_in F)) (accepted_in (length (learned_in F)) F) ++ promise (promised_in F)) []
-        ∙ onto_append (acceptance (length (learned_in F)) (accepted_in (length (learned_in F)) F)) (promise (promised_in F)) (onto (learnings 0 (learned_in F)) [])
 
 -- the same promise, values and acceptance make the same log
 pub same_log : {V : Type 0} (u : ℕ) (F G : List (Fact V)) → promised_in F ≡ promised_in G → learned_in F ≡ learned_in G

@@ -1,5 +1,5 @@
 -- Tables by number, and answers: those that answer alike are equal.
-use Rattle.std.proofs.Common.{◌≡◌, ℕ, suc, ◌<◌, ◌≤◌, Bool, true, false, ◌==◌, ◌&&◌, ◌⊎◌, List, [], ◌∷◌, refl, sym, ap, ◌∙◌, subst, inl, inr, arith, Option, Some, None, if◌then◌else◌}
+use Rattle.std.proofs.Common.{◌≡◌, ℕ, suc, Bool, true, false, ◌==◌, ◌&&◌, List, [], ◌∷◌, refl, sym, ap, ◌∙◌, subst, arith, Option, Some, None, if◌then◌else◌}
 use Rattle.std.proofs.lemmas.Bool.{and_parts, eqb-true}
 use Rattle.std.proofs.lemmas.Bool.Decides.{nat_tests}
 use Rattle.aeg_base.specs.declared.names.Tier.{Tier}
@@ -8,10 +8,9 @@ use Rattle.log_model.specs.Chosen.{or_else}
 use Rattle.round_model.proofs.HeldLaws.{InOrder, in_order, find_holds, answers_holds}
 use Rattle.round_model.proofs.NumberedLaws.{risen, find_below}
 use Rattle.round_model.specs.Held.{HeldState, answers_of, holds, takes, takes_as, untold}
-use Rattle.round_model.specs.Lists.{of_tier}
 use Rattle.round_model.specs.Numbered.{rises, find}
 use Rattle.round_model.specs.declared.answer.Answer.{Answer}
-use Rattle.server_model.proofs.Tiers.{tier_eq, tier_same}
+use Rattle.server_model.proofs.Tiers.{tier_eq}
 use Rattle.server_model.specs.Server.{same_tier}
 
 -- TABLES
@@ -64,7 +63,8 @@ find_takes h t n code s k = go (find (answers_of h t) n) refl
         → find (answers_of (takes_as h t n code o) s) k ≡ or_else (find (answers_of h s) k) (if is_call t n s k then Some (untold code) else None)
     go None e = find_set h t n (untold code) s k ∙ by (is_call t n s k) refl
       where
-        by : (b : Bool) → is_call t n s k ≡ b → (if b then Some (untold code) else find (answers_of h s) k) ≡ or_else (find (answers_of h s) k) (if b then Some (untold code) else None)
+        by : (b : Bool) → is_call t n s k ≡ b
+            → (if b then Some (untold code) else find (answers_of h s) k) ≡ or_else (find (answers_of h s) k) (if b then Some (untold code) else None)
         by true f = ap (λ o. or_else o (Some (untold code))) (sym (at_call None e f))
         by false f = sym (or_none (find (answers_of h s) k))
     go (Some a) e = by (is_call t n s k) refl
@@ -74,7 +74,8 @@ find_takes h t n code s k = go (find (answers_of h t) n) refl
         by false f = sym (or_none (find (answers_of h s) k))
 
 -- replicas of one place that find the same answers are equal
-pub same_held : (h g : HeldState) → h.faults ≡ g.faults → h.me ≡ g.me → InOrder h → InOrder g → ((t : Tier) (k : ℕ) → find (answers_of h t) k ≡ find (answers_of g t) k) → h ≡ g
+pub same_held : (h g : HeldState) → h.faults ≡ g.faults → h.me ≡ g.me → InOrder h → InOrder g
+    → ((t : Tier) (k : ℕ) → find (answers_of h t) k ≡ find (answers_of g t) k) → h ≡ g
 same_held h g u x o p f =
     let table : (t : Tier) → answers_of h t ≡ answers_of g t = λ t. same_table 0 0 (answers_of h t) (answers_of g t) (in_order h t o) (in_order g t p) (f t) in
     λ i. record { faults = u i; me = x i; answers = record { mid = table Mid i; inv = table Inv i; pay = table Pay i } }

@@ -9,13 +9,12 @@ use Rattle.log_model.specs.Log.{LogState, open_at}
 use Rattle.log_model.specs.Recover.{onto, promised_in, learned_in, accepted_in, recover}
 use Rattle.log_model.specs.declared.fact.Fact.{Fact as LogFact}
 use Rattle.log_model.specs.declared.fact.Fact.TheVariants as logs
-use Rattle.log_values.specs.declared.any_value.AnyValue.{AnyValue}
 use Rattle.log_values.specs.declared.fact.Fact.{Fact}
 use Rattle.log_values.specs.declared.fact.Fact.TheVariants.{Held}
 use Rattle.round_model.specs.Held.{HeldState, held_code}
 use Rattle.round_model.specs.Service.{Service}
 use Rattle.round_model.specs.declared.answer.Answer.{Answer}
-use Rattle.tier_model.specs.Kinds.{Kind, kind}
+use Rattle.tier_model.specs.Kinds.{kind}
 use Rattle.tier_model.specs.Moves.{as_fact, log_facts, held_in}
 
 -- RECORDS OF A STATE
@@ -78,3 +77,10 @@ NoneAhead [] = Unit {0}
 NoneAhead (logs.Promised b ∷ older) = NoneAhead older
 NoneAhead (logs.Accepted p b v ∷ older) = (p ≤ length (learned_in older)) × NoneAhead older
 NoneAhead (logs.Learned p v ∷ older) = NoneAhead older
+
+-- each value was learned at the position that was open then
+abbrev pub LearnedInOrder : {V : Type 0} → List (LogFact V) → Type 0
+LearnedInOrder [] = Unit {0}
+LearnedInOrder (logs.Promised b ∷ older) = LearnedInOrder older
+LearnedInOrder (logs.Accepted p b v ∷ older) = LearnedInOrder older
+LearnedInOrder (logs.Learned p v ∷ older) = (p ≡ length (learned_in older)) × LearnedInOrder older
