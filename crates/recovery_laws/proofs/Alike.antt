@@ -22,7 +22,8 @@ use Rattle.tier_model.specs.Kinds.{kind}
 use Rattle.tier_model.specs.MidRows as mids
 use Rattle.tier_model.specs.BackRows as backs
 use Rattle.tier_model.proofs.Facts.{log_facts-onto}
-use Rattle.recovery_laws.specs.Snapshots.{AreAlike, LearnedInOrder, NoneAhead, RecoverSame, holding, held_record, held_count, log_record, snapshot_record, snapshot}
+use Rattle.recovery_laws.specs.Snapshots.{AreAlike, LearnedInOrder, NoneAhead, RecoverSame}
+use Rattle.recovery_laws.specs.Snapshots.{holding, held_record, held_count, log_record, snapshot_record, snapshot}
 use Rattle.recovery_laws.proofs.Logs.{log_snapshot, snapshot_leaves, snapshot_log, same_log, none_past, newest_before, length_log_record}
 use Rattle.recovery_laws.proofs.Codes.{code_for, held_oldest, same_answers, snapshot_codes}
 
