@@ -140,18 +140,25 @@ const STOPS: [(u8, bool, bool, usize); 11] = [
     (5, false, false, 1),
 ];
 
-/// What a stop at this call leaves of the promise on an empty disk.
-fn stopped_with_promise(alloc: Global, nth: u8, keep: bool) -> Result<(bool, usize), Fail> {
-    let facts = promised(alloc)?;
+/// What a stop at this call leaves of the facts on an empty disk.
+fn stopped_in_memory(
+    alloc: Global,
+    facts: &Record,
+    nth: u8,
+    keep: bool,
+) -> Result<(bool, usize), OpenErr>
+    requires fit { AllByRecursion FitsFact facts.now }
+    requires short { length (record_text facts.now) ≤ RECORD_BYTES }
+{
     let mut disk = MemDisk::new(alloc, Vec::new(alloc));
-    Ok(stopped(alloc, &mut disk, &facts, nth, keep)?)
+    stopped(alloc, &mut disk, facts, nth, keep)
 }
 
 #[test]
 fn what_a_stop_leaves_of_a_record(rt: HostRuntime) -> Result<(), Fail> {
+    let facts = promised(rt.alloc())?;
     for (nth, keep, met, left) in STOPS {
-        let found = stopped_with_promise(rt.alloc(), nth, keep)?;
-        assert_eq!(rt; found, (met, left), "call {nth}");
+        assert!(rt; stopped_in_memory(rt.alloc(), &facts, nth, keep)? == (met, left));
     }
     Ok(())
 }
@@ -240,8 +247,7 @@ fn restarted(alloc: Global, tier: Tier, bytes: &[u8]) -> Result<Result<usize, Op
 #[test]
 fn what_a_restart_takes(rt: HostRuntime) -> Result<(), Fail> {
     for (tier, bytes, answer) in RESTARTS {
-        let found = restarted(rt.alloc(), tier, bytes)?;
-        assert_eq!(rt; found, answer, "bytes {bytes:?}");
+        assert!(rt; restarted(rt.alloc(), tier, bytes)? == answer);
     }
     Ok(())
 }
