@@ -1,14 +1,13 @@
 // Frames as bytes, and the packets that a turn sends.
 ghost use Rattle.frames.specs.Frames.{FitsFrame};
 
-use aeg_base::{Ballot, Bytes, End, NodeId, Tier};
+use aeg_base::{Ballot, Bytes, End, Memory, NodeId, Tier};
 use frames::{
     FrameErr, Header, Msg, Outbox, Refused, carries, decode, decode_header, encode, encode_log,
 };
 use log_model::PaxMsg;
 use log_values::{AnyValue, BackValue, MidValue, Verdict};
 use std::alloc::Global;
-use std::process::Abort;
 use std::test::*;
 
 const PREPARE: [u8; 13] = [1, 3, 0, 0, 0, 7, 0, 0, 0, 1, 0, 0, 0];
@@ -31,37 +30,33 @@ const FRAMES: [&[u8]; 14] = [
     b"\x01\x0e\x02\x04\x00\x02\x10\x00",
 ];
 
-/// Checks that the message is written as these bytes.
-fn is_written_so(
-    rt: &impl Abort,
-    alloc: Global,
-    from: End,
-    msg: &Msg,
-    bytes: &[u8],
-) -> Result<(), Fail>
+/// Whether the message is written as these bytes.
+fn is_written_so(alloc: Global, from: End, msg: &Msg, bytes: &[u8]) -> Result<bool, Fail>
     requires { FitsFrame from msg.now }
 {
     let again = encode(alloc, from, msg)?;
-    assert_eq!(rt; again.items(), bytes);
-    Ok(())
+    Ok(again.items() == bytes)
 }
 
-fn is_frame(rt: &impl Abort, alloc: Global, bytes: &[u8]) -> Result<(), Fail> {
-    let Ok((header, msg)) = decode(alloc, bytes) else {
-        return Err("a frame".into());
-    };
-    is_written_so(rt, alloc, header.from, &msg, bytes)
+/// Whether the bytes are read as a message that is written so again.
+fn is_frame(alloc: Global, bytes: &[u8]) -> Result<bool, Fail> {
+    let frame = decode(alloc, bytes)?;
+    is_written_so(alloc, frame.0.from, &frame.1, bytes)
+}
+
+/// Why the bytes are no frame.
+fn refusal(alloc: Global, bytes: &[u8]) -> Option<FrameErr> {
+    decode(alloc, bytes).err()
 }
 
 fn is_short(alloc: Global, bytes: &[u8]) -> bool {
-    let read = decode(alloc, bytes);
-    matches!(read, Err(FrameErr::Refused(Refused::Short)))
+    refusal(alloc, bytes) == Some(FrameErr::Refused(Refused::Short))
 }
 
 #[test]
 fn each_kind_is_read_and_written(rt: HostRuntime) -> Result<(), Fail> {
     for bytes in FRAMES {
-        is_frame(&rt, rt.alloc(), bytes)?;
+        assert!(rt; is_frame(rt.alloc(), bytes)?);
     }
     Ok(())
 }
@@ -93,8 +88,7 @@ const DAMAGED: [(&[u8], u8); 6] = [
 ];
 
 fn is_refused(alloc: Global, bytes: &[u8], row: u8) -> bool {
-    let read = decode(alloc, bytes);
-    matches!(read, Err(FrameErr::Refused(Refused::Row(found))) if found == row)
+    refusal(alloc, bytes) == Some(FrameErr::Refused(Refused::Row(row)))
 }
 
 #[test]
@@ -126,14 +120,19 @@ const FIRST: NodeId = NodeId {
     index: 0,
 };
 
-#[test]
-fn a_message_of_a_log_is_written(rt: HostRuntime) -> Result<(), Fail> {
+/// The frame of a Prepare that the node sends.
+fn prepare_frame(alloc: Global) -> Result<Bytes, Memory> {
     let ballot = Ballot {
         counter: 1,
         node: 0,
     };
-    let frame = encode_log(rt.alloc(), FIRST, &PaxMsg::Prepare(ballot, 0))?;
-    assert_eq!(rt; frame.items(), PREPARE.as_slice());
+    encode_log(alloc, FIRST, &PaxMsg::Prepare(ballot, 0))
+}
+
+#[test]
+fn a_message_of_a_log_is_written(rt: HostRuntime) -> Result<(), Fail> {
+    let frame = prepare_frame(rt.alloc())?;
+    assert!(rt; frame.items() == PREPARE.as_slice());
     Ok(())
 }
 

@@ -173,25 +173,35 @@ fn is_usable(rounds: &Rounds, held: &mut Held) -> Result<bool, Memory>
     goes_on(rounds, held)
 }
 
-fn wait_and_go_on(
-    rt: &impl Abort,
-    alloc: Global,
-    rounds: &mut Rounds,
-    held: &mut Held,
-) -> Result<(), Fail>
+/// Whether the request waits, where only a Commit applies, and goes on with its answer.
+fn waits_and_goes_on(alloc: Global, rounds: &Rounds, held: &mut Held) -> Result<bool, Memory>
+    requires { held.old.faults ≡ 1 }
+{
+    Ok(
+        waits(rounds, held)?
+            && is_committed(alloc, rounds, held)?
+            && is_no_fit(alloc, rounds, held)?
+            && is_held(alloc, rounds, held)?
+            && is_usable(rounds, held)?,
+    )
+}
+
+fn run(rt: &impl Abort, alloc: Global, rounds: &mut Rounds, held: &mut Held) -> Result<(), Fail>
     requires first { rounds.old ≡ at_first 1 }
     requires three { held.old.faults ≡ 1 }
 {
     assert!(rt; runs_first(alloc, rounds, held)?);
-    assert!(rt; waits(rounds, held)?);
-    assert!(rt; is_committed(alloc, rounds, held)? && is_no_fit(alloc, rounds, held)?);
-    assert!(rt; is_held(alloc, rounds, held)? && is_usable(rounds, held)?);
+    assert!(rt; waits_and_goes_on(alloc, rounds, held)?);
     Ok(())
 }
 
 #[test]
 fn a_request_waits_for_a_usable_answer(rt: HostRuntime) -> Result<(), Fail> {
     let mut rounds = Rounds::new(rt.alloc(), 1)?;
-    let mut held = Held::new(rt.alloc(), 1, 0);
-    wait_and_go_on(&rt, rt.alloc(), &mut rounds, &mut held)
+    run(
+        &rt,
+        rt.alloc(),
+        &mut rounds,
+        &mut Held::new(rt.alloc(), 1, 0),
+    )
 }
