@@ -1,14 +1,13 @@
 // Frames as bytes, and the packets that a turn sends.
 ghost use Rattle.frames.specs.Frames.{FitsFrame};
 
-use aeg_base::{Ballot, Bytes, End, NodeId, Tier};
+use aeg_base::{Ballot, Bytes, End, Memory, NodeId, Tier};
 use frames::{
     FrameErr, Header, Msg, Outbox, Refused, carries, decode, decode_header, encode, encode_log,
 };
 use log_model::PaxMsg;
 use log_values::{AnyValue, BackValue, MidValue, Verdict};
 use std::alloc::Global;
-use std::process::Abort;
 use std::test::*;
 
 const PREPARE: [u8; 13] = [1, 3, 0, 0, 0, 7, 0, 0, 0, 1, 0, 0, 0];
@@ -31,37 +30,33 @@ const FRAMES: [&[u8]; 14] = [
     b"\x01\x0e\x02\x04\x00\x02\x10\x00",
 ];
 
-/// Checks that the message is written as these bytes.
-fn is_written_so(
-    rt: &impl Abort,
-    alloc: Global,
-    from: End,
-    msg: &Msg,
-    bytes: &[u8],
-) -> Result<(), Fail>
+/// Whether the message is written as these bytes.
+fn is_written_so(alloc: Global, from: End, msg: &Msg, bytes: &[u8]) -> Result<bool, Fail>
     requires { FitsFrame from msg.now }
 {
     let again = encode(alloc, from, msg)?;
-    assert_eq!(rt; again.items(), bytes);
-    Ok(())
+    Ok(again.items() == bytes)
 }
 
-fn is_frame(rt: &impl Abort, alloc: Global, bytes: &[u8]) -> Result<(), Fail> {
-    let Ok((header, msg)) = decode(alloc, bytes) else {
-        return Err("a frame".into());
-    };
-    is_written_so(rt, alloc, header.from, &msg, bytes)
+/// Whether the bytes are read as a message that is written so again.
+fn is_frame(alloc: Global, bytes: &[u8]) -> Result<bool, Fail> {
+    let frame = decode(alloc, bytes)?;
+    is_written_so(alloc, frame.0.from, &frame.1, bytes)
+}
+
+/// Why the bytes are no frame.
+fn refusal(alloc: Global, bytes: &[u8]) -> Option<FrameErr> {
+    decode(alloc, bytes).err()
 }
 
 fn is_short(alloc: Global, bytes: &[u8]) -> bool {
-    let read = decode(alloc, bytes);
-    matches!(read, Err(FrameErr::Refused(Refused::Short)))
+    refusal(alloc, bytes) == Some(FrameErr::Refused(Refused::Short))
 }
 
 #[test]
 fn each_kind_is_read_and_written(rt: HostRuntime) -> Result<(), Fail> {
     for bytes in FRAMES {
-        is_frame(&rt, rt.alloc(), bytes)?;
+        assert!(rt; is_frame(rt.alloc(), bytes)?);
     }
     Ok(())
 }
@@ -93,8 +88,7 @@ const DAMAGED: [(&[u8], u8); 6] = [
 ];
 
 fn is_refused(alloc: Global, bytes: &[u8], row: u8) -> bool {
-    let read = decode(alloc, bytes);
-    matches!(read, Err(FrameErr::Refused(Refused::Row(found))) if found == row)
+    refusal(alloc, bytes) == Some(FrameErr::Refused(Refused::Row(row)))
 }
 
 #[test]
@@ -126,26 +120,36 @@ const FIRST: NodeId = NodeId {
     index: 0,
 };
 
-#[test]
-fn a_message_of_a_log_is_written(rt: HostRuntime) -> Result<(), Fail> {
+/// The frame of a Prepare that the node sends.
+fn prepare_frame(alloc: Global) -> Result<Bytes, Memory> {
     let ballot = Ballot {
         counter: 1,
         node: 0,
     };
-    let frame = encode_log(rt.alloc(), FIRST, &PaxMsg::Prepare(ballot, 0))?;
-    assert_eq!(rt; frame.items(), PREPARE.as_slice());
+    encode_log(alloc, FIRST, &PaxMsg::Prepare(ballot, 0))
+}
+
+#[test]
+fn a_message_of_a_log_is_written(rt: HostRuntime) -> Result<(), Fail> {
+    let frame = prepare_frame(rt.alloc())?;
+    assert!(rt; frame.items() == PREPARE.as_slice());
     Ok(())
+}
+
+/// Whether the value is one of the odd positions of the middle alone.
+fn odd_positions_carry(value: &AnyValue) -> bool {
+    carries(Tier::Mid, 1, value) && !carries(Tier::Mid, 0, value) && !carries(Tier::Inv, 1, value)
+}
+
+/// Whether the value is one of the backends alone.
+fn backends_carry(value: &AnyValue) -> bool {
+    carries(Tier::Pay, 0, value) && !carries(Tier::Mid, 0, value)
 }
 
 #[test]
 fn a_log_has_values_of_its_kind(rt: HostRuntime) {
-    let serial = AnyValue::Mid(MidValue::Verdict(Verdict::Serial));
-    let settle = AnyValue::Back(BackValue::Settle { floor: 2 });
-    assert!(rt; carries(Tier::Mid, 1, &serial));
-    assert!(rt; !carries(Tier::Mid, 0, &serial));
-    assert!(rt; !carries(Tier::Inv, 1, &serial));
-    assert!(rt; carries(Tier::Pay, 0, &settle));
-    assert!(rt; !carries(Tier::Mid, 0, &settle));
+    assert!(rt; odd_positions_carry(&AnyValue::Mid(MidValue::Verdict(Verdict::Serial))));
+    assert!(rt; backends_carry(&AnyValue::Back(BackValue::Settle { floor: 2 })));
 }
 
 fn three_packets(alloc: Global) -> Result<Outbox, Fail> {
@@ -156,13 +160,20 @@ fn three_packets(alloc: Global) -> Result<Outbox, Fail> {
     Ok(outbox)
 }
 
-#[test]
-fn packets_go_in_their_order(rt: HostRuntime) -> Result<(), Fail> {
-    let mut outbox = three_packets(rt.alloc())?;
-    assert_eq!(rt; outbox.items().len(), 3);
+/// To whom the second packet goes, where two are left.
+fn second_of_two(mut outbox: Outbox) -> Option<End> {
     outbox.truncate(2);
     let packets = outbox.into_vec();
-    assert_eq!(rt; packets.len(), 2);
-    assert_eq!(rt; packets[1].0, End::Client(2));
+    match packets.as_slice() {
+        [_, (to, _)] => Some(*to),
+        _ => None,
+    }
+}
+
+#[test]
+fn packets_go_in_their_order(rt: HostRuntime) -> Result<(), Fail> {
+    let outbox = three_packets(rt.alloc())?;
+    assert!(rt; outbox.items().len() == 3);
+    assert!(rt; second_of_two(outbox) == Some(End::Client(2)));
     Ok(())
 }

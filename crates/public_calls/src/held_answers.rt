@@ -1,7 +1,7 @@
 // Answers that a replica holds, and from when on they are usable.
 ghost use Rattle.std.specs.Prelude.{◌≡◌};
 
-use aeg_base::Tier;
+use aeg_base::{Memory, Tier};
 use resp_durable::Held;
 use std::process::Abort;
 use std::test::*;
@@ -34,12 +34,9 @@ fn take(held: &mut Held, from: Option<u8>, no: u32, code: u8) -> Result<bool, Fa
     }
 }
 
-fn is_usable(rt: &impl Abort, held: &Held, no: u32, code: Option<u8>) {
-    assert_eq!(rt; held.usable(Tier::Inv, no), code);
-}
-
-fn has_floor(rt: &impl Abort, held: &Held, floor: u32) {
-    assert_eq!(rt; held.floor(Tier::Inv), floor);
+/// The code of the call that is usable, and the floor.
+fn told(held: &Held, no: u32) -> (Option<u8>, u32) {
+    (held.usable(Tier::Inv, no), held.floor(Tier::Inv))
 }
 
 /// What a row says is so.
@@ -48,10 +45,7 @@ fn comes(rt: &impl Abort, held: &mut Held, row: &Came) -> Result<(), Fail>
     ensures { held.new.faults ≡ 1 }
 {
     let (from, no, code, is_new, usable, floor) = *row;
-    let was_new = take(held, from, no, code)?;
-    assert_eq!(rt; was_new, is_new);
-    is_usable(rt, held, no, usable);
-    has_floor(rt, held, floor);
+    assert!(rt; take(held, from, no, code)? == is_new && told(held, no) == (usable, floor));
     Ok(())
 }
 
@@ -65,32 +59,34 @@ fn come(rt: &impl Abort, held: &mut Held) -> Result<(), Fail>
     Ok(())
 }
 
-fn has_noted(rt: &impl Abort, held: &Held)
+/// Whether the other replicas are known to hold the answer of call 1.
+fn noted(held: &Held) -> (bool, bool)
     requires { held.now.faults ≡ 1 }
 {
-    assert!(rt; held.noted(1, Tier::Inv, 1));
-    assert!(rt; !held.noted(2, Tier::Inv, 1));
+    (held.noted(1, Tier::Inv, 1), held.noted(2, Tier::Inv, 1))
 }
 
-fn has_held(rt: &impl Abort, held: &Held) {
-    assert_eq!(rt; held.held(Tier::Inv, 4), Some(6));
-    assert_eq!(rt; held.held(Tier::Pay, 4), None);
+/// The code that is held of call 4, in either tier.
+fn fourth(held: &Held) -> (Option<u8>, Option<u8>) {
+    (held.held(Tier::Inv, 4), held.held(Tier::Pay, 4))
 }
 
-fn has_highest(rt: &impl Abort, held: &Held) -> Result<(), Fail> {
+/// Whether the highest numbers that are held are those of calls 1 to 4.
+fn has_highest(held: &Held) -> Result<bool, Memory> {
     let highest = held.highest(Tier::Inv)?;
-    assert_eq!(rt;
-        highest.as_slice(),
-        [(1, 7), (2, 4), (3, 0), (4, 6)].as_slice()
-    );
+    Ok(highest.as_slice() == [(1, 7), (2, 4), (3, 0), (4, 6)].as_slice())
+}
+
+fn come_and_stand(rt: &impl Abort, held: &mut Held) -> Result<(), Fail>
+    requires { held.old.faults ≡ 1 }
+{
+    come(rt, held)?;
+    assert!(rt; noted(held) == (true, false) && fourth(held) == (Some(6), None));
+    assert!(rt; has_highest(held)?);
     Ok(())
 }
 
 #[test]
 fn answers_are_usable_once_two_of_three_hold_them(rt: HostRuntime) -> Result<(), Fail> {
-    let mut held = Held::new(rt.alloc(), 1, 0);
-    come(&rt, &mut held)?;
-    has_noted(&rt, &held);
-    has_held(&rt, &held);
-    has_highest(&rt, &held)
+    come_and_stand(&rt, &mut Held::new(rt.alloc(), 1, 0))
 }

@@ -9,6 +9,7 @@ use aeg_disk::{Device, Disk, DiskErr, MemDisk, SureDisk};
 use fact_journal::{AppendErr, FactJournal, OpenErr};
 use log_values::{AnyValue, Fact, MidValue, Record, Verdict};
 use std::alloc::Global;
+use std::process::Abort;
 use std::test::Fail;
 
 // A promise of ballot (1, 0).
@@ -76,61 +77,88 @@ fn contents<D: Disk>(alloc: Global, disk: &mut D) -> Result<Bytes, DiskErr> {
     Ok(Bytes::of(bytes))
 }
 
+/// Whether the promise is added to a journal.
+fn adds_promise(alloc: Global, disk: &mut SureDisk) -> Result<bool, Memory> {
+    let added = add_one(alloc, disk, Tier::Mid, &promised(alloc)?);
+    Ok(matches!(added, Ok(Ok(()))))
+}
+
+/// Whether these are the bytes of the disk.
+fn holds(alloc: Global, disk: &mut SureDisk, bytes: &[u8]) -> Result<bool, DiskErr> {
+    Ok(contents(alloc, disk)?.items() == bytes)
+}
+
+fn are_promise(facts: &[Fact]) -> bool {
+    matches!(facts, [Fact::Promised(b)] if b.counter == 1 && b.node == 0)
+}
+
+/// The place where the journal ends, and whether the promise is its one fact.
+fn reopened(alloc: Global, disk: &mut SureDisk) -> Result<(u64, bool), OpenErr> {
+    let (journal, facts) = FactJournal::open_on(alloc, disk, Tier::Mid)?;
+    Ok((journal.place(), are_promise(&facts)))
+}
+
+fn add_promise(rt: &impl Abort, alloc: Global, disk: &mut SureDisk) -> Result<(), Fail> {
+    assert!(rt; adds_promise(alloc, disk)?);
+    assert!(rt; holds(alloc, disk, &[1, 0, 0, 0, 6, 1, 0, 0, 0, 1, 0, 0])?);
+    assert!(rt; reopened(alloc, disk)? == (11, true));
+    Ok(())
+}
+
 #[test]
 fn a_journal_with_one_promise(rt: HostRuntime) -> Result<(), Fail> {
-    let alloc = rt.alloc();
-    let mut disk = SureDisk::new(alloc);
-    assert_eq!(rt;
-        add_one(alloc, &mut disk, Tier::Mid, &promised(alloc)?),
-        Ok(Ok(()))
-    );
-    let bytes = contents(alloc, &mut disk)?;
-    assert_eq!(rt;
-        bytes.items(),
-        [1, 0, 0, 0, 6, 1, 0, 0, 0, 1, 0, 0].as_slice()
-    );
-    let (journal, facts) = FactJournal::open_on(alloc, &mut disk, Tier::Mid)?;
-    assert_eq!(rt; journal.place(), 11);
-    assert_eq!(rt; facts.len(), 1);
-    assert!(rt; matches!(&facts[0], Fact::Promised(b) if b.counter == 1 && b.node == 0));
-    Ok(())
+    add_promise(&rt, rt.alloc(), &mut SureDisk::new(rt.alloc()))
+}
+
+/// What a stop at this call leaves where an event without facts is added.
+fn stopped_with_none(alloc: Global, nth: u8) -> Result<(bool, usize), OpenErr> {
+    let none = Record::of(Vec::new(alloc));
+    stopped(alloc, &mut SureDisk::new(alloc), &none, nth, false)
 }
 
 #[test]
 fn an_event_without_facts_writes_nothing(rt: HostRuntime) -> Result<(), Fail> {
-    let alloc = rt.alloc();
-    let none = Record::of(Vec::new(alloc));
     for nth in 0..6u8 {
-        let mut disk = SureDisk::new(alloc);
-        assert_eq!(rt; stopped(alloc, &mut disk, &none, nth, false)?, (false, 0));
+        assert!(rt; stopped_with_none(rt.alloc(), nth)? == (false, 0));
     }
     Ok(())
 }
 
+/// A call of the disk that stops, and whether its bytes are kept; then whether the stop was met, and the number of facts
+/// that it leaves.
+const STOPS: [(u8, bool, bool, usize); 11] = [
+    (0, true, false, 1),
+    (1, true, true, 0),
+    (2, true, true, 0),
+    (3, true, true, 1),
+    (4, true, true, 1),
+    (5, true, false, 1),
+    (1, false, true, 0),
+    (2, false, true, 0),
+    (3, false, true, 0),
+    (4, false, true, 0),
+    (5, false, false, 1),
+];
+
+/// What a stop at this call leaves of the facts on an empty disk.
+fn stopped_in_memory(
+    alloc: Global,
+    facts: &Record,
+    nth: u8,
+    keep: bool,
+) -> Result<(bool, usize), OpenErr>
+    requires fit { AllByRecursion FitsFact facts.now }
+    requires short { length (record_text facts.now) ≤ RECORD_BYTES }
+{
+    let mut disk = MemDisk::new(alloc, Vec::new(alloc));
+    stopped(alloc, &mut disk, facts, nth, keep)
+}
+
 #[test]
 fn what_a_stop_leaves_of_a_record(rt: HostRuntime) -> Result<(), Fail> {
-    let alloc = rt.alloc();
-    let facts = promised(alloc)?;
-    let table = [
-        (0u8, true, false, 1usize),
-        (1, true, true, 0),
-        (2, true, true, 0),
-        (3, true, true, 1),
-        (4, true, true, 1),
-        (5, true, false, 1),
-        (1, false, true, 0),
-        (2, false, true, 0),
-        (3, false, true, 0),
-        (4, false, true, 0),
-        (5, false, false, 1),
-    ];
-    for (nth, keep, met, left) in table {
-        let mut disk = MemDisk::new(alloc, Vec::new(alloc));
-        assert_eq!(rt;
-            stopped(alloc, &mut disk, &facts, nth, keep)?,
-            (met, left),
-            "call {nth}"
-        );
+    let facts = promised(rt.alloc())?;
+    for (nth, keep, met, left) in STOPS {
+        assert!(rt; stopped_in_memory(rt.alloc(), &facts, nth, keep)? == (met, left));
     }
     Ok(())
 }
@@ -209,17 +237,17 @@ const RESTARTS: [(Tier, &[u8], Result<usize, OpenErr>); 12] = [
     ),
 ];
 
+/// How many facts opening a journal with these bytes gives, or what it refuses.
+fn restarted(alloc: Global, tier: Tier, bytes: &[u8]) -> Result<Result<usize, OpenErr>, DiskErr> {
+    let mut disk = SureDisk::new(alloc);
+    disk.write_at(0, bytes)?;
+    Ok(count_facts(alloc, &mut disk, tier))
+}
+
 #[test]
 fn what_a_restart_takes(rt: HostRuntime) -> Result<(), Fail> {
-    let alloc = rt.alloc();
     for (tier, bytes, answer) in RESTARTS {
-        let mut disk = SureDisk::new(alloc);
-        disk.write_at(0, bytes)?;
-        assert_eq!(rt;
-            count_facts(alloc, &mut disk, tier),
-            answer,
-            "bytes {bytes:?}"
-        );
+        assert!(rt; restarted(rt.alloc(), tier, bytes)? == answer);
     }
     Ok(())
 }

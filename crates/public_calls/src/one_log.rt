@@ -31,14 +31,12 @@ const ACCEPTED: &[Fact<Mark>] = &[Fact::Accepted(0, FIRST, VALUE)];
 
 const LEARNED: &[Fact<Mark>] = &[Fact::Learned(0, VALUE)];
 
-/// Checks what the turn writes down.
-fn writes(rt: &impl Abort, turn: &LogTurn<Mark>, facts: &[Fact<Mark>]) {
-    assert_eq!(rt; turn.facts.items(), facts);
+fn writes(turn: &LogTurn<Mark>, facts: &[Fact<Mark>]) -> bool {
+    turn.facts.items() == facts
 }
 
-/// Checks what the turn sends.
-fn sends(rt: &impl Abort, turn: &LogTurn<Mark>, packets: &[(u8, PaxMsg<Mark>)]) {
-    assert_eq!(rt; turn.sends.items(), packets);
+fn sends(turn: &LogTurn<Mark>, packets: &[(u8, PaxMsg<Mark>)]) -> bool {
+    turn.sends.items() == packets
 }
 
 /// What a message does.
@@ -50,172 +48,190 @@ fn told(log: &mut TierLog<Mark>, from: u8, msg: &PaxMsg<Mark>) -> Result<LogTurn
     log.on_msg(from, msg)
 }
 
-/// Checks what a message makes the log send.
+/// Whether this is what a message makes the log send.
 fn answers(
-    rt: &impl Abort,
     log: &mut TierLog<Mark>,
     from: u8,
     msg: &PaxMsg<Mark>,
     packets: &[(u8, PaxMsg<Mark>)],
-) -> Result<(), Fail>
+) -> Result<bool, Memory>
     requires sender { from < 2 * log.old.faults + 1 }
     requires place { HasPlace msg.now }
     ensures { log.new.faults ≡ log.old.faults }
 {
     let turn = told(log, from, msg)?;
-    sends(rt, &turn, packets);
-    Ok(())
+    Ok(sends(&turn, packets))
 }
 
-/// Checks why a message makes the log do nothing.
+/// Whether this is why a message makes the log do nothing.
 fn idles(
-    rt: &impl Abort,
     log: &mut TierLog<Mark>,
     from: u8,
     msg: &PaxMsg<Mark>,
     why: LogIdle,
-) -> Result<(), Fail>
+) -> Result<bool, Memory>
     requires sender { from < 2 * log.old.faults + 1 }
     requires place { HasPlace msg.now }
     ensures { log.new.faults ≡ log.old.faults }
 {
     let turn = told(log, from, msg)?;
-    assert_eq!(rt; turn.idle, Some(why));
-    Ok(())
+    Ok(turn.idle == Some(why))
 }
 
-/// Checks what an acceptance of the value makes the log learn and write down.
+/// Whether this is what an acceptance of the value makes the log learn and write down.
 fn learns(
-    rt: &impl Abort,
     log: &mut TierLog<Mark>,
     from: u8,
     learned: Option<Pos>,
     facts: &[Fact<Mark>],
-) -> Result<(), Fail>
+) -> Result<bool, Memory>
     requires { from < 2 * log.old.faults + 1 }
     ensures { log.new.faults ≡ log.old.faults }
 {
     let turn = told(log, from, &VOTE)?;
-    assert_eq!(rt; turn.learned, learned);
-    writes(rt, &turn, facts);
-    Ok(())
+    Ok(turn.learned == learned && writes(&turn, facts))
 }
 
-/// Checks that the value is learned, at position 0 alone.
-fn knows(rt: &impl Abort, log: &TierLog<Mark>) {
-    assert_eq!(rt; log.learned(0), Some(&VALUE));
-    assert_eq!(rt; log.first_open(), 1);
+/// Whether the value is learned, at position 0 alone.
+fn knows(log: &TierLog<Mark>) -> bool {
+    log.learned(0) == Some(&VALUE) && log.first_open() == 1
 }
 
-/// Checks what the log asks for when it begins to lead.
-fn leads(
-    rt: &impl Abort,
-    log: &mut TierLog<Mark>,
-    packets: &[(u8, PaxMsg<Mark>)],
-) -> Result<(), Fail>
+/// Whether this is what the log asks for when it begins to lead.
+fn leads(log: &mut TierLog<Mark>, packets: &[(u8, PaxMsg<Mark>)]) -> Result<bool, Memory>
     ensures { log.new.faults ≡ log.old.faults }
 {
     let turn = log.lead()?;
-    writes(rt, &turn, &[Fact::Promised(FIRST)]);
-    sends(rt, &turn, packets);
-    Ok(())
+    Ok(writes(&turn, &[Fact::Promised(FIRST)]) && sends(&turn, packets))
 }
 
-/// Checks what the log does when it offers the value at position 0.
-fn offers(
-    rt: &impl Abort,
-    log: &mut TierLog<Mark>,
-    packets: &[(u8, PaxMsg<Mark>)],
-) -> Result<(), Fail>
+/// Whether the log offers the value at position 0 with these packets.
+fn offers(log: &mut TierLog<Mark>, packets: &[(u8, PaxMsg<Mark>)]) -> Result<bool, Memory>
     ensures { log.new.faults ≡ log.old.faults }
 {
     let Offering::Free { pos: 0 } = log.wants() else {
-        return Err("position 0 to offer at".into());
+        return Ok(false);
     };
     let turn = log.offer(Some(&VALUE))?;
-    writes(rt, &turn, ACCEPTED);
-    sends(rt, &turn, packets);
-    Ok(())
+    Ok(writes(&turn, ACCEPTED) && sends(&turn, packets))
+}
+
+fn chooses_alone(log: &mut TierLog<Mark>) -> Result<bool, Memory> {
+    Ok(
+        leads(log, &[])?
+            && offers(log, &[(0, VOTE)])?
+            && learns(log, 0, Some(0), LEARNED)?
+            && knows(log),
+    )
 }
 
 #[test]
 fn a_node_alone_chooses_its_value(rt: HostRuntime) -> Result<(), Fail> {
-    let mut log = TierLog::new(rt.alloc(), 0, 0);
-    leads(&rt, &mut log, &[])?;
-    offers(&rt, &mut log, &[(0, VOTE)])?;
-    learns(&rt, &mut log, 0, Some(0), LEARNED)?;
-    knows(&rt, &log);
+    assert!(rt; chooses_alone(&mut TierLog::new(rt.alloc(), 0, 0))?);
     Ok(())
 }
 
-/// Makes the log of node 0 of three offer the value, once node 1 has promised.
-fn lead_of_three(rt: &impl Abort, leader: &mut TierLog<Mark>) -> Result<(), Fail>
+/// Whether the log of node 0 of three offers the value, once node 1 has promised.
+fn leads_three(leader: &mut TierLog<Mark>) -> Result<bool, Memory>
     requires { leader.old.faults ≡ 1 }
     ensures { leader.new.faults ≡ 1 }
 {
-    leads(rt, leader, PREPARES)?;
-    answers(rt, leader, 1, &PaxMsg::Promise(FIRST, 0, None), &[])?;
-    offers(rt, leader, OFFERS)
+    Ok(
+        leads(leader, PREPARES)?
+            && answers(leader, 1, &PaxMsg::Promise(FIRST, 0, None), &[])?
+            && offers(leader, OFFERS)?,
+    )
+}
+
+/// Whether the value is learned once nodes 0 and 1 have accepted it.
+fn learns_by_majority(leader: &mut TierLog<Mark>) -> Result<bool, Memory>
+    requires { leader.old.faults ≡ 1 }
+{
+    Ok(
+        learns(leader, 0, None, &[])?
+            && idles(leader, 0, &VOTE, LogIdle::Nothing)?
+            && learns(leader, 1, Some(0), LEARNED)?,
+    )
+}
+
+fn choose_by_majority(rt: &impl Abort, leader: &mut TierLog<Mark>) -> Result<(), Fail>
+    requires { leader.old.faults ≡ 1 }
+{
+    assert!(rt; leads_three(leader)?);
+    assert!(rt; learns_by_majority(leader)?);
+    Ok(())
 }
 
 #[test]
 fn a_majority_chooses_the_leaders_value(rt: HostRuntime) -> Result<(), Fail> {
-    let mut leader = TierLog::new(rt.alloc(), 1, 0);
-    lead_of_three(&rt, &mut leader)?;
-    learns(&rt, &mut leader, 0, None, &[])?;
-    idles(&rt, &mut leader, 0, &VOTE, LogIdle::Nothing)?;
-    learns(&rt, &mut leader, 1, Some(0), LEARNED)
+    choose_by_majority(&rt, &mut TierLog::new(rt.alloc(), 1, 0))
+}
+
+fn promises_and_accepts(other: &mut TierLog<Mark>) -> Result<bool, Memory> {
+    if !answers(other, 0, &PREPARE, PROMISES)? {
+        return Ok(false);
+    }
+    let turn = told(other, 0, &ACCEPT)?;
+    Ok(writes(&turn, ACCEPTED))
 }
 
 #[test]
 fn another_node_promises_and_accepts(rt: HostRuntime) -> Result<(), Fail> {
-    let mut other = TierLog::new(rt.alloc(), 1, 1);
-    answers(&rt, &mut other, 0, &PREPARE, PROMISES)?;
-    let turn = told(&mut other, 0, &ACCEPT)?;
-    writes(&rt, &turn, ACCEPTED);
+    assert!(rt; promises_and_accepts(&mut TierLog::new(rt.alloc(), 1, 1))?);
     Ok(())
 }
 
-/// Restores a learned value and a promise in the log of a node of three.
-fn restores(rt: &impl Abort, log: &mut TierLog<Mark>) -> Result<(), Fail>
+/// Restores a learned value and a promise in the log of a node of three. Whether the value is learned.
+fn restores(log: &mut TierLog<Mark>) -> Result<bool, Memory>
     requires fresh { log.old ≡ new_log 1 2 }
     ensures { log.new.faults ≡ 1 }
 {
     log.restore(&[Fact::Learned(0, VALUE), Fact::Promised(HIGHER)])?;
-    knows(rt, log);
-    Ok(())
+    Ok(knows(log))
 }
 
-/// Checks what a restored node asks for and tells.
-fn asks_and_tells(rt: &impl Abort, log: &mut TierLog<Mark>) -> Result<(), Fail>
+/// Whether a restored node asks for what it lacks and tells what it has.
+fn asks_and_tells(log: &mut TierLog<Mark>) -> Result<bool, Memory>
     requires { log.old.faults ≡ 1 }
     ensures { log.new.faults ≡ 1 }
 {
-    answers(rt, log, 0, &PaxMsg::Learn(1, VALUE), &[(0, PaxMsg::Ask(2))])?;
-    answers(rt, log, 1, &PaxMsg::Ask(0), &[(1, PaxMsg::Learn(0, VALUE))])
+    Ok(
+        answers(log, 0, &PaxMsg::Learn(1, VALUE), &[(0, PaxMsg::Ask(2))])?
+            && answers(log, 1, &PaxMsg::Ask(0), &[(1, PaxMsg::Learn(0, VALUE))])?,
+    )
 }
 
-/// Checks that a node that has learned position 1 too tells so.
-fn is_behind(rt: &impl Abort, log: &mut TierLog<Mark>) -> Result<(), Fail>
+/// Whether it keeps its promise.
+fn is_stale(log: &mut TierLog<Mark>) -> Result<bool, Memory>
+    requires { log.old.faults ≡ 1 }
+    ensures { log.new.faults ≡ 1 }
+{
+    let stale = LogIdle::Stale { promised: HIGHER };
+    idles(log, 0, &PaxMsg::Prepare(FIRST, 2), stale)
+}
+
+/// Whether a node that has learned position 1 too tells so.
+fn is_behind(log: &mut TierLog<Mark>) -> Result<bool, Memory>
     requires { log.old.faults ≡ 1 }
 {
+    let accept = PaxMsg::Accept(HIGHER, 3, VALUE);
     let behind = LogIdle::Behind { pos: 2 };
-    answers(
-        rt,
-        log,
-        0,
-        &PaxMsg::Accept(HIGHER, 3, VALUE),
-        &[(0, PaxMsg::Behind(2))],
-    )?;
-    idles(rt, log, 0, &PaxMsg::Accepted(HIGHER, 3, VALUE), behind)
+    Ok(
+        answers(log, 0, &accept, &[(0, PaxMsg::Behind(2))])?
+            && idles(log, 0, &PaxMsg::Accepted(HIGHER, 3, VALUE), behind)?,
+    )
+}
+
+fn restart(rt: &impl Abort, log: &mut TierLog<Mark>) -> Result<(), Fail>
+    requires fresh { log.old ≡ new_log 1 2 }
+{
+    assert!(rt; restores(log)?);
+    assert!(rt; asks_and_tells(log)?);
+    assert!(rt; is_stale(log)? && is_behind(log)?);
+    Ok(())
 }
 
 #[test]
 fn a_restart_keeps_what_was_promised_and_learned(rt: HostRuntime) -> Result<(), Fail> {
-    let mut log = TierLog::new(rt.alloc(), 1, 2);
-    restores(&rt, &mut log)?;
-    asks_and_tells(&rt, &mut log)?;
-    let stale = LogIdle::Stale { promised: HIGHER };
-    idles(&rt, &mut log, 0, &PaxMsg::Prepare(FIRST, 2), stale)?;
-    is_behind(&rt, &mut log)
+    restart(&rt, &mut TierLog::new(rt.alloc(), 1, 2))
 }

@@ -5,7 +5,6 @@ use aeg_base::{Bytes, Memory};
 use log_values::{Token, Verdict};
 use state_verify::Tally;
 use std::alloc::Global;
-use std::process::Abort;
 use std::test::*;
 
 /// What a tally comes to: a commit by the first bytes of its token and of its order.
@@ -34,9 +33,12 @@ fn told(
     requires { from < 2 * tally.old.faults + 1 }
     ensures { tally.new.faults ≡ tally.old.faults }
 {
-    let token = Token::of(Bytes::of(Vec::from_slice(alloc, &[token])?));
-    let added = tally.add(from, &token, &[order])?;
+    let added = tally.add(from, &token_of(alloc, token)?, &[order])?;
     Ok((added, tally.have(), verdict_of(tally)?))
+}
+
+fn token_of(alloc: Global, byte: u8) -> Result<Token, Memory> {
+    Ok(Token::of(Bytes::of(Vec::from_slice(alloc, &[byte])?)))
 }
 
 fn verdict_of(tally: &Tally) -> Result<CameTo, Memory> {
@@ -50,19 +52,22 @@ fn verdict_of(tally: &Tally) -> Result<CameTo, Memory> {
     }
 }
 
+/// Whether two of five tokens come to nothing, three to a Serial verdict, and three that agree to a commit.
+fn come_to_a_verdict(alloc: Global, tally: &mut Tally) -> Result<bool, Memory>
+    requires { tally.old.faults ≡ 2 }
+{
+    let commit = CameTo::Commit(Some(9), Some(11));
+    Ok(
+        told(alloc, tally, 0, 1, 10)? == (true, 1, CameTo::Open)
+            && told(alloc, tally, 4, 9, 14)? == (true, 2, CameTo::Open)
+            && told(alloc, tally, 0, 9, 10)? == (false, 2, CameTo::Open)
+            && told(alloc, tally, 3, 9, 13)? == (true, 3, CameTo::Serial)
+            && told(alloc, tally, 1, 9, 11)? == (true, 4, commit),
+    )
+}
+
 #[test]
 fn three_of_five_tokens_make_a_verdict(rt: HostRuntime) -> Result<(), Fail> {
-    let alloc = rt.alloc();
-    let mut tally = tally_of(alloc, 2);
-    let first = told(alloc, &mut tally, 0, 1, 10)?;
-    assert!(rt; first == (true, 1, CameTo::Open));
-    let second = told(alloc, &mut tally, 4, 9, 14)?;
-    assert!(rt; second == (true, 2, CameTo::Open));
-    let again = told(alloc, &mut tally, 0, 9, 10)?;
-    assert!(rt; again == (false, 2, CameTo::Open));
-    let third = told(alloc, &mut tally, 3, 9, 13)?;
-    assert!(rt; third == (true, 3, CameTo::Serial));
-    let fourth = told(alloc, &mut tally, 1, 9, 11)?;
-    assert!(rt; fourth == (true, 4, CameTo::Commit(Some(9), Some(11))));
+    assert!(rt; come_to_a_verdict(rt.alloc(), &mut tally_of(rt.alloc(), 2))?);
     Ok(())
 }
