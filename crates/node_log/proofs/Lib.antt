@@ -1,0 +1,7 @@
+pub mod Told
+pub mod Nodes
+pub mod Moved
+pub mod Restarted
+pub mod Again
+pub mod Turns
+pub mod ToTiers

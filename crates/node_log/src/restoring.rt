@@ -1,0 +1,30 @@
+// The log that a node's journal leaves.
+ghost use Rattle.std.specs.Prelude.{◌≡◌, ◌+◌, ◌*◌, ◌<◌, ◌≤◌, IfOk};
+ghost use Rattle.fact_journal.specs.Fitting.{FactsFit};
+ghost use Rattle.node_log.specs.LogNodes.{IsOwnLog};
+ghost use Rattle.node_log.specs.Restarting.{restored_log};
+
+use crate::facts::log_facts;
+use aeg_base::limits::MAX_FAULTS;
+use aeg_base::{Memory, NodeId};
+use log_values::{AnyValue, Fact};
+use paxos_log::TierLog;
+use std::alloc::Global;
+
+/// The log that the facts of a node's journal leave, the oldest one first.
+pub fn restored(
+    alloc: Global,
+    u: u8,
+    me: NodeId,
+    facts: Vec<Fact>,
+) -> Result<TierLog<AnyValue>, Memory>
+    requires faults { u ≤ MAX_FAULTS }
+    requires node { me.index < 2 * u + 1 }
+    requires fit { FactsFit me.tier 0 facts.items }
+    ensures log { IfOk result (λ log. log ≡ restored_log u me.index facts.items) }
+    ensures own { IfOk result (IsOwnLog u me.tier me.index) }
+{
+    let mut log = TierLog::new(alloc, u, me.index);
+    log.restore(&log_facts(alloc, facts)?)?;
+    Ok(log)
+}
