@@ -25,26 +25,26 @@ taken_back before between after k e = e ∙ (ap (λ z. take (length before) z) k
 if_some : {A : Type 0} (P : A → Type 0) (o : Option A) (x : A) → o ≡ Some x → P x → IfSome o P
 if_some P o x e p = subst (λ z. IfSome z P) (sym e) p
 
-module _ {R S : Type 0} (whole : Standing R → S) (row : S → Move S) (now down new : View (Standing R)) (held next : Working R) (a b : DiskState) (before between after : List (End × List ℕ)) (was : WasAtWork now held) (left : down ≡ went_down now) where
-  state : S
+module _ {R S : Type 0} (whole : Standing R → S) (row : S → Move S) (now taken new : View (Standing R)) (held next : Working R) (a b : DiskState) (before between after : List (End × List ℕ)) (was : WasAtWork now held) (left : taken ≡ went_down now) where
+  abbrev state : S
   state = whole (standing_in held)
 
-  move : Move S
+  abbrev move : Move S
   move = row state
 
   up_is : option_map whole now.up ≡ Some state
   up_is = ap (λ z. option_map whole z) was.up
 
-  place_is : down.place ≡ now.place
+  place_is : taken.place ≡ now.place
   place_is = ap (λ (z : View (Standing R)). z.place) left
 
   -- what settling told
   record Settles (decided : Result Decided Memory) (result : Result Answer Fault) : Type 0 where
-    pub node : OnOk result (new ≡ record down { up = Some (standing_in next); place = new.place })
+    pub node : OnOk result (new ≡ record taken { up = Some (standing_in next); place = new.place })
     pub packets : OnOk result (after ≡ between)
-    pub down : OnErr result (new ≡ down)
+    pub down : OnErr result (new ≡ taken)
     pub taken_back : OnErr result (after ≡ take (length before) between)
-    pub records : Records a b down.place new.place decided result
+    pub records : Records a b taken.place new.place decided result
 
   made : (answer : Answer) (d : Decided) → Decides whole row held next before between (Ok d) → Settles (Ok d) (Ok answer) → Made (seen_as whole now) (seen_as whole new) before after move answer
   made answer d decides settles = record {
@@ -55,9 +55,9 @@ module _ {R S : Type 0} (whole : Standing R → S) (row : S → Move S) (now dow
   }
 
   wrote : (answer : Answer) (d : Decided) → Decides whole row held next before between (Ok d) → Settles (Ok d) (Ok answer) → Wrote a b now.place new.place move.facts
-  wrote answer d decides settles = subst (λ (z : ℕ). Wrote a b z new.place move.facts) place_is (subst (λ z. Wrote a b down.place new.place z) decides.facts settles.records.wrote)
+  wrote answer d decides settles = subst (λ (z : ℕ). Wrote a b z new.place move.facts) place_is (subst (λ z. Wrote a b taken.place new.place z) decides.facts settles.records.wrote)
 
-  goes_down : new ≡ down → seen_as whole new ≡ went_down (seen_as whole now)
+  goes_down : new ≡ taken → seen_as whole new ≡ went_down (seen_as whole now)
   goes_down e = ap (seen_as whole) (e ∙ left)
 
   no_answer : (answer : Answer) (fault : Fault) → ◌≡◌ {A = Result Answer Fault} (Ok answer) (Err fault) → ⊥
@@ -84,11 +84,11 @@ module _ {R S : Type 0} (whole : Standing R → S) (row : S → Move S) (now dow
     wrote = tt;
     down = goes_down settles.down;
     nothing_sent = taken_back before between after decides.kept settles.taken_back;
-    may_have = if_some (λ s. MayHaveWritten a b now.place (row s).facts) (option_map whole now.up) state up_is (subst (λ (z : ℕ). MayHaveWritten a b z move.facts) place_is (subst (λ z. MayHaveWritten a b down.place z) decides.facts settles.records.may_have));
-    cause = λ other e. if_some (λ s. HasCause a b now.place (row s).facts other) (option_map whole now.up) state up_is (subst (λ (z : ℕ). HasCause a b z move.facts other) place_is (subst (λ z. HasCause a b down.place z other) decides.facts (settles.records.cause other e)));
+    may_have = if_some (λ s. MayHaveWritten a b now.place (row s).facts) (option_map whole now.up) state up_is (subst (λ (z : ℕ). MayHaveWritten a b z move.facts) place_is (subst (λ z. MayHaveWritten a b taken.place z) decides.facts settles.records.may_have));
+    cause = λ other e. if_some (λ s. HasCause a b now.place (row s).facts other) (option_map whole now.up) state up_is (subst (λ (z : ℕ). HasCause a b z move.facts other) place_is (subst (λ z. HasCause a b taken.place z other) decides.facts (settles.records.cause other e)));
     later = settles.records.later;
   }
-  settled (Err m) (Ok answer) decides settles = absurd settles.records.decided
+  settled (Err m) (Ok answer) decides settles = absurd (let had = settles.records.had_memory in cc)
   settled (Err m) (Err fault) decides settles = record {
     made = tt;
     wrote = tt;
@@ -100,6 +100,6 @@ module _ {R S : Type 0} (whole : Standing R → S) (row : S → Move S) (now dow
   }
 
   pub moves : (decided : Result Decided Memory) (result : Result Answer Fault) → Decides whole row held next before between decided
-      → OnOk result (new ≡ record down { up = Some (standing_in next); place = new.place }) → OnOk result (after ≡ between) → OnErr result (new ≡ down) → OnErr result (after ≡ take (length before) between) → Records a b down.place new.place decided result
+      → OnOk result (new ≡ record taken { up = Some (standing_in next); place = new.place }) → OnOk result (after ≡ between) → OnErr result (new ≡ taken) → OnErr result (after ≡ take (length before) between) → Records a b taken.place new.place decided result
       → Moves (seen_as whole now) (seen_as whole new) a b before after row result
   moves decided result decides node packets is_down back records = settled decided result decides (record { node = node; packets = packets; down = is_down; taken_back = back; records = records })

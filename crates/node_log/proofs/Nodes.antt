@@ -15,6 +15,24 @@ use Rattle.node_log.specs.Views.{View, Wrote, MayHaveWritten, HasCause, went_dow
 use Rattle.node_log.specs.LogNodes.{Standing, standing_in, standing_of, place_by, IsOwnLog, IsLogNode, WasAtWork, IsInHand}
 use Rattle.node_log.specs.Settling.{Records}
 
+pub where_ok : {P : Type 0} (decided : Result Decided Memory) → OnOk decided P → IsOk decided → P
+where_ok (Ok d) p ok = p
+where_ok (Err m) p ok = absurd cc
+
+ok_where : {P Q : Type 0} (decided : Result Decided Memory) → (P → Q) → OnOk decided P → OnOk decided Q
+ok_where (Ok d) f p = f p
+ok_where (Err m) f p = tt
+
+-- the same from where the node knows its journal's gate
+from_place : (a b : DiskState) (at place next : ℕ) (decided : Result Decided Memory) (r : Result Answer Fault) → OnOk decided (place ≡ at) → Records a b at next decided r → Records a b place next decided r
+from_place a b at place next (Ok d) r e k = subst (λ (z : ℕ). Records a b z next (Ok d) r) (sym e) k
+from_place a b at place next (Err m) r e k = record { had_memory = k.had_memory; answer = k.answer; wrote = tt; may_have = tt; cause = λ f g. tt; memory = k.memory; untouched = k.untouched; later = k.later }
+
+-- where it failed, the next place says nothing
+down_at : (a b : DiskState) (at next other : ℕ) (decided : Result Decided Memory) (fault : Fault) → Records a b at next decided (Err fault) → Records a b at other decided (Err fault)
+down_at a b at next other (Ok d) fault k = record { had_memory = k.had_memory; answer = k.answer; wrote = tt; may_have = k.may_have; cause = k.cause; memory = k.memory; untouched = k.untouched; later = k.later }
+down_at a b at next other (Err m) fault k = record { had_memory = k.had_memory; answer = k.answer; wrote = tt; may_have = tt; cause = k.cause; memory = k.memory; untouched = k.untouched; later = k.later }
+
 module _ {R : Type 0} where
   -- what contracts see of a node with these fields
   abbrev pub seen : ℕ → NodeId → ℕ → Option (Box (Working R) Global) → View (Standing R)
@@ -45,24 +63,6 @@ module _ {R : Type 0} where
   }
 
   -- SETTLING
-
-  pub where_ok : {P : Type 0} (decided : Result Decided Memory) → OnOk decided P → IsOk decided → P
-  where_ok (Ok d) p ok = p
-  where_ok (Err m) p ok = absurd ok
-
-  ok_where : {P Q : Type 0} (decided : Result Decided Memory) → (P → Q) → OnOk decided P → OnOk decided Q
-  ok_where (Ok d) f p = f p
-  ok_where (Err m) f p = tt
-
-  -- the same from where the node knows its journal's gate
-  from_place : (a b : DiskState) (at place next : ℕ) (decided : Result Decided Memory) (r : Result Answer Fault) → OnOk decided (place ≡ at) → Records a b at next decided r → Records a b place next decided r
-  from_place a b at place next (Ok d) r e k = subst (λ (z : ℕ). Records a b z next (Ok d) r) (sym e) k
-  from_place a b at place next (Err m) r e k = record { decided = k.decided; answer = k.answer; wrote = tt; may_have = tt; cause = λ f g. tt; memory = k.memory; untouched = k.untouched; later = k.later }
-
-  -- where it failed, the next place says nothing
-  down_at : (a b : DiskState) (at next other : ℕ) (decided : Result Decided Memory) (fault : Fault) → Records a b at next decided (Err fault) → Records a b at other decided (Err fault)
-  down_at a b at next other (Ok d) fault k = record { decided = k.decided; answer = k.answer; wrote = tt; may_have = k.may_have; cause = k.cause; memory = k.memory; untouched = k.untouched; later = k.later }
-  down_at a b at next other (Err m) fault k = record { decided = k.decided; answer = k.answer; wrote = tt; may_have = tt; cause = k.cause; memory = k.memory; untouched = k.untouched; later = k.later }
 
   place_in_hand : (now : View (Standing R)) (hand : Working R) (decided : Result Decided Memory) → OnOk decided (IsInHand now hand) → OnOk decided (now.place ≡ hand.journal)
   place_in_hand now hand decided k = ok_where decided (λ (z : IsInHand now hand). z.place) k

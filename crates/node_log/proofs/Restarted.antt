@@ -116,7 +116,7 @@ restarts old new a b recovered (Ok j) (Ok _) k c = record {
 restarts old new a b recovered (Ok j) (Err fault) k c = record {
   fits = tt;
   reads = tt;
-  one_list = λ lists stands fit. tt;
+  one_list = tt;
   whole = tt;
   refused = λ at e. absurd (let f = c.0 in cc);
   none_refused = λ lists stands fit at e. let f = c.0 in cc;
@@ -130,7 +130,7 @@ restarts old new a b recovered (Err why) (Ok _) k c = absurd c
 restarts old new a b recovered (Err why) (Err fault) k c = record {
   fits = tt;
   reads = tt;
-  one_list = λ lists stands fit. tt;
+  one_list = tt;
   whole = tt;
   refused = λ at e. k.refused at (same_result at e);
   none_refused = λ lists stands fit at e. k.none_refused lists stands fit at (same_result at e);

@@ -13,7 +13,7 @@ use Rattle.frames.specs.Frames.{frame}
 use Rattle.paxos_log.specs.TierLog.{skips}
 use Rattle.round_model.specs.Lists.{each}
 use Rattle.tier_model.specs.Moves.{node, log_packet, log_packets, asks}
-use Rattle.node_log.specs.Packets.{sealed, all_sealed, to_tier, StillHas}
+use Rattle.node_log.specs.Packets.{sealed, all_sealed, to_tier}
 
 map_one : {A B : Type 0} (g : A → B) (b : Bool) (a : A) → map g (cond b [] (a ∷ [])) ≡ cond b [] (g a ∷ [])
 map_one g true a = refl
@@ -30,13 +30,12 @@ map_each g (suc n) skip f =
 abbrev pub below : ℕ → Tier → Option ℕ → List ℕ → List (End × List ℕ)
 below n t but bytes = each n (skips but) (λ y. (node t y, bytes))
 
-pub tier_sealed : (u : ℕ) (from : End) (t : Tier) (but : Option ℕ) (message : Msg) → all_sealed (to_tier u from t but message) ≡ below (2 * u + 1) t but (frame from message)
-tier_sealed u from t but message = map_each sealed (2 * u + 1) (skips but) (λ y. record { from = from; to = node t y; message = message })
+pub tier_sealed : (u n : ℕ) (from : End) (t : Tier) (but : Option ℕ) (message : Msg) (bytes : List ℕ) → n ≡ 2 * u + 1 → bytes ≡ frame from message → below n t but bytes ≡ all_sealed (to_tier u from t but message)
+tier_sealed u n from t but message bytes e f =
+    ap (λ (z : ℕ). below z t but bytes) e
+    ∙ ap (λ z. below (2 * u + 1) t but z) f
+    ∙ sym (map_each sealed (2 * u + 1) (skips but) (λ y. record { from = from; to = node t y; message = message }))
 
 -- asks are one message to all others
 pub asks_are : (u : ℕ) (t : Tier) (x p : ℕ) → to_tier u (node t x) t (Some x) (Log (Ask p)) ≡ log_packets t x (asks u x p)
 asks_are u t x p = sym (map_each (log_packet t x) (2 * u + 1) (is x) (λ y. (y, Ask p)))
-
--- behind what was there
-pub still : {A : Type 0} (first more now : List A) → now ≡ first ++ more → StillHas first now
-still first more now e = (more, e)

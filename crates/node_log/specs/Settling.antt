@@ -27,7 +27,7 @@ pub record CanRecord (facts : List Fact) : Type 0 where
 -- What was decided was written down, from one place of the journal's gate to the next. What ran out of memory before leaves
 -- the disk alone.
 pub record Records (before after : DiskState) (place next : ℕ) (decided : Result Decided Memory) (result : Result Answer Fault) : Type 0 where
-  pub decided : OnOk result (IsOk decided)
+  pub had_memory : OnOk result (IsOk decided)
   pub answer : IfOk result (λ answer. IfOk decided (λ d. answer ≡ d.answer))
   pub wrote : IfOk decided (λ d. OnOk result (Wrote before after place next d.facts.items))
   pub may_have : IfOk decided (λ d. OnErr result (MayHaveWritten before after place d.facts.items))

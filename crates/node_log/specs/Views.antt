@@ -1,5 +1,5 @@
 -- What contracts see of a node, and what an event makes of it, of its disk and of the packets.
-use Rattle.std.specs.Prelude.{◌≡◌, ◌⊎◌, ℕ, ◌+◌, ◌-◌, ◌^◌, ◌≤◌, min, Bool, true, false, List, [], ◌∷◌, ◌++◌, map, Option, Some, None, option_map, IfSome, IfOk, OnOk, OnErr}
+use Rattle.std.specs.Prelude.{◌≡◌, ◌⊎◌, ℕ, ◌+◌, ◌-◌, ◌^◌, ◌≤◌, min, Bool, true, false, List, [], ◌∷◌, ◌++◌, map, Option, Some, None, is_some, option_map, IfSome, IfOk, OnOk, OnErr}
 use Rattle.std.specs.declared.result.Result.{Result}
 use Rattle.std.specs.declared.result.Result.TheVariants.{Ok, Err}
 use Rattle.aeg_base.specs.declared.names.Tier.{Tier}
@@ -39,7 +39,7 @@ abbrev pub went_down : {S : Type 0} → View S → View S
 went_down v = record v { up = None }
 
 abbrev pub is_up : {S : Type 0} → View S → Bool
-is_up v = elim v.up [ None ↦ false | Some s ↦ true ]
+is_up v = is_some v.up
 
 -- EVENTS AT A NODE
 

@@ -1,5 +1,5 @@
 // What a node's calls come to, and what the turns of its log may do.
-ghost use Rattle.std.specs.Prelude.{◌≡◌, ℕ, ◌+◌, ◌*◌, ◌<◌, ◌≤◌, List, length, map, take, OnOk, OnErr};
+ghost use Rattle.std.specs.Prelude.{◌≡◌, ℕ, ◌+◌, ◌*◌, ◌<◌, ◌≤◌, List, Option, length, map, take, OnOk, OnErr};
 ghost use Rattle.std.specs.declared.result.Result.{Result};
 ghost use Rattle.std.specs.List.{AllByRecursion};
 ghost use Rattle.aeg_base.specs.declared.memory.Memory.{Memory};

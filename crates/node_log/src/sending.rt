@@ -141,7 +141,7 @@ pub fn send_asks(
     ensures kept { StillHas out.old out.new }
 {
     let message = Msg::Log(PaxMsg::Ask(at));
-    send_to_tier(
+    let sent = send_to_tier(
         alloc,
         u,
         End::Node(from),
@@ -149,5 +149,7 @@ pub fn send_asks(
         Some(from.index),
         &message,
         out,
-    )
+    );
+    drop(message);
+    sent
 }
