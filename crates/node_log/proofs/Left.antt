@@ -1,5 +1,6 @@
 -- The log that the facts of a node's journal leave.
-use Rattle.std.proofs.Common.{◌≡◌, ℕ, List, [], ◌∷◌, ◌++◌, refl, sym, ap, ◌∙◌, subst}
+use Rattle.std.proofs.Common.{◌≡◌, ℕ, List, [], ◌∷◌, ◌++◌, refl, sym, ap, ◌∙◌, subst, Result, Ok, Err}
+use Rattle.std.specs.Prelude.{IfOk}
 use Rattle.aeg_base.specs.declared.names.Tier.{Tier}
 use Rattle.fact_journal.specs.Fitting.{FactsFit}
 use Rattle.fact_journal.proofs.Restoring.{in_order, in_range, restored_in}
@@ -30,16 +31,15 @@ pub ordered : (t : Tier) (facts : List Fact) (logs : List (LogFact AnyValue)) �
 ordered t facts logs e fit = subst (AreInOrder 0) (sym e) (in_order t 0 facts fit)
 
 -- it is the one that the definition leaves, which takes the newest fact first
-pub restored_is : (u x : ℕ) (facts : List Fact) (logs : List (LogFact AnyValue)) (fresh log : NodeLog AnyValue) → fresh ≡ new_log u x → log ≡ with_state fresh (recover fresh.faults (newest_first logs)) → logs ≡ log_facts facts → log ≡ restored_log u x facts
-restored_is u x facts logs fresh log f g e =
-    g
-    ∙ ap (λ (z : NodeLog AnyValue). with_state z (recover z.faults (newest_first logs))) f
-    ∙ ap (λ z. with_state (new_log u x) (recover u (newest_first z))) e
-    ∙ ap (λ z. with_state (new_log u x) (recover u z)) (sym (log_facts-onto facts []))
+pub restored_is : {E : Type 0} (u x : ℕ) (facts : List Fact) (logs : List (LogFact AnyValue)) (r : Result (NodeLog AnyValue) E) → logs ≡ log_facts facts
+    → IfOk r (λ log. log ≡ with_state (new_log u x) (recover u (newest_first logs))) → IfOk r (λ log. log ≡ restored_log u x facts)
+restored_is u x facts logs (Ok log) e f = f ∙ ap (λ z. with_state (new_log u x) (recover u (newest_first z))) e ∙ ap (λ z. with_state (new_log u x) (recover u z)) (sym (log_facts-onto facts []))
+restored_is u x facts logs (Err error) e f = tt
 
 -- and the node's own, in range
-pub restored_own : (u : ℕ) (t : Tier) (x : ℕ) (facts : List Fact) (log : NodeLog AnyValue) → FactsFit t 0 facts → log ≡ restored_log u x facts → IsOwnLog u t x log
-restored_own u t x facts log fit e = subst (IsOwnLog u t x) (sym e) (record { faults = refl; me = refl; range = range })
+pub restored_own : {E : Type 0} (u : ℕ) (t : Tier) (x : ℕ) (facts : List Fact) (r : Result (NodeLog AnyValue) E) → FactsFit t 0 facts → IfOk r (λ log. log ≡ restored_log u x facts) → IfOk r (IsOwnLog u t x)
+restored_own u t x facts (Ok log) fit e = subst (IsOwnLog u t x) (sym e) (record { faults = refl; me = refl; range = range })
   where
     range : IsLogIn (IsCarried t) FitsBallot (restored_log u x facts).state
     range = subst (λ z. IsLogIn (IsCarried t) FitsBallot (recover u z)) (sym (log_facts-onto facts [])) (restored_in (IsCarried t) FitsBallot u (log_facts facts) (in_range t 0 facts fit) (in_order t 0 facts fit))
+restored_own u t x facts (Err error) fit e = tt

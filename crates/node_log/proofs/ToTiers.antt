@@ -26,14 +26,9 @@ map_each g (suc n) skip f =
     ∙ ap (λ z. z ++ map g (cond (skip n) [] (f n ∷ []))) (map_each g n skip f)
     ∙ ap (λ z. each n skip (λ y. g (f y)) ++ z) (map_one g (skip n) (f n))
 
--- the packets for the nodes below n
-abbrev pub below : ℕ → Tier → Option ℕ → List ℕ → List (End × List ℕ)
-below n t but bytes = each n (skips but) (λ y. (node t y, bytes))
-
-pub tier_sealed : (u n : ℕ) (from : End) (t : Tier) (but : Option ℕ) (message : Msg) (bytes : List ℕ) → n ≡ 2 * u + 1 → bytes ≡ frame from message → below n t but bytes ≡ all_sealed (to_tier u from t but message)
-tier_sealed u n from t but message bytes e f =
-    ap (λ (z : ℕ). below z t but bytes) e
-    ∙ ap (λ z. below (2 * u + 1) t but z) f
+pub tier_sealed : (u : ℕ) (from : End) (t : Tier) (but : Option ℕ) (message : Msg) (bytes : List ℕ) → bytes ≡ frame from message → each (2 * u + 1) (skips but) (λ y. (node t y, bytes)) ≡ all_sealed (to_tier u from t but message)
+tier_sealed u from t but message bytes e =
+    ap (λ z. each (2 * u + 1) (skips but) (λ y. (node t y, z))) e
     ∙ sym (map_each sealed (2 * u + 1) (skips but) (λ y. record { from = from; to = node t y; message = message }))
 
 -- asks are one message to all others

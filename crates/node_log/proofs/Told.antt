@@ -68,9 +68,12 @@ may_have at next facts a b r error err told = go error (subst (λ z. Told at nex
     go (appends.Full n) k = not_written at facts a b (k.nothing_written n refl)
     go appends.Memory k = record { one_of_two = k.leaves; stop = k.stopped }
 
-pub has_cause : (at next : ℕ) (facts : List Fact) (a b : DiskState) (r : Result (Unit {0}) AppendErr) (error : AppendErr) → r ≡ Err error → Told at next facts a b r → HasCause a b at facts (as_fault error)
-has_cause at next facts a b r error err told = go error (subst (λ z. Told at next facts a b z) err told)
+pub has_cause : (at next : ℕ) (facts : List Fact) (a b : DiskState) (r : Result (Unit {0}) AppendErr) (error : AppendErr) (given fault : Fault) → r ≡ Err error → given ≡ as_fault error → ◌≡◌ {A = Result (Unit {0}) Fault} (Err given) (Err fault) → Told at next facts a b r → HasCause a b at facts fault
+has_cause at next facts a b r error given fault err is same told = subst (HasCause a b at facts) as_told (go error (subst (λ z. Told at next facts a b z) err told))
   where
+    as_told : as_fault error ≡ fault
+    as_told = cc
+
     go : (error : AppendErr) → Told at next facts a b (Err error) → HasCause a b at facts (as_fault error)
     go appends.Disk k = (not_full at next facts a b (Err appends.Disk) (λ n e. cc) (λ e. cc) k, wrote_at_fault at next facts a b k, k.cause refl)
     go (appends.Full n) k = ((k.full n refl).0, (k.full n refl).1, k.nothing_written n refl)

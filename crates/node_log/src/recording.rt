@@ -23,7 +23,10 @@ fn append<D: Disk>(journal: &mut FactJournal, disk: &mut D, facts: Vec<Fact>) ->
     ensures cause { (fault : Fault) → result ≡ Err fault → HasCause (D.state disk.old) (D.state disk.new) journal.old facts.items fault }
     ensures later { Later (D.state disk.old) (D.state disk.new) }
 {
-    match journal.append(disk, &Record::of(facts)) {
+    let record = Record::of(facts);
+    let answer = journal.append(disk, &record);
+    drop(record);
+    match answer {
         Ok(()) => Ok(()),
         Err(error) => Err(fault_of(error)),
     }

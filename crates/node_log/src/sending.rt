@@ -5,11 +5,13 @@ ghost use Rattle.std.specs.List.{AllByRecursion};
 ghost use Rattle.aeg_base.specs.declared.names.End.TheVariants.{Node};
 ghost use Rattle.frames.specs.Frames.{FitsFrame};
 ghost use Rattle.frames.specs.LogMessages.{FitsLog};
-ghost use Rattle.tier_model.specs.Moves.{asks, log_packets};
+ghost use Rattle.paxos_log.specs.TierLog.{skips};
+ghost use Rattle.round_model.specs.Lists.{each};
+ghost use Rattle.tier_model.specs.Moves.{asks, log_packets, node};
 ghost use Rattle.node_log.specs.Packets.{all_sealed, to_tier, HasSent, IsFrameAt, StillHas};
 
 use aeg_base::limits::{MAX_FAULTS, POSITIONS};
-use aeg_base::{Bytes, End, Memory, NodeId, Pos, Seq, Tier, Value};
+use aeg_base::{Ballot, Bytes, End, Memory, NodeId, Pos, Seq, Tier, Value};
 use frames::{Msg, Outbox, encode, encode_log};
 use log_values::AnyValue;
 use log_values::format::LAST_INDEX;
@@ -32,6 +34,26 @@ pub fn send_one(
     out.push(to, bytes)
 }
 
+/// Adds a packet with these bytes for each of so many nodes of a tier but the one that is left out, by ascending index.
+fn send_bytes(
+    nodes: u8,
+    to: Tier,
+    but: Option<u8>,
+    bytes: &Bytes,
+    out: &mut Outbox,
+) -> Result<(), Memory>
+    ensures sent { OnOk result (out.new ≡ out.old ++ each nodes (skips but) (λ y. (node to y, bytes.now))) }
+    ensures kept { StillHas out.old out.new }
+{
+    for index in 0..nodes {
+        if but != Some(index) {
+            let receiver = NodeId { tier: to, index };
+            out.push(End::Node(receiver), bytes.copy()?)?;
+        }
+    }
+    Ok(())
+}
+
 /// Adds one message to each of the 2u+1 nodes of a tier, or to all but one, by ascending index.
 pub fn send_to_tier(
     alloc: Global,
@@ -48,13 +70,39 @@ pub fn send_to_tier(
     ensures kept { StillHas out.old out.new }
 {
     let bytes = encode(alloc, from, message)?;
-    for index in 0..2 * u + 1 {
-        if but != Some(index) {
-            let receiver = NodeId { tier: to, index };
-            out.push(End::Node(receiver), bytes.copy()?)?;
-        }
+    let sent = send_bytes(2 * u + 1, to, but, &bytes, out);
+    drop(bytes);
+    sent
+}
+
+/// Whether the message is this Prepare.
+fn is_prepare(message: &PaxMsg<AnyValue>, b: Ballot, p: Pos) -> bool
+    ensures { OnTrue result (message.now ≡ PaxMsg.Prepare b p) }
+{
+    match message {
+        PaxMsg::Prepare(ballot, pos) => *ballot == b && *pos == p,
+        _ => false,
     }
-    Ok(())
+}
+
+/// Whether the message is this Accept.
+fn is_accept(message: &PaxMsg<AnyValue>, b: Ballot, p: Pos, v: &AnyValue) -> bool
+    ensures { OnTrue result (message.now ≡ PaxMsg.Accept b p v.now) }
+{
+    match message {
+        PaxMsg::Accept(ballot, pos, value) => *ballot == b && *pos == p && value.same(v),
+        _ => false,
+    }
+}
+
+/// Whether the message is this Accepted.
+fn is_accepted(message: &PaxMsg<AnyValue>, b: Ballot, p: Pos, v: &AnyValue) -> bool
+    ensures { OnTrue result (message.now ≡ PaxMsg.Accepted b p v.now) }
+{
+    match message {
+        PaxMsg::Accepted(ballot, pos, value) => *ballot == b && *pos == p && value.same(v),
+        _ => false,
+    }
 }
 
 /// Whether the second message is the first one again, as when all are told the same.
@@ -62,18 +110,9 @@ fn is_again(first: &PaxMsg<AnyValue>, second: &PaxMsg<AnyValue>) -> bool
     ensures { OnTrue result (first.now ≡ second.now) }
 {
     match first {
-        PaxMsg::Prepare(b, p) => match second {
-            PaxMsg::Prepare(ballot, pos) => b == ballot && p == pos,
-            _ => false,
-        },
-        PaxMsg::Accept(b, p, v) => match second {
-            PaxMsg::Accept(ballot, pos, value) => b == ballot && p == pos && v.same(value),
-            _ => false,
-        },
-        PaxMsg::Accepted(b, p, v) => match second {
-            PaxMsg::Accepted(ballot, pos, value) => b == ballot && p == pos && v.same(value),
-            _ => false,
-        },
+        PaxMsg::Prepare(b, p) => is_prepare(second, *b, *p),
+        PaxMsg::Accept(b, p, v) => is_accept(second, *b, *p, v),
+        PaxMsg::Accepted(b, p, v) => is_accepted(second, *b, *p, v),
         _ => false,
     }
 }
