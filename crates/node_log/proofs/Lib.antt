@@ -1,0 +1,8 @@
+pub mod Told
+pub mod Nodes
+pub mod Moved
+pub mod Restarted
+pub mod Again
+pub mod Turns
+pub mod ToTiers
+pub mod Left

@@ -1,0 +1,6 @@
+pub mod Views
+pub mod Settling
+pub mod Restarting
+pub mod Faults
+pub mod LogNodes
+pub mod Packets

@@ -1,0 +1,22 @@
+//! What a middle and a backend node share: a log in memory, a journal on a disk, and the packets that they send.
+#![tactic(auto)]
+
+mod answers;
+mod decided;
+mod faults;
+mod laws;
+mod facts;
+mod log_node;
+mod recording;
+mod restoring;
+mod sending;
+mod working;
+
+pub use answers::{answer_of, needs_own, offer_cause};
+pub use decided::Decided;
+pub use laws::{log_turns, moves, restarts};
+pub use facts::facts_of;
+pub use log_node::LogNode;
+pub use restoring::restored;
+pub use sending::{send_asks, send_log, send_one, send_to_tier};
+pub use working::Working;
