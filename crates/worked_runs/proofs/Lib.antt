@@ -1,9 +1,10 @@
 pub mod Reading
 pub mod Playing
+pub mod Dues
+pub mod Told
+mod Refusals
 mod Commands
 mod Cuts
 mod Copies
-mod Payments
+mod Bookings
 mod Orders
-mod Losses
-mod Deep

@@ -6,7 +6,7 @@ use Rattle.std.specs.Option.{option_map}
 use Rattle.server_model.specs.Backends.{Amounts}
 use Rattle.run_model.specs.Script.{Script, Read, Reads, Fails, script_of}
 use Rattle.run_model.specs.World.{Config}
-use Rattle.run_model.specs.Text.{event_text, closing}
+use Rattle.run_model.specs.Text.{event_text, text, closing}
 use Rattle.run_model.specs.Runs.{world}
 use Rattle.run_model.specs.Resolving.{Standing, next, stands_after, starts, first_standing}
 use Rattle.run_model.specs.BookingRuns.{config}
@@ -25,10 +25,14 @@ line ↵ lines = codes line ++ 10 ∷ lines
 -- the text of what is left to do and the closing lines, where that is at most so many events
 abbrev pub plays : ℕ → Config Amounts → Standing Amounts → Option (List ℕ)
 plays zero c s = None
-plays (suc n) c s = elim (next c s) [ None ↦ Some (closing s.world) | Some d ↦ option_map (λ text. event_text c s.world d.event ++ text) (plays n c (stands_after c s.world d d.event)) ]
+plays (suc n) c s = elim (next c s) [ None ↦ Some (closing s.world) | Some d ↦ option_map (λ rest. event_text c s.world d.event ++ rest) (plays n c (stands_after c s.world d d.event)) ]
+
+-- every node restarts first
+abbrev pub plays_from : ℕ → Config Amounts → Script → Option (List ℕ)
+plays_from n c script = option_map (λ rest. text c (starts c.u) ++ rest) (plays n c (first_standing (world c (starts c.u)) script))
 
 abbrev pub plays_script : ℕ → Script → Option (List ℕ)
-plays_script n script = plays n (config script.u script.depth) (first_standing (world (config script.u script.depth) (starts script.u)) script)
+plays_script n script = plays_from n (config script.u script.depth) script
 
 abbrev pub plays_read : ℕ → Read Script → Option (List ℕ)
 plays_read n (Reads script) = plays_script n script
