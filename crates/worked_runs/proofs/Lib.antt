@@ -4,7 +4,10 @@ pub mod Dues
 pub mod Told
 mod Refusals
 mod Commands
+mod Nodes
 mod Cuts
 mod Copies
+mod Faults
 mod Bookings
+mod Pipelines
 mod Orders

@@ -15,7 +15,6 @@ use Rattle.worked_runs.proofs.Reading.{later_script_of}
 -- TEXTS BY LINES
 
 infixr 60 ◌↵◌
-
 -- a line, and those behind it
 abbrev pub ◌↵◌ : String → List ℕ → List ℕ
 line ↵ lines = codes line ++ 10 ∷ lines

@@ -74,10 +74,10 @@ whole c script out rest e p =
       resolves = (p.end, (first, p.events, refl, starts_become c.u, starts_find c c.u, p.goes), p.ends);
       sure = both_sure first p.events (restarts_sure (all_nodes c.u)) p.sure;
       is_text = sym e
-      ∙ ap (λ z. text c first ++ z) p.is_text
-      ∙ sym (append_assoc (text c first) (text_from c (world c first) p.events) (closing (run c p.events (world c first))))
-      ∙ ap (λ z. z ++ closing (run c p.events (world c first))) (sym (text-append c first p.events start))
-      ∙ ap (λ (z : World Amounts). text c (first ++ p.events) ++ closing z) (sym (run-append c first p.events start));
+          ∙ ap (λ z. text c first ++ z) p.is_text
+          ∙ sym (append_assoc (text c first) (text_from c (world c first) p.events) (closing (run c p.events (world c first))))
+          ∙ ap (λ z. z ++ closing (run c p.events (world c first))) (sym (text-append c first p.events start))
+          ∙ ap (λ (z : World Amounts). text c (first ++ p.events) ++ closing z) (sym (run-append c first p.events start));
     }
 
 whole_by : (c : Config Amounts) (script : Script) (out : List ℕ) (rest : Option (List ℕ)) → option_map (λ rest. text c (starts c.u) ++ rest) rest ≡ Some out
