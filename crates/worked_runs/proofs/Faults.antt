@@ -1,8 +1,7 @@
 -- A disk that fails takes its node down: nothing of the event is sent.
-use Rattle.std.proofs.Common.{◌≡◌, ◌+◌, ◌++◌, refl, arith, List, [], ◌∷◌}
+use Rattle.std.proofs.Common.{◌≡◌, ◌++◌, refl, arith, List, [], ◌∷◌}
 use Rattle.std.specs.Fmt.{digits}
 use Rattle.aeg_base.specs.Numbers.{checked, number_at, with_number}
-use Rattle.aeg_base.specs.declared.names.Tier.TheVariants.{Mid}
 use Rattle.run_model.specs.declared.trace.Fared.TheVariants.{Fine, Fault}
 use Rattle.run_model.specs.declared.trace.Found.TheVariants.{Reads}
 use Rattle.run_model.specs.declared.trace.TraceEvent.{TraceEvent}

@@ -1,5 +1,5 @@
 -- A script played to its whole text: each event's lines in turn, and the closing lines.
-use Rattle.std.proofs.Common.{ℕ, zero, suc, List, [], ◌∷◌, ◌++◌, Option, Some, None}
+use Rattle.std.proofs.Common.{ℕ, zero, suc, List, ◌∷◌, ◌++◌, Option, Some, None}
 use Prim.Native.String.{String}
 use Rattle.std.specs.Prelude.{codes}
 use Rattle.std.specs.Option.{option_map}

@@ -3,18 +3,20 @@ use Rattle.std.proofs.Common.{◌≡◌, ℕ, zero, suc, true, List, [], ◌∷�
 use Rattle.std.specs.Option.{option_map}
 use Rattle.server_model.specs.Backends.{Amounts}
 use Rattle.aeg_base.specs.declared.names.NodeId.{NodeId}
-use Rattle.run_model.specs.declared.trace.Found.TheVariants.{Reads}
+use Rattle.run_model.specs.declared.trace.Found.TheVariants as found
 use Rattle.run_model.specs.declared.trace.TraceEvent.{TraceEvent}
 use Rattle.run_model.specs.declared.trace.TraceEvent.TheVariants.{Restart}
-use Rattle.run_model.specs.Script.{Script}
+use Rattle.run_model.specs.Script.{Script, Read, Reads, Fails, script_of}
 use Rattle.run_model.specs.World.{Config, World, start}
 use Rattle.run_model.specs.Runs.{run, world}
 use Rattle.run_model.specs.Text.{after, event_text, text_from, text, closing}
 use Rattle.run_model.specs.Resolving.{Standing, Due, next, stands_after, Goes, AllSure, is_sure, starts, all_nodes, first_standing, Resolves}
+use Rattle.run_model.specs.BookingRuns.{config}
 use Rattle.run_model.proofs.Appending.{run-append, text-append}
 use Rattle.run_model.proofs.Beginning.{starts_become, starts_find}
+use Rattle.worked_runs.proofs.Reading.{later_script_of}
 use Rattle.worked_runs.proofs.Dues.{both_sure, sure_becomes, sure_finds, next_sure}
-use Rattle.worked_runs.proofs.Playing.{plays, plays_from}
+use Rattle.worked_runs.proofs.Playing.{plays, plays_from, plays_read, played, later_played}
 
 -- the events that are left to do without a fault, and their text with the closing lines
 record Plays (c : Config Amounts) (s : Standing Amounts) (out : List ℕ) : Type 0 where
@@ -55,7 +57,7 @@ plays_on : (k : ℕ) (c : Config Amounts) (s : Standing Amounts) (out : List ℕ
 plays_on zero c s out e = absurd (cc)
 plays_on (suc k) c s out e = plays_by k c s out (next c s) refl e (plays_on k c)
 
-restarts_sure : (ns : List NodeId) → AllSure (map (λ n. Restart n (Reads 0)) ns)
+restarts_sure : (ns : List NodeId) → AllSure (map (λ n. Restart n (found.Reads 0)) ns)
 restarts_sure [] = tt
 restarts_sure (n ∷ ns) = (refl, restarts_sure ns)
 
@@ -85,6 +87,23 @@ whole_by : (c : Config Amounts) (script : Script) (out : List ℕ) (rest : Optio
 whole_by c script out None e more = absurd (cc)
 whole_by c script out (Some rest) e more = let same : text c (starts c.u) ++ rest ≡ out = cc in whole c script out rest same (more rest refl)
 
-pub played_is_text : (n : ℕ) (c : Config Amounts) (script : Script) (out : List ℕ) → plays_from n c script ≡ Some out → IsWholeText c script out
-played_is_text n c script out e =
+script_is_text : (n : ℕ) (c : Config Amounts) (script : Script) (out : List ℕ) → plays_from n c script ≡ Some out → IsWholeText c script out
+script_is_text n c script out e =
     whole_by c script out (plays n c (first_standing (world c (starts c.u)) script)) e (plays_on n c (first_standing (world c (starts c.u)) script))
+
+-- INPUTS
+
+-- what is read is a script with this whole text
+abbrev pub IsTextOf : Read Script → List ℕ → Type 0
+IsTextOf (Reads script) out = IsWholeText (config script.u script.depth) script out
+IsTextOf (Fails line row) out = ⊥
+
+read_is_text : (n : ℕ) (read : Read Script) (out : List ℕ) → plays_read n read ≡ Some out → IsTextOf read out
+read_is_text n (Reads script) out e = script_is_text n (config script.u script.depth) script out e
+read_is_text n (Fails line row) out e = absurd (cc)
+
+pub played_is_text : (n : ℕ) (input out : List ℕ) → played n input ≡ Some out → IsTextOf (script_of input) out
+played_is_text n input out e = read_is_text n (script_of input) out e
+
+pub later_is_text : (n : ℕ) (input out : List ℕ) → later_played n input ≡ Some out → IsTextOf (later_script_of input) out
+later_is_text n input out e = read_is_text n (later_script_of input) out e
