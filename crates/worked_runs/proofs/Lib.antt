@@ -1,0 +1,13 @@
+pub mod Reading
+pub mod Playing
+pub mod Dues
+pub mod Told
+mod Refusals
+mod Commands
+mod Nodes
+mod Cuts
+mod Copies
+mod Faults
+mod Bookings
+mod Pipelines
+mod Orders
