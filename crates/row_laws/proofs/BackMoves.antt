@@ -185,8 +185,8 @@ turn_in {B} s u depth t x σ turn b small l codes k few i =
 pub log_sent : (u : ℕ) (t : Tier) (from : End) (p : PaxMsg AnyValue) → is_node_of u t from ≡ true → FitsFrame from (msgs.Log p) → (end_index from < 2 * u + 1) × FitsLog t p
 log_sent u t from p e f =
     let y = sender_is u t from e in
-    let g : FitsFrame (node t y.0) (msgs.Log p) = subst (λ z. FitsFrame z (msgs.Log p)) y.1.1 f in
-    (subst (λ z. end_index z < 2 * u + 1) (sym y.1.1) y.1.0, g.message)
+    let g : FitsFrame (node t y.0) (msgs.Log p) = subst (λ z. FitsFrame z (msgs.Log p)) y.2 f in
+    (subst (λ z. end_index z < 2 * u + 1) (sym y.2) y.1, g.message)
 
 call_in : {B : Type 0} (s : Service B) (u depth : ℕ) (t : Tier) (x : ℕ) (σ : Back B) (y n : ℕ) (text : List ℕ) → IsBackend t → u ≤ 2 → x < 2 * u + 1 → y < 2 * u + 1 → IsBackIn u t σ → IsCallNumber n → IsText text → IsBackMove s u depth t x σ (on_call t x σ y n text)
 call_in {B} s u depth t x σ y n text b small l m k c f = still (nat_lt n σ.shim.floor) _ _ (λ e. nothing σ k refl) (λ e. kept (find σ.shim.kept n) (find_in IsCode (λ code. code < 256) σ.shim.kept n (λ q code z. z.1) k.shim.kept))
@@ -222,7 +222,7 @@ frame_in {B} s u depth t x σ from message small l b codes k f = go message f
         (λ e. dropped 7)
     go (msgs.Call n text) f = either (IsBackIn u t) (λ (z : Back B). z.log) (IsTaken s u depth) t x σ (is_node_of u InMid from) _ _
         (λ e. let y = sender_is u InMid from e in
-        call_in s u depth t x σ (end_index from) n text b small l (subst (λ z. end_index z < 2 * u + 1) (sym y.1.1) y.1.0) k f.message.0 f.message.1)
+        call_in s u depth t x σ (end_index from) n text b small l (subst (λ z. end_index z < 2 * u + 1) (sym y.2) y.1) k f.message.0 f.message.1)
         (λ e. dropped 7)
     go (msgs.Settle g) f = either (IsBackIn u t) (λ (z : Back B). z.log) (IsTaken s u depth) t x σ (is_node_of u InMid from) _ _ (λ e. settle_in s u depth t x σ (end_index from) g k f.message) (λ e. dropped 7)
     go (msgs.Request seq body) f = dropped 7

@@ -4,3 +4,7 @@ pub mod LogTurns
 pub mod Moving
 pub mod Restored
 pub mod BackMoves
+pub mod Wanted
+pub mod Finishes
+pub mod Applied
+pub mod MidSends

@@ -3,6 +3,8 @@ use Rattle.std.proofs.Common.{◌≡◌, ℕ, ◌+◌, ◌*◌, ◌<◌, ◌≤�
 use Rattle.std.specs.Prelude.{slice_get, slice_set, slice_index, slice_index_or, take, drop, nat_lt, ◌==◌, IfSome}
 use Rattle.std.proofs.lemmas.Bool.{cond_both}
 use Rattle.std.proofs.lemmas.List.{length-append}
+use Rattle.std.specs.List.{All}
+use Rattle.std.proofs.lemmas.List.Elements.{All-head, All-tail}
 use Rattle.log_model.proofs.Basics.{Every, every-append}
 use Rattle.round_model.specs.Lists.{each, concat, head_of, tail_of, at, put_at}
 use Rattle.round_model.specs.Numbered.{find, put, without, from}
@@ -62,3 +64,48 @@ from_in P (e ∷ es) n k = cond_both (nat_lt e.0 n) (from es n) (e ∷ es) (Ever
 pub find_in : {A : Type 0} (P : ℕ × A → Type 0) (Q : A → Type 0) (es : List (ℕ × A)) (n : ℕ) → ((m : ℕ) (a : A) → P (m, a) → Q a) → Every P es → IfSome (find es n) Q
 find_in P Q [] n f k = tt
 find_in P Q (e ∷ es) n f k = cond_both (e.0 == n) (Some e.1) (find es n) (λ o. IfSome o Q) (λ t. f e.0 e.1 k.0) (λ t. find_in P Q es n f k.1)
+
+-- LISTS IN TWO PARTS
+
+pub every_left : {A : Type 0} (P : A → Type 0) (xs ys : List A) → Every P (xs ++ ys) → Every P xs
+every_left P [] ys k = tt
+every_left P (x ∷ xs) ys k = (k.0, every_left P xs ys k.1)
+
+pub every_right : {A : Type 0} (P : A → Type 0) (xs ys : List A) → Every P (xs ++ ys) → Every P ys
+every_right P [] ys k = k
+every_right P (x ∷ xs) ys k = every_right P xs ys k.1
+
+pub every_all : {A : Type 0} (P : A → Type 0) (xs : List A) → All P xs → Every P xs
+every_all P [] k = tt
+every_all P (x ∷ xs) k = (All-head P x xs k, every_all P xs (All-tail P x xs k))
+
+pub every_both : {A : Type 0} (P Q R : A → Type 0) → ((a : A) → P a → Q a → R a) → (xs : List A) → Every P xs → Every Q xs → Every R xs
+every_both P Q R f [] k l = tt
+every_both P Q R f (x ∷ xs) k l = (f x k.0 l.0, every_both P Q R f xs k.1 l.1)
+
+-- what holds of each item by its index
+pub every_from : {A : Type 0} (P : A → Type 0) (xs : List A) → ((i : ℕ) (a : A) → slice_get xs i ≡ Some a → P a) → Every P xs
+every_from P [] f = tt
+every_from P (x ∷ xs) f = (f 0 x refl, every_from P xs (λ i a e. f (suc i) a e))
+
+pub take_in : {A : Type 0} (P : A → Type 0) (n : ℕ) (xs : List A) → Every P xs → Every P (take n xs)
+take_in P zero xs k = tt
+take_in P (suc n) [] k = tt
+take_in P (suc n) (x ∷ xs) k = (k.0, take_in P n xs k.1)
+
+pub take_few : {A : Type 0} (n : ℕ) (xs : List A) → length (take n xs) ≤ n
+take_few zero xs = omega arith
+take_few (suc n) [] = omega arith
+take_few (suc n) (x ∷ xs) = omega (arith, take_few n xs)
+
+-- a place that is written, where places before it are filled up
+pub put_at_in : {A : Type 0} (P : A → Type 0) (rest : A) (xs : List A) (i : ℕ) (a : A) → P rest → Every P xs → P a → Every P (put_at rest xs i a)
+put_at_in P rest [] zero a r k p = (p, tt)
+put_at_in P rest [] (suc i) a r k p = (r, put_at_in P rest [] i a r tt p)
+put_at_in P rest (x ∷ xs) zero a r k p = (p, k.1)
+put_at_in P rest (x ∷ xs) (suc i) a r k p = (k.0, put_at_in P rest xs i a r k.1 p)
+
+pub at_in : {A : Type 0} (P : Option A → Type 0) (xs : List (Option A)) (i : ℕ) → P None → Every P xs → P (at None xs i)
+at_in P [] i none k = none
+at_in P (x ∷ xs) zero none k = k.0
+at_in P (x ∷ xs) (suc i) none k = at_in P xs i none k.1

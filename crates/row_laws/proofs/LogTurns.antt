@@ -1,13 +1,15 @@
 -- A turn of a node's log, from a log in range: its packets are taken and have frames, and its facts fit.
 use Rattle.std.proofs.Common.{◌≡◌, ℕ, ◌+◌, ◌*◌, ◌<◌, ◌≤◌, Bool, true, false, cond, List, [], ◌∷◌, ◌++◌, length, map, refl, sym, ap, ◌∙◌, subst, inl, inr, arith, Option, Some, None, zero, suc}
 use Rattle.std.specs.Prelude.{◌⊎◌, ◌&&◌, nat_lt}
-use Rattle.std.proofs.lemmas.Bool.{lt-ltb, ltb-true}
+use Rattle.std.proofs.lemmas.Bool.{and_parts, lt-ltb, ltb-true}
 use Rattle.std.proofs.lemmas.List.{length-map}
 use Rattle.aeg_base.specs.declared.names.Ballot.{Ballot}
 use Rattle.aeg_base.specs.declared.names.End.{End}
 use Rattle.aeg_base.specs.declared.names.End.TheVariants.{Node, Client}
 use Rattle.aeg_base.specs.declared.names.Tier.{Tier}
 use Rattle.aeg_base.specs.declared.names.Tier.TheVariants.{Mid as InMid, Inv, Pay}
+use Rattle.server_model.specs.Server.{same_tier}
+use Rattle.server_model.proofs.Tiers.{tier_eq}
 use Rattle.log_model.specs.declared.fact.Fact.{Fact as LogFact}
 use Rattle.log_model.specs.declared.fact.Fact.TheVariants as logs
 use Rattle.log_model.specs.declared.message.PaxMsg.{PaxMsg}
@@ -39,15 +41,9 @@ use Rattle.row_laws.proofs.FewMessages.{IsFew, IsWritten}
 -- a node of the tier is one, with an index below 2u+1
 pub sender_is : (u : ℕ) (t : Tier) (from : End) → is_node_of u t from ≡ true → (y : ℕ) × (y < 2 * u + 1) × (from ≡ node t y)
 sender_is u t (Client c) e = absurd (cc)
-sender_is u InMid (Node (record { tier = InMid; index = y })) e = (y, ltb-true y (2 * u + 1) e, refl)
-sender_is u InMid (Node (record { tier = Inv; index = y })) e = absurd (cc)
-sender_is u InMid (Node (record { tier = Pay; index = y })) e = absurd (cc)
-sender_is u Inv (Node (record { tier = InMid; index = y })) e = absurd (cc)
-sender_is u Inv (Node (record { tier = Inv; index = y })) e = (y, ltb-true y (2 * u + 1) e, refl)
-sender_is u Inv (Node (record { tier = Pay; index = y })) e = absurd (cc)
-sender_is u Pay (Node (record { tier = InMid; index = y })) e = absurd (cc)
-sender_is u Pay (Node (record { tier = Inv; index = y })) e = absurd (cc)
-sender_is u Pay (Node (record { tier = Pay; index = y })) e = (y, ltb-true y (2 * u + 1) e, refl)
+sender_is u t (Node n) e =
+    let p = and_parts (same_tier n.tier t) (nat_lt n.index (2 * u + 1)) e in
+    (n.index, ltb-true n.index (2 * u + 1) p.1, ap (λ z. Node (record { tier = z; index = n.index })) (tier_eq n.tier t p.0))
 
 pub peer_is : (u : ℕ) (t : Tier) (x : ℕ) → x < 2 * u + 1 → is_node_of u t (node t x) ≡ true
 peer_is u InMid x l = lt-ltb x (2 * u + 1) l

@@ -17,11 +17,11 @@ IsStateIn s u depth tiers.Mid x = IsMidIn s.programs u depth x
 IsStateIn s u depth tiers.Inv x = IsBackIn u tiers.Inv
 IsStateIn s u depth tiers.Pay x = IsBackIn u tiers.Pay
 
-abbrev pub log_of : {B : Type 0} → (t : Tier) → State B t → LogState AnyValue
-log_of tiers.Mid σ = σ.log
-log_of tiers.Inv σ = σ.log
-log_of tiers.Pay σ = σ.log
+abbrev pub log_of : (B : Type 0) (t : Tier) → State B t → LogState AnyValue
+log_of B tiers.Mid σ = σ.log
+log_of B tiers.Inv σ = σ.log
+log_of B tiers.Pay σ = σ.log
 
 -- such a node may make the move from this state
 abbrev pub IsMoveIn : {B : Type 0} → Service B → ℕ → ℕ → (t : Tier) → ℕ → State B t → Move (State B t) → Type 0
-IsMoveIn {B} s u depth t x σ move = IsMoveTo (IsStateIn s u depth t x) (log_of {B = B} t) (IsTaken s u depth) t x σ move
+IsMoveIn {B} s u depth t x σ move = IsMoveTo (IsStateIn s u depth t x) (log_of B t) (IsTaken s u depth) t x σ move

@@ -28,5 +28,5 @@ pub fn backend_rows<B>()
     ensures restored { (s : Service B) (u depth x : ℕ) (t : Tier) (rs : List (List Fact)) → IsBackend t → IsBackendIn (s.backend t) → Fit t rs
         → IsStateIn s u depth t x ((kind u s depth t x).recovered (newest rs)) }
     ensures opened { (s : Service B) (u depth x : ℕ) (t : Tier) (rs : List (List Fact)) → IsBackend t
-        → open_at (log_of t ((kind u s depth t x).recovered (newest rs))) ≡ open_after_all 0 (all_facts rs) }
+        → open_at (log_of B t ((kind u s depth t x).recovered (newest rs))) ≡ open_after_all 0 (all_facts rs) }
 {}
