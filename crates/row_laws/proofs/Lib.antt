@@ -8,3 +8,7 @@ pub mod Wanted
 pub mod Finishes
 pub mod Applied
 pub mod MidSends
+pub mod MidParts
+pub mod Orders
+pub mod MidRounds
+pub mod MidMoves
