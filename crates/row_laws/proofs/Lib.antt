@@ -12,3 +12,5 @@ pub mod MidParts
 pub mod Orders
 pub mod MidRounds
 pub mod MidMoves
+pub mod MidAgain
+pub mod Served

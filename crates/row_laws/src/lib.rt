@@ -2,5 +2,9 @@
 #![tactic(auto)]
 
 mod backs;
+mod mids;
+mod services;
 
 pub use backs::backend_rows;
+pub use mids::middle_rows;
+pub use services::services_in_range;
