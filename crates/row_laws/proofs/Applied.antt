@@ -1,10 +1,9 @@
 -- The tables after a round are in range.
-use Rattle.std.proofs.Common.{◌≡◌, ℕ, zero, suc, ◌+◌, ◌*◌, ◌<◌, ◌≤◌, ◌^◌, Bool, true, false, cond, List, [], ◌∷◌, ◌++◌, length, length-append, map, refl, sym, ap, ◌∙◌, subst, arith, Option, Some, None}
-use Rattle.std.specs.Prelude.{slice_get, nat_le, IfSome, IsSome}
+use Rattle.std.proofs.Common.{◌≡◌, ℕ, suc, ◌+◌, ◌<◌, ◌≤◌, List, [], ◌∷◌, ◌++◌, length, length-append, sym, ◌∙◌, subst, arith, Option, Some, None}
+use Rattle.std.specs.Prelude.{nat_le, IfSome}
 use Rattle.std.proofs.lemmas.Bool.{cond_both}
 use Rattle.aeg_base.specs.declared.limits.TheConstants.{LAST_SEQ}
 use Rattle.aeg_base.specs.declared.names.Tier.{Tier}
-use Rattle.aeg_base.specs.declared.names.Tier.TheVariants.{Mid as InMid, Inv, Pay}
 use Rattle.svc_api.specs.declared.action.Ending.{Ending}
 use Rattle.svc_api.specs.declared.action.Ending.TheVariants.{Reply, Call}
 use Rattle.log_model.proofs.Basics.{Every, every-append}
@@ -13,14 +12,12 @@ use Rattle.log_values.specs.Fields.{IsText, IsCallNumber}
 use Rattle.log_values.specs.Values.{FitsEntry}
 use Rattle.round_model.specs.Lists.{OfTiers, of_tier, concat, head_of, tail_of, put_at}
 use Rattle.round_model.specs.Service.{Service, Programs, Finish}
-use Rattle.round_model.specs.Settling.{fit}
-use Rattle.round_model.specs.Tables.{Parked, Tables, Want, wants, fresh_entries, bump, parks, next_after, last_after, kept_by, kept_after, settled, not_done, drop_done}
-use Rattle.pipeline.specs.States.{RoundsState, moved_on}
+use Rattle.round_model.specs.Tables.{Parked, Tables, Want, wants, fresh_entries, bump, parks, next_after, last_after, kept_by, kept_after, settled}
+use Rattle.round_model.specs.Tables.{not_done, drop_done}
 use Rattle.pipeline.specs.Kept.{IsInRange}
 use Rattle.pipeline.proofs.Moves.{moved_in_range}
 use Rattle.pipeline.proofs.Rising.{next_low, next_high, rise_ends}
 use Rattle.pipeline.proofs.Wants.{concat-head, concat-push}
-use Rattle.batcher.specs.Waiting.{ArePending}
 use Rattle.batcher.proofs.Dropping.{left_stands}
 use Rattle.row_laws.specs.Mids.{IsParkedIn, AreTablesIn, ArePendingIn, rounds_in}
 use Rattle.row_laws.proofs.Lists.{every_right, put_at_in}
@@ -55,32 +52,43 @@ numbers_in m depth a n T k small few = record {
 
 -- WHAT IS PARKED
 
-pub parks_in : (m : Programs) (next : OfTiers ℕ) (ws : List Want) (es : List Ending) → Every (IsWantIn m) ws → AreEndsIn m ws es → AreNumbersFor (length ws) next → Every (IsParkedIn m) (parks next ws es)
+pub parks_in : (m : Programs) (next : OfTiers ℕ) (ws : List Want) (es : List Ending) → Every (IsWantIn m) ws → AreEndsIn m ws es
+    → AreNumbersFor (length ws) next → Every (IsParkedIn m) (parks next ws es)
 parks_in m next [] es k f n = tt
 parks_in m next (w ∷ ws) [] k f n = absurd f
 parks_in m next (w ∷ ws) (Reply text ∷ es) k f n = parks_in m next ws es k.1 f.1 (numbers_less (length ws) next n)
-parks_in m next (w ∷ ws) (Call t stage text ∷ es) k f n = (record {
-  tier = f.0.0.0;
-  number = call_number (suc (length ws)) next t n;
-  text = f.0.0.1.1.1;
-  body = k.0.body;
-  stage = some_there (m.table (who_wants w) w.body stage) f.0.1;
-}, parks_in m (bump next t) ws es k.1 f.1 (numbers_bump (length ws) next t stage text n))
+parks_in m next (w ∷ ws) (Call t stage text ∷ es) k f n = (
+  record {
+    tier = f.0.0.0;
+    number = call_number (suc (length ws)) next t n;
+    text = f.0.0.1.1.1;
+    body = k.0.body;
+    low = f.0.0.1.0;
+    high = f.0.0.1.1.0;
+    stage = some_there (m.table (who_wants w) w.body stage) f.0.1;
+  },
+  parks_in m (bump next t) ws es k.1 f.1 (numbers_bump (length ws) next t stage text n),
+)
 
 -- THE CLIENTS
 
-last_in : (m : Programs) (ws : List Want) (last : List ℕ) → Every (IsWantIn m) ws → Every (λ (seq : ℕ). seq ≤ LAST_SEQ) last → Every (λ (seq : ℕ). seq ≤ LAST_SEQ) (last_after ws last)
+last_in : (m : Programs) (ws : List Want) (last : List ℕ) → Every (IsWantIn m) ws → Every (λ (seq : ℕ). seq ≤ LAST_SEQ) last
+    → Every (λ (seq : ℕ). seq ≤ LAST_SEQ) (last_after ws last)
 last_in m [] last k l = l
-last_in m (w ∷ ws) last k l = last_in m ws (put_at 0 last w.client w.seq) k.1 (put_at_in (λ (seq : ℕ). seq ≤ LAST_SEQ) 0 last w.client w.seq (omega arith) l (let e = k.0.asks.seq_high in omega (arith, e)))
+last_in m (w ∷ ws) last k l = last_in m ws (put_at 0 last w.client w.seq) k.1
+    (put_at_in (λ (seq : ℕ). seq ≤ LAST_SEQ) 0 last w.client w.seq (omega arith) l (let e = k.0.asks.seq_high in omega (arith, e)))
 
 reply_in : (m : Programs) (w : Want) (e : Ending) → IsEndIn m w e → IfSome (kept_by e) IsText
 reply_in m w (Reply text) k = k.0
 reply_in m w (Call t stage text) k = tt
 
-kept_in : (m : Programs) (ws : List Want) (es : List Ending) (kept : List (Option (List ℕ))) → AreEndsIn m ws es → Every (λ reply. IfSome reply IsText) kept → Every (λ reply. IfSome reply IsText) (kept_after ws es kept)
+kept_in : (m : Programs) (ws : List Want) (es : List Ending) (kept : List (Option (List ℕ))) → AreEndsIn m ws es → Every (λ reply. IfSome reply IsText) kept
+    → Every (λ reply. IfSome reply IsText) (kept_after ws es kept)
 kept_in m [] es kept f l = l
 kept_in m (w ∷ ws) [] kept f l = l
-kept_in m (w ∷ ws) (e ∷ es) kept f l = kept_in m ws es (put_at None kept w.client (kept_by e)) f.1 (put_at_in (λ reply. IfSome reply IsText) None kept w.client (kept_by e) tt l (reply_in m w e f.0))
+kept_in m (w ∷ ws) (e ∷ es) kept f l =
+    kept_in m ws es (put_at None kept w.client (kept_by e)) f.1
+    (put_at_in (λ reply. IfSome reply IsText) None kept w.client (kept_by e) tt l (reply_in m w e f.0))
 
 -- THE TABLES
 
@@ -88,7 +96,8 @@ long_tail : {A : Type 0} (q : List (List A)) (g : List A) → 1 ≤ length q →
 long_tail [] g h = absurd (omega arith)
 long_tail (x ∷ q) g h = omega (arith, length-append q (g ∷ []))
 
-pub settled_in : {B : Type 0} (s : Service B) (depth a : ℕ) (T : Tables) (batch : List Entry) (o : Finish) → AreTablesIn s.programs depth a T → a < 2048 → Every (IsWantIn s.programs) (wants s.programs T batch) → IsFinishIn s.programs (wants s.programs T batch) o
+pub settled_in : {B : Type 0} (s : Service B) (depth a : ℕ) (T : Tables) (batch : List Entry) (o : Finish) → AreTablesIn s.programs depth a T → a < 2048
+    → Every (IsWantIn s.programs) (wants s.programs T batch) → IsFinishIn s.programs (wants s.programs T batch) o
     → AreTablesIn s.programs depth (suc a) (settled T (wants s.programs T batch) o)
 settled_in s depth a T batch o k small ask f =
     let ws : List Want = wants s.programs T batch in
@@ -96,7 +105,8 @@ settled_in s depth a T batch o k small ask f =
     let new : List Parked = parks T.next ws o.ends in
     let old : List Parked = concat (tail_of T.queue) in
     let queue : concat (tail_of T.queue ++ new ∷ []) ≡ old ++ new = concat-push (tail_of T.queue) new in
-    let moved = moved_in_range (rounds_in a T) (fresh_entries s.programs T batch) o.ends k.rounds (are_fresh s a T batch) small (ends_length s.programs ws o.ends f.ends) in
+    let moved = moved_in_range (rounds_in a T) (fresh_entries s.programs T batch) o.ends k.rounds (are_fresh s a T batch) small
+    (ends_length s.programs ws o.ends f.ends) in
     let one : a + 1 ≡ suc a = omega arith in
     record {
       store = f.store;
@@ -115,7 +125,8 @@ not_done_in : (n : ℕ) (o : Option Entry) → IfSome o FitsEntry → IfSome (no
 not_done_in n None k = k
 not_done_in n (Some e) k = cond_both (nat_le e.seq n) None (Some e) (λ o. IfSome o FitsEntry) (λ t. tt) (λ t. k)
 
-left_fit : (last : List ℕ) (pending : List (Option Entry)) → Every (λ entry. IfSome entry FitsEntry) pending → Every (λ entry. IfSome entry FitsEntry) (drop_done last pending)
+left_fit : (last : List ℕ) (pending : List (Option Entry)) → Every (λ entry. IfSome entry FitsEntry) pending
+    → Every (λ entry. IfSome entry FitsEntry) (drop_done last pending)
 left_fit last [] k = tt
 left_fit [] (o ∷ pending) k = (not_done_in 0 o k.0, left_fit [] pending k.1)
 left_fit (n ∷ last) (o ∷ pending) k = (not_done_in n o k.0, left_fit last pending k.1)

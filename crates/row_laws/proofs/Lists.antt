@@ -1,24 +1,26 @@
 -- What holds of each item of a list.
-use Rattle.std.proofs.Common.{◌≡◌, ℕ, ◌+◌, ◌*◌, ◌<◌, ◌≤◌, Bool, true, false, cond, List, [], ◌∷◌, ◌++◌, length, map, replicate, refl, sym, ap, ◌∙◌, subst, arith, Option, Some, None, zero, suc}
-use Rattle.std.specs.Prelude.{slice_get, slice_set, slice_index, slice_index_or, take, drop, nat_lt, ◌==◌, IfSome}
+use Rattle.std.proofs.Common.{◌≡◌, ℕ, ◌<◌, ◌≤◌, Bool, cond, List, [], ◌∷◌, ◌++◌, length, map, replicate, refl, arith, Option, Some, None, zero, suc}
+use Rattle.std.specs.Prelude.{slice_get, slice_set, slice_index_or, take, drop, nat_lt, ◌==◌, IfSome}
 use Rattle.std.proofs.lemmas.Bool.{cond_both}
 use Rattle.std.proofs.lemmas.List.{length-append}
 use Rattle.std.specs.List.{All}
 use Rattle.std.proofs.lemmas.List.Elements.{All-head, All-tail}
 use Rattle.log_model.proofs.Basics.{Every, every-append}
-use Rattle.round_model.specs.Lists.{each, concat, head_of, tail_of, at, put_at}
+use Rattle.round_model.specs.Lists.{each, at, put_at}
 use Rattle.round_model.specs.Numbered.{find, put, without, from}
 
 -- ONE FOR EACH
 
 pub each_in : {A : Type 0} (P : A → Type 0) (n : ℕ) (skip : ℕ → Bool) (f : ℕ → A) → ((y : ℕ) → y < n → P (f y)) → Every P (each n skip f)
 each_in P zero skip f k = tt
-each_in P (suc n) skip f k = every-append P (each n skip f) _ (each_in P n skip f (λ y l. k y (omega (arith, l)))) (cond_both (skip n) [] (f n ∷ []) (Every P) (λ e. tt) (λ e. (k n (omega arith), tt)))
+each_in P (suc n) skip f k = every-append P (each n skip f) _ (each_in P n skip f (λ y l. k y (omega (arith, l))))
+    (cond_both (skip n) [] (f n ∷ []) (Every P) (λ e. tt) (λ e. (k n (omega arith), tt)))
 
 pub each_few : {A : Type 0} (n : ℕ) (skip : ℕ → Bool) (f : ℕ → A) → length (each n skip f) ≤ n
 each_few zero skip f = omega arith
 each_few {A} (suc n) skip f =
-    let last : length (cond {A = List A} (skip n) [] (f n ∷ [])) ≤ 1 = cond_both {A = List A} (skip n) [] (f n ∷ []) (λ z. length z ≤ 1) (λ e. omega arith) (λ e. omega arith) in
+    let last : length (cond {A = List A} (skip n) [] (f n ∷ [])) ≤ 1 = cond_both {A = List A} (skip n) [] (f n ∷ []) (λ z. length z ≤ 1) (λ e. omega arith)
+    (λ e. omega arith) in
     omega (arith, length-append (each n skip f) (cond {A = List A} (skip n) [] (f n ∷ [])), each_few n skip f)
 
 -- PARTS OF LISTS
@@ -50,7 +52,8 @@ replicate_in P (suc n) a p = (p, replicate_in P n a p)
 
 pub put_in : {A : Type 0} (P : ℕ × A → Type 0) (es : List (ℕ × A)) (n : ℕ) (a : A) → Every P es → P (n, a) → Every P (put es n a)
 put_in P [] n a k p = (p, tt)
-put_in P (e ∷ es) n a k p = cond_both (nat_lt e.0 n) _ _ (Every P) (λ t. (k.0, put_in P es n a k.1 p)) (λ t. cond_both (e.0 == n) _ _ (Every P) (λ f. (p, k.1)) (λ f. (p, k)))
+put_in P (e ∷ es) n a k p = cond_both (nat_lt e.0 n) _ _ (Every P) (λ t. (k.0, put_in P es n a k.1 p))
+    (λ t. cond_both (e.0 == n) _ _ (Every P) (λ f. (p, k.1)) (λ f. (p, k)))
 
 pub without_in : {A : Type 0} (P : ℕ × A → Type 0) (es : List (ℕ × A)) (n : ℕ) → Every P es → Every P (without es n)
 without_in P [] n k = tt
@@ -61,7 +64,8 @@ from_in P [] n k = tt
 from_in P (e ∷ es) n k = cond_both (nat_lt e.0 n) (from es n) (e ∷ es) (Every P) (λ t. from_in P es n k.1) (λ t. k)
 
 -- what is found is in the table
-pub find_in : {A : Type 0} (P : ℕ × A → Type 0) (Q : A → Type 0) (es : List (ℕ × A)) (n : ℕ) → ((m : ℕ) (a : A) → P (m, a) → Q a) → Every P es → IfSome (find es n) Q
+pub find_in : {A : Type 0} (P : ℕ × A → Type 0) (Q : A → Type 0) (es : List (ℕ × A)) (n : ℕ) → ((m : ℕ) (a : A) → P (m, a) → Q a) → Every P es
+    → IfSome (find es n) Q
 find_in P Q [] n f k = tt
 find_in P Q (e ∷ es) n f k = cond_both (e.0 == n) (Some e.1) (find es n) (λ o. IfSome o Q) (λ t. f e.0 e.1 k.0) (λ t. find_in P Q es n f k.1)
 

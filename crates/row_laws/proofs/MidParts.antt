@@ -1,6 +1,6 @@
 -- What a middle node keeps besides its log and its tables stays in range.
-use Rattle.std.proofs.Common.{◌≡◌, ℕ, zero, suc, ◌+◌, ◌*◌, ◌<◌, ◌≤◌, Bool, true, false, cond, List, [], ◌∷◌, ◌++◌, length, replicate, refl, sym, ap, ◌∙◌, subst, arith, Option, Some, None}
-use Rattle.std.specs.Prelude.{slice_get, slice_set, IfSome}
+use Rattle.std.proofs.Common.{◌≡◌, ℕ, ◌<◌, true, List, [], ◌∷◌, length, refl, sym, ◌∙◌, subst, Option, Some, None}
+use Rattle.std.specs.Prelude.{IfSome}
 use Rattle.std.proofs.lemmas.List.{length-set}
 use Rattle.aeg_base.specs.declared.names.Tier.{Tier}
 use Rattle.aeg_base.specs.declared.names.Tier.TheVariants.{Mid as InMid, Inv, Pay}
@@ -19,9 +19,9 @@ use Rattle.fact_journal.proofs.Restoring.{newest_facts}
 use Rattle.round_model.specs.declared.answer.Answer.{Answer}
 use Rattle.round_model.specs.declared.claim.Claim.{Claim}
 use Rattle.round_model.specs.Lists.{put_at}
-use Rattle.round_model.specs.Numbered.{find, put}
-use Rattle.round_model.specs.Held.{HeldState, answers_of, none_held, untold, told_by, holds, takes_as, takes, heard, hears}
-use Rattle.round_model.specs.Verdicts.{Vote, claim, Claims, no_claims, with_claim, claims_or_none, claims_in}
+use Rattle.round_model.specs.Numbered.{find}
+use Rattle.round_model.specs.Held.{HeldState, answers_of, none_held, untold, holds, takes_as, takes, heard, hears}
+use Rattle.round_model.specs.Verdicts.{Vote, claim, Claims, with_claim, claims_or_none, claims_in}
 use Rattle.batcher.specs.Waiting.{ArePending}
 use Rattle.batcher.proofs.Places.{write}
 use Rattle.batcher.proofs.Waits.{put_stands}
@@ -34,14 +34,12 @@ use Rattle.row_laws.proofs.Lists.{set_in, replicate_in, put_in, find_in, put_at_
 
 pub pending_in : (pending : List (Option Entry)) (e : Entry) → ArePendingIn pending → FitsEntry e → ArePendingIn (put_at None pending e.client (Some e))
 pending_in pending e k f = record {
-  stand = subst ArePending (write None pending pending e.client e.client (Some e) refl k.stand.places refl f.client.1) (put_stands pending e.client e k.stand f.client refl);
+  stand = subst ArePending (write None pending pending e.client e.client (Some e) refl k.stand.places refl f.client.1)
+      (put_stands pending e.client e k.stand f.client refl);
   fit = put_at_in (λ entry. IfSome entry FitsEntry) None pending e.client (Some e) tt k.fit f;
 }
 
 -- CLAIMS
-
-
-
 
 pub claims_at : (tally : List (ℕ × Claims)) (r : ℕ) → Every IsTallyIn tally → AreClaimsIn (claims_in tally r)
 claims_at tally r k = go (find tally r) (find_in IsTallyIn AreClaimsIn tally r (λ m c e. e.1) k)
@@ -53,10 +51,13 @@ claims_at tally r k = go (find tally r) (find_in IsTallyIn AreClaimsIn tally r (
 pub votes_in : (tally : List (ℕ × Claims)) (v : Vote) → Every IsTallyIn tally → v.round < 2048 → IsCommit v.token v.order → Every IsTallyIn (with_vote tally v)
 votes_in tally v k r c =
     let was = claims_at tally v.round k in
-    put_in IsTallyIn tally v.round (with_claim (claims_in tally v.round) v.from (claim v)) k (r, record {
-      places = length-set (claims_in tally v.round) v.from (Some (claim v)) ∙ was.places;
-      fit = set_in (λ (claim : Option Claim). IfSome claim (λ c. IsCommit c.token c.order)) (claims_in tally v.round) v.from (Some (claim v)) was.fit c;
-    })
+    put_in IsTallyIn tally v.round (with_claim (claims_in tally v.round) v.from (claim v)) k (
+      r,
+      record {
+        places = length-set (claims_in tally v.round) v.from (Some (claim v)) ∙ was.places;
+        fit = set_in (λ (claim : Option Claim). IfSome claim (λ c. IsCommit c.token c.order)) (claims_in tally v.round) v.from (Some (claim v)) was.fit c;
+      },
+    )
 
 -- ANSWERS
 
@@ -87,7 +88,8 @@ IsKept a = (a.code < 256) × (length a.noted ≡ 5)
 
 pub hears_in : (u x : ℕ) (h : HeldState) (y : ℕ) (t : Tier) (n code : ℕ) → IsHeldIn u x h → IsCallNumber n → code < 256 → IsHeldIn u x (hears h y t n code)
 hears_in u x h y t n code k c small =
-    holds_in u x h t n (heard (find (answers_of h t) n) code y) k (c, go (find (answers_of h t) n) (find_in IsAnswerIn IsKept (answers_of h t) n (λ m a e. e.1) (k.answers t)))
+    holds_in u x h t n (heard (find (answers_of h t) n) code y) k
+    (c, go (find (answers_of h t) n) (find_in IsAnswerIn IsKept (answers_of h t) n (λ m a e. e.1) (k.answers t)))
   where
     go : (o : Option Answer) → IfSome o IsKept → IsKept (heard o code y)
     go None f = (small, length-set (untold code).noted y true)
@@ -116,4 +118,5 @@ held_by u x (Held t n code ∷ fs) k = takes_in u x (held_in u x fs) t n code (h
 
 pub held_restored : (u x : ℕ) (rs : List (List Fact)) → Fit InMid rs → IsHeldIn u x (held_in u x (newest rs))
 held_restored u x rs fit =
-    held_by u x (newest rs) (subst (Every FitsFact) (sym (newest_facts rs)) (onto_in FitsFact (all_facts rs) [] (written InMid 0 (all_facts rs) (facts_fit InMid 0 rs fit)) tt))
+    held_by u x (newest rs) (subst (Every FitsFact) (sym (newest_facts rs))
+    (onto_in FitsFact (all_facts rs) [] (written InMid 0 (all_facts rs) (facts_fit InMid 0 rs fit)) tt))

@@ -1,5 +1,5 @@
 -- An order of n numbers has n of them.
-use Rattle.std.proofs.Common.{◌≡◌, ℕ, zero, suc, ◌+◌, ◌<◌, ◌≤◌, Bool, true, false, cond, List, [], ◌∷◌, length, length-append, refl, sym, ap, ◌∙◌, arith}
+use Rattle.std.proofs.Common.{◌≡◌, ℕ, zero, suc, ◌+◌, ◌<◌, ◌≤◌, Bool, true, false, cond, List, [], ◌∷◌, length, length-append, refl, sym, arith}
 use Rattle.std.specs.Prelude.{◌==◌, ◌||◌, nat_lt}
 use Rattle.std.proofs.lemmas.Bool.{and_parts, eq-eqb, eqb-true, ltb-true}
 use Rattle.svc_api.specs.Orders.{is_order, below, all_below, each_once, times}
@@ -37,7 +37,7 @@ pub order_long : (n : ℕ) (order : List ℕ) → is_order n order ≡ true → 
 order_long n order e =
     let p = and_parts (all_below n order) (each_once n order) e in
     let q = and_parts (all_below n (below n)) (each_once n (below n)) (job_order n) in
-    let long : length (below n) ≤ length order = no_longer same numbers_tell (below n) order (once_in n (below n) q.0 (λ i l. let o = once-at n i (below n) l q.1 in omega (arith, o)))
-        (λ z h. counted_there z order (once-at n z order (member_low n (below n) z q.0 h) p.1)) in
+    let long : length (below n) ≤ length order = no_longer same numbers_tell (below n) order
+    (once_in n (below n) q.0 (λ i l. let o = once-at n i (below n) l q.1 in omega (arith, o)))
+    (λ z h. counted_there z order (once-at n z order (member_low n (below n) z q.0 h) p.1)) in
     omega (arith, order_short n order e, long, length_below n)
-

@@ -1,10 +1,8 @@
 -- What the segments of the next round want, where the tables and the batch are in range.
-use Rattle.std.proofs.Common.{◌≡◌, ℕ, zero, suc, ◌+◌, ◌*◌, ◌<◌, ◌≤◌, Bool, true, false, cond, List, [], ◌∷◌, ◌++◌, length, map, refl, sym, ap, ◌∙◌, subst, arith, Option, Some, None}
+use Rattle.std.proofs.Common.{◌≡◌, ℕ, zero, suc, ◌≤◌, true, List, [], ◌∷◌, ◌++◌, length, map, refl, sym, ap, subst, arith, Option, Some, None}
 use Rattle.std.specs.Prelude.{slice_get, IsSome}
-use Rattle.std.specs.List.{All}
 use Rattle.std.proofs.lemmas.Option.{same_Some}
 use Rattle.aeg_base.specs.declared.names.ReqId.{ReqId}
-use Rattle.aeg_base.specs.declared.names.Tier.{Tier}
 use Rattle.svc_api.specs.Requests.{IsRequest}
 use Rattle.exec_model.specs.declared.job.Seg.{Seg}
 use Rattle.log_model.proofs.Basics.{Every, every-append, every-get}
@@ -12,10 +10,8 @@ use Rattle.log_values.specs.declared.entry.Entry.{Entry}
 use Rattle.log_values.specs.Fields.{IsText}
 use Rattle.log_values.specs.Values.{FitsEntry}
 use Rattle.round_model.specs.Lists.{is_some, and_then, concat, head_of, tail_of}
-use Rattle.round_model.specs.Service.{Programs, Service, is_request}
-use Rattle.round_model.specs.Tables.{Parked, Tables, Number, Want, Codes, who_of, resumed, started, wants, fresh_of, fresh_entries, as_seg, answered, job_of}
-use Rattle.pipeline.specs.States.{RoundsState}
-use Rattle.pipeline.specs.Kept.{IsInRange}
+use Rattle.round_model.specs.Service.{Programs, Service}
+use Rattle.round_model.specs.Tables.{Parked, Tables, Number, Want, Codes, who_of, resumed, started, wants, fresh_entries, as_seg, answered, job_of}
 use Rattle.pipeline.specs.Jobs.{AreFresh}
 use Rattle.pipeline.proofs.Entered.{fresh_ones}
 use Rattle.pipeline.proofs.Wants.{IsAsking, concat-head, few_wants, wants_ask}
@@ -67,7 +63,8 @@ started_in m (e ∷ es) a k = (record { asks = a.0; body = k.0.body; stage = k.0
 pub are_fresh : {B : Type 0} (s : Service B) (a : ℕ) (T : Tables) (es : List Entry) → AreFresh (rounds_in a T) (fresh_entries s.programs T es)
 are_fresh s a T es = fresh_ones s.programs T (rounds_in a T) es refl
 
-pub wants_in : {B : Type 0} (s : Service B) (depth a : ℕ) (T : Tables) (es : List Entry) → AreTablesIn s.programs depth a T → Every FitsEntry es → Every (IsWantIn s.programs) (wants s.programs T es)
+pub wants_in : {B : Type 0} (s : Service B) (depth a : ℕ) (T : Tables) (es : List Entry) → AreTablesIn s.programs depth a T → Every FitsEntry es
+    → Every (IsWantIn s.programs) (wants s.programs T es)
 wants_in s depth a T es k f =
     let fresh : List Entry = fresh_entries s.programs T es in
     let head : List Parked = head_of T.queue in
@@ -79,7 +76,8 @@ wants_in s depth a T es k f =
     (resumed_in s.programs head (every_left IsAsking (map resumed head) (map started fresh) asks) parked)
     (started_in s.programs fresh (every_right IsAsking (map resumed head) (map started fresh) asks) (starts_in s T es f))
 
-pub wants_few : {B : Type 0} (s : Service B) (depth a : ℕ) (T : Tables) (es : List Entry) → AreTablesIn s.programs depth a T → length (wants s.programs T es) ≤ 16
+pub wants_few : {B : Type 0} (s : Service B) (depth a : ℕ) (T : Tables) (es : List Entry) → AreTablesIn s.programs depth a T
+    → length (wants s.programs T es) ≤ 16
 wants_few s depth a T es k = few_wants (rounds_in a T) (fresh_entries s.programs T es) k.rounds (are_fresh s a T es)
 
 -- THE JOB

@@ -1,12 +1,11 @@
 -- The states in range of a middle node.
-use Rattle.std.specs.Prelude.{◌≡◌, ℕ, ◌+◌, ◌*◌, ◌<◌, ◌≤◌, List, length, Option, Some, IfSome, IsSome}
+use Rattle.std.specs.Prelude.{◌≡◌, ℕ, ◌*◌, ◌<◌, ◌≤◌, List, length, Option, IfSome, IsSome}
 use Rattle.std.specs.List.{AllByRecursion}
 use Rattle.aeg_base.specs.declared.limits.TheConstants.{LAST_SEQ, ROUNDS}
 use Rattle.aeg_base.specs.declared.names.ReqId.{ReqId}
 use Rattle.aeg_base.specs.declared.names.Tier.{Tier}
 use Rattle.aeg_base.specs.declared.names.Tier.TheVariants as tiers
 use Rattle.svc_api.specs.Plan.{IsBackend}
-use Rattle.svc_api.specs.Requests.{IsRequest}
 use Rattle.log_model.specs.Log.{open_at}
 use Rattle.log_model.specs.Ranges.{IsLogIn}
 use Rattle.log_values.specs.declared.entry.Entry.{Entry}
@@ -15,10 +14,9 @@ use Rattle.log_values.specs.Outcomes.{IsCommit}
 use Rattle.log_values.specs.Values.{FitsEntry}
 use Rattle.frames.specs.LogMessages.{IsCarried}
 use Rattle.round_model.specs.declared.answer.Answer.{Answer}
-use Rattle.round_model.specs.declared.claim.Claim.{Claim}
 use Rattle.round_model.specs.Lists.{concat}
 use Rattle.round_model.specs.Service.{Programs}
-use Rattle.round_model.specs.Tables.{Parked, Tables, pending_of}
+use Rattle.round_model.specs.Tables.{Parked, Tables}
 use Rattle.round_model.specs.Verdicts.{Claims, Vote}
 use Rattle.round_model.specs.Held.{HeldState, answers_of}
 use Rattle.batcher.specs.Waiting.{ArePending}
@@ -38,6 +36,8 @@ pub record IsParkedIn (m : Programs) (p : Parked) : Type 0 where
   pub number : IsCallNumber p.num
   pub text : IsText p.text
   pub body : IsText p.body
+  pub low : 1 ≤ p.stage
+  pub high : p.stage ≤ 3
   pub stage : IsSome (m.table (asker p) p.body p.stage)
 
 -- what is kept of the rounds, once so many are applied

@@ -23,7 +23,7 @@ pub fn backend_rows<B>()
         → IsStateIn s u depth t x σ → IsMoveIn s u depth t x σ ((kind u s depth t x).leads σ) }
     ensures offering { (s : Service B) (u depth x : ℕ) (t : Tier) (σ : State B t) → u ≤ 2 → x < 2 * u + 1 → IsBackend t → IsBackendIn (s.backend t)
         → IsStateIn s u depth t x σ → IsMoveIn s u depth t x σ ((kind u s depth t x).offers σ) }
-    ensures retries { (s : Service B) (u depth x : ℕ) (t : Tier) (σ : State B t) → u ≤ 2 → x < 2 * u + 1 → IsBackend t → IsBackendIn (s.backend t)
+    ensures retries { (s : Service B) (u depth x : ℕ) (t : Tier) (σ : State B t) → u ≤ 2 → x < 2 * u + 1 → IsBackend t
         → IsStateIn s u depth t x σ → IsMoveIn s u depth t x σ ((kind u s depth t x).retry σ) }
     ensures restored { (s : Service B) (u depth x : ℕ) (t : Tier) (rs : List (List Fact)) → IsBackend t → IsBackendIn (s.backend t) → Fit t rs
         → IsStateIn s u depth t x ((kind u s depth t x).recovered (newest rs)) }

@@ -18,9 +18,9 @@ returns-clause-offering g c s u depth x Inv σ small l b codes k = offers_in s u
 returns-clause-offering g c s u depth x Pay σ small l b codes k = offers_in s u depth Pay x σ small l b codes k
 
 pub returns-clause-retries : goal.returns-clause-retries
-returns-clause-retries g c s u depth x Mid σ small l b codes k = absurd b
-returns-clause-retries g c s u depth x Inv σ small l b codes k = retry_in s u depth Inv x σ small l b k
-returns-clause-retries g c s u depth x Pay σ small l b codes k = retry_in s u depth Pay x σ small l b k
+returns-clause-retries g c s u depth x Mid σ small l b k = absurd b
+returns-clause-retries g c s u depth x Inv σ small l b k = retry_in s u depth Inv x σ small l b k
+returns-clause-retries g c s u depth x Pay σ small l b k = retry_in s u depth Pay x σ small l b k
 
 pub returns-clause-restored : goal.returns-clause-restored
 returns-clause-restored g c s u depth x Mid rs b codes fit = absurd b
