@@ -1,0 +1,16 @@
+pub mod Lists
+pub mod FewMessages
+pub mod LogTurns
+pub mod Moving
+pub mod Restored
+pub mod BackMoves
+pub mod Wanted
+pub mod Finishes
+pub mod Applied
+pub mod MidSends
+pub mod MidParts
+pub mod Orders
+pub mod MidRounds
+pub mod MidMoves
+pub mod MidAgain
+pub mod Served

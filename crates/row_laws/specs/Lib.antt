@@ -1,0 +1,5 @@
+pub mod Services
+pub mod Backs
+pub mod Mids
+pub mod Moves
+pub mod States
