@@ -38,7 +38,7 @@ use Rattle.round_model.specs.Service.{Backend, Service}
 use Rattle.round_model.specs.Held.{held_code}
 use Rattle.round_model.specs.Shims.{ShimState, new_shim, copy_of, copies_or_none, copies_at, with_copy, notes, agreed, ready, is_backed, serves}
 use Rattle.round_model.specs.Shims.{settles, floor_at, rises_to, told_floor, is_more, due_among, due, due_floor, highest}
-use Rattle.tier_model.specs.Moves.{node, is_node_of, Packet, Move, idles, drops, log_packets, log_packet, asks, log_facts}
+use Rattle.tier_model.specs.Moves.{as_fact, node, is_node_of, Packet, Move, idles, drops, log_packets, log_packet, asks, log_facts}
 use Rattle.tier_model.specs.Back.{Back, with_log, answer_to, passes, after_value, new_value, value_state, value_tells, in_log}
 use Rattle.tier_model.specs.BackRows.{copied, call_as, on_call, on_settle, on_frame, leads, own_by, own_value, offers_as, offers, answers_again}
 use Rattle.tier_model.specs.BackRows.{retry, after_values, bare, recovered}
@@ -46,7 +46,7 @@ use Rattle.row_laws.specs.Services.{IsBackendIn}
 use Rattle.row_laws.specs.Backs.{IsCode, AreTexts, AreCopies, IsFloorIn, IsShimIn, IsBackIn}
 use Rattle.row_laws.specs.Moves.{Takes, IsTaken, IsSealable, IsMoveTo}
 use Rattle.row_laws.proofs.Lists.{each_few, drop_in, set_in, index_in, replicate_in, put_in, without_in, from_in, find_in}
-use Rattle.row_laws.proofs.FewMessages.{IsFew, msg_few, lead_few, offer_few}
+use Rattle.row_laws.proofs.FewMessages.{few_facts, IsFew, msg_few, lead_few, offer_few}
 use Rattle.row_laws.proofs.LogTurns.{sender_is, taken_if, taken_either, message_in, AreGood, none_good, both_good, each_good, log_good, asks_good}
 use Rattle.row_laws.proofs.LogTurns.{asks_few, turn_facts, written_opens, may_raise}
 use Rattle.row_laws.proofs.Moving.{telling, quiet, either}
@@ -60,11 +60,25 @@ IsBackMove {B} s u depth t x σ move = IsMoveTo (IsBackIn {B = B} u t) (λ (z : 
 
 serves_in : (u : ℕ) (s : ShimState) (n code : ℕ) → IsShimIn u s → IsCode (n, code) → IsShimIn u (serves s n code)
 serves_in u s n code k c =
-    record { faults = k.faults; kept = put_in IsCode s.kept n code k.kept c; floor = k.floor; copies = without_in AreCopies s.copies n k.copies; places = k.places; floors = k.floors }
+    record {
+      faults = k.faults;
+      kept = put_in IsCode s.kept n code k.kept c;
+      floor = k.floor;
+      copies = without_in AreCopies s.copies n k.copies;
+      places = k.places;
+      floors = k.floors;
+    }
 
 settles_in : (u : ℕ) (s : ShimState) (g : ℕ) → IsShimIn u s → IsFloorIn g → IsShimIn u (settles s g)
 settles_in u s g k f = cond_both (nat_lt s.floor g) _ _ (IsShimIn u)
-    (λ e. record { faults = k.faults; kept = from_in IsCode s.kept g k.kept; floor = f; copies = from_in AreCopies s.copies g k.copies; places = k.places; floors = k.floors }) (λ e. k)
+    (λ e. record {
+      faults = k.faults;
+      kept = from_in IsCode s.kept g k.kept;
+      floor = f;
+      copies = from_in AreCopies s.copies g k.copies;
+      places = k.places;
+      floors = k.floors;
+    }) (λ e. k)
 
 -- the copies of a call
 AreRow : List (Option (List ℕ)) → Type 0
@@ -217,6 +231,7 @@ turn_in {B} s u depth t x σ turn b small l codes k few i =
         length-append (log_packets t x turn.sends)
             (value_tells u (s.backend t) t x now news),
       );
+      short = omega (arith, few_facts (open_at σ.log) (open_at turn.state) turn.facts few.written, length-map turn.facts as_fact);
       facts = turn_facts u t σ.log turn few i;
       opens = ap open_at (value_log (s.backend t) now news) ∙ written_opens (open_at σ.log) (open_at turn.state) turn.facts few.written;
     }

@@ -37,6 +37,13 @@ IsWritten first next (Voted p b v ∷ []) = next ≡ first
 IsWritten first next (Learned p v ∷ []) = (p ≡ first) × (next ≡ first + 1)
 IsWritten first next (f ∷ g ∷ fs) = ⊥
 
+pub few_facts : {V : Type 0} (first next : ℕ) (fs : List (Fact V)) → IsWritten first next fs → length fs ≤ 1
+few_facts first next [] w = omega arith
+few_facts first next (f ∷ []) w = omega arith
+few_facts first next (Promised b ∷ g ∷ fs) w = absurd w
+few_facts first next (Voted p b v ∷ g ∷ fs) w = absurd w
+few_facts first next (Learned p v ∷ g ∷ fs) w = absurd w
+
 pub record IsFew {V : Type 0} (u : ℕ) (log : LogState V) (turn : Turn V) : Type 0 where
   pub most : length turn.sends ≤ 4 * u + 2
   pub written : IsWritten (open_at log) (open_at turn.state) turn.facts

@@ -41,7 +41,7 @@ use Rattle.round_model.specs.Tables.{Tables, Want, wants, last_of, kept_of, pend
 use Rattle.round_model.specs.Verdicts.{Claims, Vote, claim_of, claims_in, how_many, is_backed, lowest_backed, verdict_by, verdict}
 use Rattle.round_model.specs.Held.{HeldState, held_code, is_noted, takes, hears}
 use Rattle.tier_laws.proofs.Ledger.{half-is}
-use Rattle.tier_model.specs.Moves.{tier_of, is_client, is_node_of, Packet, Move, idles, drops, says, becomes, log_packets, log_packet}
+use Rattle.tier_model.specs.Moves.{as_fact, tier_of, is_client, is_node_of, Packet, Move, idles, drops, says, becomes, log_packets, log_packet}
 use Rattle.tier_model.specs.Mid.{Mid, Ready, with_log, ready, apply, apply_state, apply_sends, tells, is_due, due_round, in_log, applies, reply_to}
 use Rattle.tier_model.specs.MidRows.{has_seq, pends, tells_again, on_request, is_in, tallied, on_token, holds, takes_answer, on_answer, on_have}
 use Rattle.tier_model.specs.MidRows.{is_backend_node, on_frame, leads, own_value, own_cause, offers_as, offers, Running, token_to, to_run}
@@ -51,7 +51,7 @@ use Rattle.row_laws.specs.Mids.{ArePendingIn, AreClaimsIn, IsTallyIn, IsHeldIn, 
 use Rattle.row_laws.specs.Moves.{IsTaken, IsMoveTo}
 use Rattle.row_laws.proofs.Lists.{index_in, at_in, take_in, take_few, each_few}
 use Rattle.log_model.proofs.Basics.{every-append}
-use Rattle.row_laws.proofs.FewMessages.{IsFew, IsWritten, msg_few, lead_few, offer_few}
+use Rattle.row_laws.proofs.FewMessages.{few_facts, IsFew, IsWritten, msg_few, lead_few, offer_few}
 use Rattle.row_laws.proofs.LogTurns.{sender_is, message_in, AreGood, none_good, both_good, log_good, turn_facts, written_opens, may_raise}
 use Rattle.row_laws.proofs.Moving.{telling, quiet, either}
 use Rattle.row_laws.proofs.BackMoves.{log_sent}
@@ -148,6 +148,7 @@ turn_in s u depth x σ turn small l service k few i =
         length-append (log_packets InMid x turn.sends)
             (apply_sends u x now round),
       );
+      short = omega (arith, few_facts (open_at σ.log) (open_at turn.state) turn.facts few.written, length-map turn.facts as_fact);
       facts = turn_facts u InMid σ.log turn few i;
       opens = ap open_at (state_log now round) ∙ written_opens (open_at σ.log) (open_at turn.state) turn.facts few.written;
     }
@@ -180,7 +181,15 @@ module _ {B : Type 0} (s : Service B) (u depth x : ℕ) (σ : Mid) where
       ((reply_taken s u depth x c n text, tt), (reply_sealed u x c n text small l i j f, tt)) (omega arith)
 
   pends_in : (e : Entry) → IsMidIn s.programs u depth x σ → FitsEntry e → IsMidIn s.programs u depth x (pends σ e)
-  pends_in e k f = record { log = k.log; applied = k.applied; tables = k.tables; pending = pending_in σ.pending e k.pending f; tally = k.tally; spec = k.spec; held = k.held }
+  pends_in e k f = record {
+    log = k.log;
+    applied = k.applied;
+    tables = k.tables;
+    pending = pending_in σ.pending e k.pending f;
+    tally = k.tally;
+    spec = k.spec;
+    held = k.held;
+  }
 
   request_in : (c n : ℕ) (body : List ℕ) → u ≤ 2 → x < 2 * u + 1 → IsMidIn s.programs u depth x σ → IsClient c → IsSeq n → IsText body
       → IsMidMove s u depth x σ (on_request x σ c n body)
@@ -196,7 +205,15 @@ module _ {B : Type 0} (s : Service B) (u depth x : ℕ) (σ : Mid) where
   token_in : (v : Vote) → IsMidIn s.programs u depth x σ → v.round < 2048 → IsCommit v.token v.order → IsMidMove s u depth x σ (on_token σ v)
   token_in v k r c = each_move (nat_lt (2 * v.round + 1) (open_at σ.log) || is_in σ.tally v) _ _ (λ e. idle_move why.Nothing k)
       (λ e. become_move (tallied σ v)
-      (record { log = k.log; applied = k.applied; tables = k.tables; pending = k.pending; tally = votes_in σ.tally v k.tally r c; spec = k.spec; held = k.held }) refl)
+      (record {
+        log = k.log;
+        applied = k.applied;
+        tables = k.tables;
+        pending = k.pending;
+        tally = votes_in σ.tally v k.tally r c;
+        spec = k.spec;
+        held = k.held;
+      }) refl)
 
   -- ANSWERS
 
@@ -212,6 +229,7 @@ module _ {B : Type 0} (s : Service B) (u depth x : ℕ) (σ : Mid) where
         taken = good.0;
         sealable = good.1;
         few = let e = haves_few u x t n code in omega (arith, e, small);
+        short = omega arith;
         facts = (((b, (c, i)), refl), tt);
         opens = refl;
       }

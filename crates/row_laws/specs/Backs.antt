@@ -20,7 +20,7 @@ AreTexts copies = AllByRecursion (λ copy. IfSome copy IsText) copies
 abbrev pub AreCopies : ℕ × List (Option (List ℕ)) → Type 0
 AreCopies e = IsCallNumber e.0 × ((length e.1 ≡ 5) × AreTexts e.1)
 
--- where the calls that are served end, or a floor that a middle node told: at least 1
+-- a floor, settled or told: at least 1
 abbrev pub IsFloorIn : ℕ → Type 0
 IsFloorIn g = (1 ≤ g) × (g < 2 ^ 32)
 

@@ -50,11 +50,13 @@ most_sent = 255
 -- MOVES
 
 -- What the move of a tier's node leaves is in range. Each packet is one that its end takes, and has a frame, and they are
--- few. The facts fit the node's journal, and open the log where the move leaves it open.
-pub record IsMoveTo {S : Type 0} (IsIn : S → Type 0) (log_in : S → LogState AnyValue) (IsForEnd : Packet → Type 0) (t : Tier) (x : ℕ) (σ : S) (move : Move S) : Type 0 where
+-- few. At most one fact is written down; it fits the node's journal, and opens the log where the move leaves it open.
+pub record IsMoveTo {S : Type 0} (IsIn : S → Type 0) (log_in : S → LogState AnyValue) (GoesWell : Packet → Type 0) (t : Tier) (x : ℕ) (σ : S)
+    (move : Move S) : Type 0 where
   pub state : IsIn move.state
-  pub taken : AllByRecursion IsForEnd move.sends
+  pub taken : AllByRecursion GoesWell move.sends
   pub sealable : AllByRecursion (IsSealable (node t x)) move.sends
   pub few : length move.sends ≤ most_sent
+  pub short : length move.facts ≤ 1
   pub facts : FactsFit t (open_at (log_in σ)) move.facts
   pub opens : open_at (log_in move.state) ≡ open_after_all (open_at (log_in σ)) move.facts

@@ -17,8 +17,8 @@ ghost use Rattle.row_laws.specs.States.{IsStateIn, IsMoveIn, log_of};
 /// A node of a backend whose codes are bytes: each row makes of a state in range another one, and sends what is taken and
 /// has a frame. What it writes down fits. A restart from records that fit leaves a state in range.
 pub fn backend_rows<B>()
-    ensures frames { (s : Service B) (u depth x : ℕ) (t : Tier) (σ : State B t) (from : End) (message : Msg) → u ≤ 2 → x < 2 * u + 1 → IsBackend t → IsBackendIn (s.backend t)
-        → IsStateIn s u depth t x σ → FitsFrame from message → IsMoveIn s u depth t x σ ((kind u s depth t x).on_frame from message σ) }
+    ensures frames { (s : Service B) (u depth x : ℕ) (t : Tier) (σ : State B t) (from : End) (message : Msg) → u ≤ 2 → x < 2 * u + 1 → IsBackend t
+        → IsBackendIn (s.backend t) → IsStateIn s u depth t x σ → FitsFrame from message → IsMoveIn s u depth t x σ ((kind u s depth t x).on_frame from message σ) }
     ensures leading { (s : Service B) (u depth x : ℕ) (t : Tier) (σ : State B t) → u ≤ 2 → x < 2 * u + 1 → IsBackend t → IsBackendIn (s.backend t)
         → IsStateIn s u depth t x σ → IsMoveIn s u depth t x σ ((kind u s depth t x).leads σ) }
     ensures offering { (s : Service B) (u depth x : ℕ) (t : Tier) (σ : State B t) → u ≤ 2 → x < 2 * u + 1 → IsBackend t → IsBackendIn (s.backend t)

@@ -32,5 +32,6 @@ pub fn middle_rows<B>()
         → IsMidIn s.programs u depth x σ → IsMoveIn s u depth InMid x σ (work u s.programs x σ schedule) }
     ensures restored { (s : Service B) (u depth x : ℕ) (rs : List (List Fact)) → 1 ≤ depth → IsServiceIn s.programs → Fit InMid rs
         → IsMidIn s.programs u depth x ((kind u s depth InMid x).recovered (newest rs)) }
-    ensures opened { (s : Service B) (u depth x : ℕ) (rs : List (List Fact)) → open_at ((kind u s depth InMid x).recovered (newest rs)).log ≡ open_after_all 0 (all_facts rs) }
+    ensures opened { (s : Service B) (u depth x : ℕ) (rs : List (List Fact))
+        → open_at ((kind u s depth InMid x).recovered (newest rs)).log ≡ open_after_all 0 (all_facts rs) }
 {}
