@@ -1,5 +1,4 @@
 pub mod Told
-pub mod Nodes
 pub mod Moved
 pub mod Restarted
 pub mod Again

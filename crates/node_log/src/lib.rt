@@ -13,7 +13,7 @@ mod sending;
 mod working;
 
 pub use answers::{answer_of, needs_own, offer_cause};
-pub use decided::Decided;
+pub use decided::{Decided, decide_turn};
 pub use laws::{log_turns, moves, restarts};
 pub use facts::facts_of;
 pub use log_node::LogNode;

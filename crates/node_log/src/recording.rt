@@ -25,7 +25,7 @@ fn append<D: Disk>(journal: &mut FactJournal, disk: &mut D, facts: Vec<Fact>) ->
 {
     let record = Record::of(facts);
     let answer = journal.append(disk, &record);
-    drop(record);
+    drop(record.into_facts());
     match answer {
         Ok(()) => Ok(()),
         Err(error) => Err(fault_of(error)),

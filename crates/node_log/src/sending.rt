@@ -34,6 +34,15 @@ pub fn send_one(
     out.push(to, bytes)
 }
 
+/// Adds a packet with a copy of the bytes.
+fn send_copy(to: End, bytes: &Bytes, out: &mut Outbox) -> Result<(), Memory>
+    ensures sent { OnOk result (out.new ≡ out.old ++ (to, bytes.now) ∷ []) }
+    ensures none { OnErr result (out.new ≡ out.old) }
+{
+    let copy = bytes.copy()?;
+    out.push(to, copy)
+}
+
 /// Adds a packet with these bytes for each of so many nodes of a tier but the one that is left out, by ascending index.
 fn send_bytes(
     nodes: u8,
@@ -47,8 +56,7 @@ fn send_bytes(
 {
     for index in 0..nodes {
         if but != Some(index) {
-            let receiver = NodeId { tier: to, index };
-            out.push(End::Node(receiver), bytes.copy()?)?;
+            send_copy(End::Node(NodeId { tier: to, index }), bytes, out)?;
         }
     }
     Ok(())
