@@ -20,7 +20,8 @@ ordinary_use : later_played 400
     "verdict 2 commit order 0" ↵ "resume 1.2 1" ↵ "serve pay 1" ↵ "exec m0 3 steps 0x2 order 0 redo 0" ↵ "exec m1 3 steps 0x2 order 0 redo 0" ↵
     "exec m2 3 steps 0x2 order 0 redo 0" ↵ "verdict 3 commit order 0" ↵ "resume 1.2 0" ↵ "reply 1.2 booked 17" ↵ "log mid 8" ↵ "log inv 1" ↵
     "log pay 1" ↵ "packets 206" ↵ [])
-unfolding digits checked number_at with_number no_locks run_job outcome_at all_pairs_at all_ends_at pairs_at pair_at ending_at backend_at stage_at text_at list_at
+unfolding digits checked number_at with_number no_locks run_job
+    outcome_at all_pairs_at all_ends_at pairs_at pair_at ending_at backend_at stage_at text_at list_at
 ordinary_use = refl
 
 -- a payment is declined, the seats are released, and another client books them
@@ -35,7 +36,8 @@ declined_payment : later_played 200
     "start 2.1 3 book 1 3" ↵ "serve inv 3" ↵ "exec m0 6 steps 0x2 order 0 redo 0" ↵ "verdict 6 commit order 0" ↵ "resume 2.1 2" ↵ "serve pay 2" ↵
     "exec m0 7 steps 0x2 order 0 redo 0" ↵ "verdict 7 commit order 0" ↵ "resume 2.1 0" ↵ "reply 2.1 booked 2" ↵ "log mid 16" ↵ "log inv 3" ↵
     "log pay 2" ↵ "packets 37" ↵ [])
-unfolding digits checked number_at with_number no_locks run_job outcome_at all_pairs_at all_ends_at pairs_at pair_at ending_at backend_at stage_at text_at list_at
+unfolding digits checked number_at with_number no_locks run_job
+    outcome_at all_pairs_at all_ends_at pairs_at pair_at ending_at backend_at stage_at text_at list_at
 declined_payment = refl
 
 -- and what was declined can't be cancelled
@@ -51,5 +53,6 @@ cancel_of_a_declined_booking : later_played 200
     "exec m0 7 steps 0x2 order 0 redo 0" ↵ "verdict 7 commit order 0" ↵ "resume 2.1 0" ↵ "reply 2.1 booked 2" ↵
     "exec m0 8 steps 0x4 order 0 redo 0" ↵ "verdict 8 commit order 0" ↵ "start 1.3 0 cancel 17" ↵ "reply 1.3 refused 9 NoBooking" ↵
     "log mid 18" ↵ "log inv 3" ↵ "log pay 2" ↵ "packets 41" ↵ [])
-unfolding digits checked number_at with_number no_locks run_job outcome_at all_pairs_at all_ends_at pairs_at pair_at ending_at backend_at stage_at text_at list_at
+unfolding digits checked number_at with_number no_locks run_job
+    outcome_at all_pairs_at all_ends_at pairs_at pair_at ending_at backend_at stage_at text_at list_at
 cancel_of_a_declined_booking = refl

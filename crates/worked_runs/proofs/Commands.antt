@@ -30,7 +30,8 @@ repeated_request : later_played 40
     ("tiers 0 depth 1" ↵ "lead m0" ↵ "submit 1 open 1 5 10 0" ↵ "submit 1 open 1 5 10 0" ↵ "retry c1" ↵ "deliver 0" ↵ "calm" ↵ [])
     ≡ Some ("busy 1" ↵ "exec m0 0 steps 0x5 order 0 redo 0" ↵ "verdict 0 commit order 0" ↵ "start 1.1 0 open 1 5 10 0" ↵ "reply 1.1 opened 1" ↵
     "log mid 2" ↵ "log inv 0" ↵ "log pay 0" ↵ "packets 5" ↵ [])
-unfolding digits checked number_at with_number no_locks run_job outcome_at all_pairs_at all_ends_at pairs_at pair_at ending_at backend_at stage_at text_at list_at
+unfolding digits checked number_at with_number no_locks run_job
+    outcome_at all_pairs_at all_ends_at pairs_at pair_at ending_at backend_at stage_at text_at list_at
 repeated_request = refl
 
 -- a request that `lose` passed over comes by its number, and is executed once
@@ -38,5 +39,6 @@ lost_packet_comes_back : later_played 40
     ("tiers 0 depth 1" ↵ "lead m0" ↵ "submit 1 open 1 5 10 0" ↵ "lose" ↵ "calm" ↵ "deliver 0" ↵ "calm" ↵ [])
     ≡ Some ("exec m0 0 steps 0x5 order 0 redo 0" ↵ "verdict 0 commit order 0" ↵ "start 1.1 0 open 1 5 10 0" ↵ "reply 1.1 opened 1" ↵ "log mid 2" ↵
     "log inv 0" ↵ "log pay 0" ↵ "packets 4" ↵ [])
-unfolding digits checked number_at with_number no_locks run_job outcome_at all_pairs_at all_ends_at pairs_at pair_at ending_at backend_at stage_at text_at list_at
+unfolding digits checked number_at with_number no_locks run_job
+    outcome_at all_pairs_at all_ends_at pairs_at pair_at ending_at backend_at stage_at text_at list_at
 lost_packet_comes_back = refl

@@ -19,7 +19,8 @@ one_copy_of_a_call_is_not_enough : later_played 200
     "verdict 0 commit order 0" ↵ "start 1.1 0 open 1 5 10 0" ↵ "reply 1.1 opened 1" ↵ "exec m0 1 steps 0x10 order 0 redo 0" ↵
     "exec m1 1 steps 0x10 order 0 redo 0" ↵ "verdict 1 commit order 0" ↵ "start 1.2 1 book 1 2" ↵ "idle i0 nothing" ↵ "idle i0 nothing" ↵
     "serve inv 1" ↵ "log mid 4" ↵ "log inv 1" ↵ "log pay 0" ↵ "packets 82" ↵ [])
-unfolding digits checked number_at with_number no_locks run_job outcome_at all_pairs_at all_ends_at pairs_at pair_at ending_at backend_at stage_at text_at list_at
+unfolding digits checked number_at with_number no_locks run_job
+    outcome_at all_pairs_at all_ends_at pairs_at pair_at ending_at backend_at stage_at text_at list_at
 one_copy_of_a_call_is_not_enough = refl
 
 -- the same run goes on: m0 uses the answer once it knows of a second holder
@@ -33,5 +34,6 @@ answer_waits_for_a_second_holder : later_played 200
     "exec m1 1 steps 0x10 order 0 redo 0" ↵ "verdict 1 commit order 0" ↵ "start 1.2 1 book 1 2" ↵ "idle i0 nothing" ↵ "idle i0 nothing" ↵
     "serve inv 1" ↵ "idle m0 no-answer inv 1" ↵ "idle m0 no-answer inv 1" ↵ "idle m0 no-answer inv 1" ↵ "exec m0 2 steps 0x2 order 0 redo 0" ↵
     "log mid 5" ↵ "log inv 1" ↵ "log pay 0" ↵ "packets 99" ↵ [])
-unfolding digits checked number_at with_number no_locks run_job outcome_at all_pairs_at all_ends_at pairs_at pair_at ending_at backend_at stage_at text_at list_at
+unfolding digits checked number_at with_number no_locks run_job
+    outcome_at all_pairs_at all_ends_at pairs_at pair_at ending_at backend_at stage_at text_at list_at
 answer_waits_for_a_second_holder = refl

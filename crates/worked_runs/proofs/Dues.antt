@@ -12,7 +12,9 @@ use Rattle.run_model.specs.declared.trace.TraceEvent.{TraceEvent}
 use Rattle.run_model.specs.declared.trace.TraceEvent.TheVariants.{Submit, Deliver, Short, Lead, Offer, Work, Retry, Crash, Restart, Wipe}
 use Rattle.run_model.specs.Script.{Numbered}
 use Rattle.run_model.specs.World.{Config, World}
-use Rattle.run_model.specs.Resolving.{Phase, Flows, Asks, Place, Turned, at_end, rests, next_packet, flow_by, nodes_of, all_nodes, commands, command_acts, as_noted, first_acting, commands_from, asks_by, calm_from, calm_flows, calm_by, turn, Due, due, due_by, Standing, next, Becomes, is_sure, AllSure, Finds}
+use Rattle.run_model.specs.Resolving.{Phase, Flows, Asks, Place, Turned, at_end, rests, next_packet, flow_by, nodes_of, all_nodes}
+use Rattle.run_model.specs.Resolving.{commands, command_acts, as_noted, first_acting, commands_from, asks_by, calm_from, calm_flows, calm_by, turn}
+use Rattle.run_model.specs.Resolving.{Due, due, due_by, Standing, next, Becomes, is_sure, AllSure, Finds}
 
 -- SURE EVENTS
 
@@ -77,7 +79,8 @@ dropped_sure (suc k) [] a = tt
 dropped_sure (suc k) (e ∷ es) a = dropped_sure k es a.1
 
 commands_sure : (u : ℕ) → AllSure (commands u)
-commands_sure u = both_sure (map (λ n. Offer n Fine) (all_nodes u)) (map (λ n. Work n []) (nodes_of u Mid)) (offers_sure (all_nodes u)) (works_sure (nodes_of u Mid))
+commands_sure u =
+    both_sure (map (λ n. Offer n Fine) (all_nodes u)) (map (λ n. Work n []) (nodes_of u Mid)) (offers_sure (all_nodes u)) (works_sure (nodes_of u Mid))
 
 noted_sure : {B : Type 0} (c : Config B) (w : World B) (e : TraceEvent) → is_sure e ≡ true → is_sure (as_noted c w e) ≡ true
 noted_sure c w (Work n schedule) h = refl
@@ -106,7 +109,8 @@ acting_sure c w k (e ∷ es) a = either (command_acts c w e) (acting_sure c w (k
 found_sure : {B : Type 0} (c : Config B) (w : World B) (k : ℕ) → SureFound (commands_from c w k)
 found_sure c w k = acting_sure c w k (drop k (commands c.u)) (dropped_sure k (commands c.u) (commands_sure c.u))
 
-asks_sure : (p : Place) (otherwise : Turned) (found : Option (TraceEvent × ℕ)) → SureIn otherwise.event → SureFound found → SureIn (asks_by p otherwise found).event
+asks_sure : (p : Place) (otherwise : Turned) (found : Option (TraceEvent × ℕ))
+    → SureIn otherwise.event → SureFound found → SureIn (asks_by p otherwise found).event
 asks_sure p otherwise None o f = o
 asks_sure p otherwise (Some found) o f = f
 
@@ -152,14 +156,16 @@ abbrev SureDue : Option Due → Type 0
 SureDue None = Unit {0}
 SureDue (Some d) = is_sure d.event ≡ true
 
-due_by_sure : (event : Option TraceEvent) (p : Place) (line : Numbered) (rest : List Numbered) (otherwise : Option Due) → SureIn event → SureDue otherwise → SureDue (due_by event p line rest otherwise)
+due_by_sure : (event : Option TraceEvent) (p : Place) (line : Numbered) (rest : List Numbered) (otherwise : Option Due)
+    → SureIn event → SureDue otherwise → SureDue (due_by event p line rest otherwise)
 due_by_sure None p line rest otherwise e o = o
 due_by_sure (Some event) p line rest otherwise e o = e
 
 due_sure : {B : Type 0} (c : Config B) (w : World B) (p : Place) (left : List Numbered) → SureDue (due c w p left)
 due_sure c w p [] = tt
 due_sure c w p (line ∷ rest) =
-    due_by_sure (turn c w p line.1).event (turn c w p line.1).place line rest (due c w (turn c w p line.1).place rest) (turn_sure c w p line.1) (due_sure c w (turn c w p line.1).place rest)
+    due_by_sure (turn c w p line.1).event (turn c w p line.1).place line rest (due c w (turn c w p line.1).place rest)
+    (turn_sure c w p line.1) (due_sure c w (turn c w p line.1).place rest)
 
 some_due : (due : Option Due) (d : Due) → due ≡ Some d → SureDue due → is_sure d.event ≡ true
 some_due None d e s = absurd (cc)

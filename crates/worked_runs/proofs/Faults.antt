@@ -33,5 +33,15 @@ failing_write_takes_a_node_down = refl
 
 script_comes_to_it : Resolves (config 0 1) failing_script (starts 0 ++ failing_write)
 unfolding digits checked number_at with_number
-script_comes_to_it =
-    (_, (starts 0, failing_write, refl, starts_become 0, starts_find (config 0 1) 0, (_, refl, (Fine, refl), tt, (_, refl, refl, omega arith, (_, refl, refl, tt, refl)))), refl)
+script_comes_to_it = (
+  _,
+  (
+    starts 0,
+    failing_write,
+    refl,
+    starts_become 0,
+    starts_find (config 0 1) 0,
+    (_, refl, (Fine, refl), tt, (_, refl, refl, omega arith, (_, refl, refl, tt, refl))),
+  ),
+  refl,
+)

@@ -6,8 +6,8 @@ mod Refusals
 mod Commands
 mod Nodes
 mod Cuts
-mod Copies
 mod Faults
+mod Copies
 mod Bookings
 mod Pipelines
 mod Orders

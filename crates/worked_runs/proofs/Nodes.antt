@@ -39,5 +39,6 @@ holder_outlives_a_wiped_replica : later_played 400
     "reply 1.1 opened 1" ↵ "exec m0 1 steps 0x10 order 0 redo 0" ↵ "exec m1 1 steps 0x10 order 0 redo 0" ↵ "verdict 1 commit order 0" ↵
     "start 1.2 1 book 1 2" ↵ "serve inv 1" ↵ "idle m2 no-answer inv 1" ↵ "exec m2 2 steps 0x2 order 0 redo 0" ↵ "log mid 5" ↵ "log inv 2" ↵
     "log pay 0" ↵ "packets 147" ↵ [])
-unfolding digits checked number_at with_number no_locks run_job outcome_at all_pairs_at all_ends_at pairs_at pair_at ending_at backend_at stage_at text_at list_at
+unfolding digits checked number_at with_number no_locks run_job
+    outcome_at all_pairs_at all_ends_at pairs_at pair_at ending_at backend_at stage_at text_at list_at
 holder_outlives_a_wiped_replica = refl

@@ -20,7 +20,8 @@ opposite_orders_make_serial : later_played 200
     "start 2.1 0 open 2 5 10 3" ↵ "start 3.1 0 open 3 1 10 0" ↵ "reply 1.1 opened 1" ↵ "reply 2.1 opened 2" ↵ "reply 3.1 opened 3" ↵
     "exec m0 1 steps 0x13 1x7 order 0 1 redo 0" ↵ "exec m1 1 steps 1x13 0x7 order 1 0 redo 0" ↵ "verdict 1 serial" ↵ "start 1.2 1 book 1 1" ↵
     "start 2.2 0 book 2 1" ↵ "reply 2.2 refused 5 LinkFull" ↵ "log mid 4" ↵ "log inv 0" ↵ "log pay 0" ↵ "packets 94" ↵ [])
-unfolding digits checked number_at with_number no_locks run_job outcome_at all_pairs_at all_ends_at pairs_at pair_at ending_at backend_at stage_at text_at list_at
+unfolding digits checked number_at with_number no_locks run_job
+    outcome_at all_pairs_at all_ends_at pairs_at pair_at ending_at backend_at stage_at text_at list_at
 opposite_orders_make_serial = refl
 
 -- a segment finds a key lock held, and the group is run again in job order
@@ -33,7 +34,8 @@ conflict_reruns_the_group : later_played 200
     "start 2.1 0 open 2 5 10 3" ↵ "start 3.1 0 open 3 1 10 0" ↵ "reply 1.1 opened 1" ↵ "reply 2.1 opened 2" ↵ "reply 3.1 opened 3" ↵
     "exec m0 1 steps 0x6 1x5 order 0 1 redo 1" ↵ "exec m1 1 steps 0x13 1x7 order 0 1 redo 0" ↵ "verdict 1 commit order 0 1" ↵
     "start 1.2 1 book 1 1" ↵ "start 2.2 0 book 2 1" ↵ "reply 2.2 refused 5 LinkFull" ↵ "log mid 4" ↵ "log inv 0" ↵ "log pay 0" ↵ "packets 94" ↵ [])
-unfolding digits checked number_at with_number no_locks run_job outcome_at all_pairs_at all_ends_at pairs_at pair_at ending_at backend_at stage_at text_at list_at
+unfolding digits checked number_at with_number no_locks run_job
+    outcome_at all_pairs_at all_ends_at pairs_at pair_at ending_at backend_at stage_at text_at list_at
 conflict_reruns_the_group = refl
 
 -- two of three have one outcome
@@ -47,7 +49,8 @@ majority_outvotes_one_replica : later_played 200
     "exec m0 1 steps 0x13 1x7 order 0 1 redo 0" ↵ "exec m1 1 steps 0x13 1x7 order 0 1 redo 0" ↵ "exec m2 1 steps 1x13 0x7 order 1 0 redo 0" ↵
     "verdict 1 commit order 0 1" ↵ "start 1.2 1 book 1 1" ↵ "start 2.2 0 book 2 1" ↵ "reply 2.2 refused 5 LinkFull" ↵ "log mid 4" ↵ "log inv 0" ↵
     "log pay 0" ↵ "packets 96" ↵ [])
-unfolding digits checked number_at with_number no_locks run_job outcome_at all_pairs_at all_ends_at pairs_at pair_at ending_at backend_at stage_at text_at list_at
+unfolding digits checked number_at with_number no_locks run_job
+    outcome_at all_pairs_at all_ends_at pairs_at pair_at ending_at backend_at stage_at text_at list_at
 majority_outvotes_one_replica = refl
 
 -- a new leader whose own tokens say serial is told of a Commit by a promise
@@ -62,5 +65,6 @@ reported_commit_wins : later_played 200
     "exec m0 1 steps 0x13 1x7 order 0 1 redo 0" ↵ "exec m1 1 steps 1x13 0x7 order 1 0 redo 0" ↵ "exec m2 1 steps 0x13 1x7 order 0 1 redo 0" ↵
     "verdict 1 commit order 0 1" ↵ "start 1.2 1 book 1 1" ↵ "start 2.2 0 book 2 1" ↵ "reply 2.2 refused 5 LinkFull" ↵ "log mid 4" ↵ "log inv 0" ↵
     "log pay 0" ↵ "packets 93" ↵ [])
-unfolding digits checked number_at with_number no_locks run_job outcome_at all_pairs_at all_ends_at pairs_at pair_at ending_at backend_at stage_at text_at list_at
+unfolding digits checked number_at with_number no_locks run_job
+    outcome_at all_pairs_at all_ends_at pairs_at pair_at ending_at backend_at stage_at text_at list_at
 reported_commit_wins = refl

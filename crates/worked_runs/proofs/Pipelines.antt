@@ -29,7 +29,8 @@ ninth_client_waits_for_the_next_batch : later_played 400
     "reply 4.1 booked 4" ↵ "reply 5.1 booked 5" ↵ "reply 6.1 booked 6" ↵ "reply 7.1 booked 7" ↵ "reply 8.1 booked 8" ↵ "serve pay 9" ↵
     "exec m0 4 steps 0x2 order 0 redo 0" ↵ "verdict 4 commit order 0" ↵ "resume 9.2 0" ↵ "reply 9.2 booked 25" ↵ "log mid 10" ↵ "log inv 9" ↵
     "log pay 9" ↵ "packets 84" ↵ [])
-unfolding digits checked number_at with_number no_locks run_job outcome_at all_pairs_at all_ends_at pairs_at pair_at ending_at backend_at stage_at text_at list_at
+unfolding digits checked number_at with_number no_locks run_job
+    outcome_at all_pairs_at all_ends_at pairs_at pair_at ending_at backend_at stage_at text_at list_at
 ninth_client_waits_for_the_next_batch = refl
 
 -- rounds with no segment are run until the answers are used
@@ -54,5 +55,6 @@ deep_pipeline_has_empty_rounds : later_played 400
     "reply 2.1 booked 2" ↵ "reply 3.1 booked 3" ↵ "reply 4.1 booked 4" ↵ "reply 5.1 booked 5" ↵ "reply 6.1 booked 6" ↵ "reply 7.1 booked 7" ↵
     "reply 8.1 booked 8" ↵ "exec m0 10 steps 0x2 order 0 redo 0" ↵ "verdict 10 commit order 0" ↵ "resume 9.2 0" ↵ "reply 9.2 booked 25" ↵
     "log mid 22" ↵ "log inv 9" ↵ "log pay 9" ↵ "packets 96" ↵ [])
-unfolding digits checked number_at with_number no_locks run_job outcome_at all_pairs_at all_ends_at pairs_at pair_at ending_at backend_at stage_at text_at list_at
+unfolding digits checked number_at with_number no_locks run_job
+    outcome_at all_pairs_at all_ends_at pairs_at pair_at ending_at backend_at stage_at text_at list_at
 deep_pipeline_has_empty_rounds = refl

@@ -24,7 +24,11 @@ line ↵ lines = codes line ++ 10 ∷ lines
 -- the text of what is left to do and the closing lines, where that is at most so many events
 abbrev pub plays : ℕ → Config Amounts → Standing Amounts → Option (List ℕ)
 plays zero c s = None
-plays (suc n) c s = elim (next c s) [ None ↦ Some (closing s.world) | Some d ↦ option_map (λ rest. event_text c s.world d.event ++ rest) (plays n c (stands_after c s.world d d.event)) ]
+plays (suc n) c s =
+    elim (next c s) [
+      | None ↦ Some (closing s.world)
+      | Some d ↦ option_map (λ rest. event_text c s.world d.event ++ rest) (plays n c (stands_after c s.world d d.event))
+    ]
 
 -- every node restarts first
 abbrev pub plays_from : ℕ → Config Amounts → Script → Option (List ℕ)

@@ -73,7 +73,8 @@ lines_too number x y a b (inr e) h value r = then_too number y a b h value (sym 
 events_too : (u number : ℕ) (lines : List (List ℕ)) → ReadsToo (now.events_in u number lines) (events_in u number lines)
 events_too u number [] value r = r
 events_too u number (line ∷ lines) value r =
-    lines_too number (now.line_of u line) (line_of u line) (now.events_in u (number + 1) lines) (events_in u (number + 1) lines) (same_line u line) (events_too u (number + 1) lines) value r
+    lines_too number (now.line_of u line) (line_of u line) (now.events_in u (number + 1) lines) (events_in u (number + 1) lines)
+    (same_line u line) (events_too u (number + 1) lines) value r
 
 by_too : (header : Header) (a b : Read (List Numbered)) → ReadsToo a b → ReadsToo (script_by header a) (script_by header b)
 by_too header (Reads events) b h value r = ap (λ z. script_by header z) (h events refl) ∙ r
@@ -89,7 +90,8 @@ from_too number [] value r = r
 from_too number (line ∷ lines) value r = either (is_blank line) (from_too (number + 1) lines) value r
   where
     either : (blank : Bool) → ReadsToo (now.script_from (number + 1) lines) (script_from (number + 1) lines)
-        → ReadsToo (if blank then now.script_from (number + 1) lines else now.headed (header_in (words_of line)) number lines) (if blank then script_from (number + 1) lines else headed (header_in (words_of line)) number lines)
+        → ReadsToo (if blank then now.script_from (number + 1) lines else now.headed (header_in (words_of line)) number lines)
+        (if blank then script_from (number + 1) lines else headed (header_in (words_of line)) number lines)
     either true h = h
     either false h = headed_too (header_in (words_of line)) number lines
 

@@ -30,25 +30,33 @@ record Plays (c : Config Amounts) (s : Standing Amounts) (out : List ℕ) : Type
 ends_here : (c : Config Amounts) (s : Standing Amounts) (out : List ℕ) → next c s ≡ None → Some (closing s.world) ≡ Some out → Plays c s out
 ends_here c s out n e = let same : closing s.world ≡ out = cc in record { events = []; end = s; goes = refl; ends = n; sure = tt; is_text = sym same }
 
-goes_on : (c : Config Amounts) (s : Standing Amounts) (out rest : List ℕ) (d : Due) → next c s ≡ Some d → event_text c s.world d.event ++ rest ≡ out → Plays c (stands_after c s.world d d.event) rest → Plays c s out
+goes_on : (c : Config Amounts) (s : Standing Amounts) (out rest : List ℕ) (d : Due)
+    → next c s ≡ Some d → event_text c s.world d.event ++ rest ≡ out → Plays c (stands_after c s.world d d.event) rest → Plays c s out
 goes_on c s out rest d n e p =
     let is : is_sure d.event ≡ true = next_sure c s d n in
+    let later : World Amounts = after c s.world d.event in
     record {
       events = d.event ∷ p.events;
       end = p.end;
       goes = (d, n, sure_becomes d.event is, sure_finds s.world d.event is, p.goes);
       ends = p.ends;
       sure = (is, p.sure);
-      is_text = sym e ∙ ap (λ z. event_text c s.world d.event ++ z) p.is_text ∙ sym (append_assoc (event_text c s.world d.event) (text_from c (after c s.world d.event) p.events) (closing (run c p.events (after c s.world d.event))));
+      is_text = sym e
+          ∙ ap (λ z. event_text c s.world d.event ++ z) p.is_text
+          ∙ sym (append_assoc (event_text c s.world d.event) (text_from c later p.events) (closing (run c p.events later)));
     }
 
-then_plays : (c : Config Amounts) (s : Standing Amounts) (out : List ℕ) (d : Due) (rest : Option (List ℕ)) → next c s ≡ Some d → option_map (λ rest. event_text c s.world d.event ++ rest) rest ≡ Some out
+then_plays : (c : Config Amounts) (s : Standing Amounts) (out : List ℕ) (d : Due) (rest : Option (List ℕ))
+    → next c s ≡ Some d → option_map (λ rest. event_text c s.world d.event ++ rest) rest ≡ Some out
     → ((text : List ℕ) → rest ≡ Some text → Plays c (stands_after c s.world d d.event) text) → Plays c s out
 then_plays c s out d None n e more = absurd (cc)
 then_plays c s out d (Some rest) n e more = let same : event_text c s.world d.event ++ rest ≡ out = cc in goes_on c s out rest d n same (more rest refl)
 
 plays_by : (k : ℕ) (c : Config Amounts) (s : Standing Amounts) (out : List ℕ) (due : Option Due) → next c s ≡ due
-    → elim due [ None ↦ Some (closing s.world) | Some d ↦ option_map (λ rest. event_text c s.world d.event ++ rest) (plays k c (stands_after c s.world d d.event)) ] ≡ Some out
+    → elim due [
+      | None ↦ Some (closing s.world)
+      | Some d ↦ option_map (λ rest. event_text c s.world d.event ++ rest) (plays k c (stands_after c s.world d d.event))
+    ] ≡ Some out
     → ((t : Standing Amounts) (text : List ℕ) → plays k c t ≡ Some text → Plays c t text) → Plays c s out
 plays_by k c s out None n e more = ends_here c s out n e
 plays_by k c s out (Some d) n e more = then_plays c s out d (plays k c (stands_after c s.world d d.event)) n e (more (stands_after c s.world d d.event))
@@ -68,7 +76,8 @@ pub record IsWholeText (c : Config Amounts) (script : Script) (out : List ℕ) :
   pub sure : AllSure events
   pub is_text : out ≡ text c events ++ closing (world c events)
 
-whole : (c : Config Amounts) (script : Script) (out rest : List ℕ) → text c (starts c.u) ++ rest ≡ out → Plays c (first_standing (world c (starts c.u)) script) rest → IsWholeText c script out
+whole : (c : Config Amounts) (script : Script) (out rest : List ℕ)
+    → text c (starts c.u) ++ rest ≡ out → Plays c (first_standing (world c (starts c.u)) script) rest → IsWholeText c script out
 whole c script out rest e p =
     let first : List TraceEvent = starts c.u in
     record {
