@@ -1,4 +1,4 @@
--- Commands and packets that nobody takes, and clients that send again.
+-- Commands and packets that nobody takes, and clients that send again. The first two stories stand in `examples/`, too.
 use Rattle.std.proofs.Common.{◌≡◌, refl, [], Some}
 use Rattle.std.specs.Fmt.{digits}
 use Rattle.aeg_base.specs.Numbers.{checked, number_at, with_number}

@@ -1,4 +1,4 @@
--- The power of a disk goes at one of the four calls that write an acceptance.
+-- The power of a disk goes at one of the four calls that write an acceptance. Those of the third stand in `examples/`, too.
 use Rattle.std.proofs.Common.{◌≡◌, refl, [], Some}
 use Rattle.std.specs.Fmt.{digits}
 use Rattle.aeg_base.specs.Numbers.{checked, number_at, with_number}

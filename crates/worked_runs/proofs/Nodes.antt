@@ -1,4 +1,4 @@
--- Tiers of which nodes are down or gone.
+-- Tiers of which nodes are down or gone. The first two stories stand in `examples/`, too.
 use Rattle.std.proofs.Common.{◌≡◌, refl, [], Some}
 use Rattle.std.specs.Fmt.{digits}
 use Rattle.aeg_base.specs.Numbers.{checked, number_at, with_number}
