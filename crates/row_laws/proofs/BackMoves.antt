@@ -408,7 +408,7 @@ retry_in {B} s u depth t x σ small l b k =
     telling (IsBackIn u t) (λ (z : Back B). z.log) (IsTaken s u depth) t x σ σ (asked ++ told) Did k refl
     (both_good s u depth t x asked told (asks_good s u depth t x σ.log small l k.log)
     (again_good s u depth t x (highest σ.shim) b small l (drop_in IsCode (length σ.shim.kept - 16) σ.shim.kept k.shim.kept)))
-    (omega (arith, small, length-append asked told, asks_few u t x (open_at σ.log), again_few u t x (highest σ.shim) small, last_few 16 σ.shim.kept))
+    (omega (arith, small, length-append asked told, asks_few u t x (open_at σ.log) l, again_few u t x (highest σ.shim) small, last_few 16 σ.shim.kept))
 
 values_in : {B : Type 0} (b : Backend B) (u : ℕ) (t : Tier) (σ : Back B) (vs : List AnyValue) → IsBackendIn b → IsBackIn u t σ → Every FitsAny vs
     → IsBackIn u t (after_values b σ vs)

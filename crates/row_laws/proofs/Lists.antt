@@ -1,7 +1,7 @@
 -- What holds of each item of a list.
-use Rattle.std.proofs.Common.{◌≡◌, ℕ, ◌<◌, ◌≤◌, Bool, cond, List, [], ◌∷◌, ◌++◌, length, map, replicate, refl, arith, Option, Some, None, zero, suc}
-use Rattle.std.specs.Prelude.{slice_get, slice_set, slice_index_or, take, drop, nat_lt, ◌==◌, IfSome}
-use Rattle.std.proofs.lemmas.Bool.{cond_both}
+use Rattle.std.proofs.Common.{◌≡◌, ℕ, ◌<◌, ◌≤◌, Bool, true, false, cond, List, [], ◌∷◌, ◌++◌, length, map, replicate, refl, sym, ap, ◌∙◌, inl, inr, arith, Option, Some, None, zero, suc}
+use Rattle.std.specs.Prelude.{slice_get, slice_set, slice_index_or, take, drop, nat_lt, ◌==◌, IfSome, ◌⊎◌}
+use Rattle.std.proofs.lemmas.Bool.{cases_eq, cond_both}
 use Rattle.std.proofs.lemmas.List.{length-append}
 use Rattle.std.specs.List.{All}
 use Rattle.std.proofs.lemmas.List.Elements.{All-head, All-tail}
@@ -22,6 +22,19 @@ each_few {A} (suc n) skip f =
     let last : length (cond {A = List A} (skip n) [] (f n ∷ [])) ≤ 1 = cond_both {A = List A} (skip n) [] (f n ∷ []) (λ z. length z ≤ 1) (λ e. omega arith)
     (λ e. omega arith) in
     omega (arith, length-append (each n skip f) (cond {A = List A} (skip n) [] (f n ∷ [])), each_few n skip f)
+
+-- where one is skipped there is one less
+pub each_less : {A : Type 0} (n : ℕ) (skip : ℕ → Bool) (f : ℕ → A) (x : ℕ) → x < n → skip x ≡ true → length (each n skip f) < n
+each_less zero skip f x l e = absurd (omega (arith, l))
+each_less {A} (suc n) skip f x l e = go (skip n) refl (each_less n skip f x)
+  where
+    go : (b : Bool) → skip n ≡ b → (x < n → skip x ≡ true → length (each n skip f) < n) → length (each n skip f ++ cond {A = List A} b [] (f n ∷ [])) < suc n
+    go true g rest = omega (arith, length-append {A = A} (each n skip f) [], each_few n skip f)
+    go false g rest = omega (arith, length-append (each n skip f) (f n ∷ []), before (cases_eq x n))
+      where
+        before : (x ≡ n) ⊎ (x ≡ n → ⊥) → length (each n skip f) < n
+        before (inl h) = absurd (let k : skip n ≡ true = ap skip (sym h) ∙ e in cc)
+        before (inr h) = rest (omega (arith, l, h)) e
 
 -- PARTS OF LISTS
 

@@ -2,7 +2,7 @@
 use Rattle.std.proofs.Common.{◌≡◌, ℕ, ◌+◌, ◌*◌, ◌<◌, ◌≤◌, Bool, true, false, cond, List, [], ◌∷◌, ◌++◌, length, map, refl, ap, inl, inr, arith}
 use Rattle.std.proofs.Common.{Option, Some, None}
 use Rattle.std.specs.Prelude.{nat_lt}
-use Rattle.std.proofs.lemmas.Bool.{and_parts, lt-ltb, ltb-true}
+use Rattle.std.proofs.lemmas.Bool.{and_parts, eq-eqb, lt-ltb, ltb-true}
 use Rattle.std.proofs.lemmas.List.{length-map}
 use Rattle.aeg_base.specs.declared.names.Ballot.{Ballot}
 use Rattle.aeg_base.specs.declared.names.End.{End}
@@ -33,7 +33,7 @@ use Rattle.round_model.specs.Service.{Service}
 use Rattle.tier_model.specs.Moves.{node, is_node_of, Packet, Move, log_packet, log_packets, asks, as_fact, log_answer}
 use Rattle.tier_model.specs.Kinds.{kind}
 use Rattle.row_laws.specs.Moves.{is_dropped, Takes, IsTaken, IsSealable}
-use Rattle.row_laws.proofs.Lists.{each_in, each_few}
+use Rattle.row_laws.proofs.Lists.{each_in, each_less}
 use Rattle.row_laws.proofs.FewMessages.{IsFew, IsWritten}
 
 -- WHO SENT IT
@@ -152,8 +152,12 @@ pub asks_good : {B : Type 0} (s : Service B) (u depth : ℕ) (t : Tier) (x : ℕ
     → IsLogIn (IsCarried t) FitsBallot log → AreGood s u depth t x (log_packets t x (asks u x (open_at log)))
 asks_good s u depth t x log small l k = log_good s u depth t x (asks u x (open_at log)) small l (asks_sent t u x (open_at log) k.within)
 
-pub asks_few : (u : ℕ) (t : Tier) (x p : ℕ) → length (log_packets t x (asks u x p)) ≤ 2 * u + 1
-asks_few u t x p = omega (arith, length-map (asks u x p) (log_packet t x), each_few {A = ℕ × PaxMsg AnyValue} (2 * u + 1) (is x) (λ y. (y, Ask p)))
+pub asks_few : (u : ℕ) (t : Tier) (x p : ℕ) → x < 2 * u + 1 → length (log_packets t x (asks u x p)) ≤ 2 * u
+asks_few u t x p l = omega (
+  arith,
+  length-map (asks u x p) (log_packet t x),
+  each_less {A = ℕ × PaxMsg AnyValue} (2 * u + 1) (is x) (λ y. (y, Ask p)) x l (eq-eqb x x refl),
+)
 
 -- FACTS
 

@@ -228,7 +228,7 @@ module _ {B : Type 0} (s : Service B) (u depth x : ℕ) (σ : Mid) where
         state = holds_all h k f;
         taken = good.0;
         sealable = good.1;
-        few = let e = haves_few u x t n code in omega (arith, e, small);
+        few = let e = haves_few u x t n code l in omega (arith, e, small);
         short = omega arith;
         facts = (((b, (c, i)), refl), tt);
         opens = refl;

@@ -1,7 +1,7 @@
 -- The packets of a middle node that aren't its log's: they are taken, have frames, and are few.
 use Rattle.std.proofs.Common.{◌≡◌, ℕ, suc, ◌+◌, ◌*◌, ◌<◌, ◌≤◌, ◌^◌, false, List, [], ◌∷◌, length, length-append, refl, arith, Option, Some, None}
 use Rattle.std.specs.Prelude.{nat_lt, ◌||◌}
-use Rattle.std.proofs.lemmas.Bool.{lt-ltb, ltb-true, cond_both}
+use Rattle.std.proofs.lemmas.Bool.{eq-eqb, lt-ltb, ltb-true, cond_both}
 use Rattle.aeg_base.specs.declared.names.Tier.{Tier}
 use Rattle.aeg_base.specs.declared.names.Tier.TheVariants.{Mid as InMid, Inv, Pay}
 use Rattle.svc_api.specs.Plan.{IsBackend}
@@ -27,7 +27,7 @@ use Rattle.tier_model.specs.BackRows.{call_as}
 use Rattle.row_laws.specs.Backs.{IsCode}
 use Rattle.row_laws.specs.Mids.{IsParkedIn}
 use Rattle.row_laws.specs.Moves.{is_dropped, Takes, IsTaken, IsSealable}
-use Rattle.row_laws.proofs.Lists.{each_few}
+use Rattle.row_laws.proofs.Lists.{each_few, each_less}
 use Rattle.row_laws.proofs.LogTurns.{taken_if, taken_either, AreGood, none_good, both_good, each_good}
 use Rattle.row_laws.proofs.Wanted.{IsWantIn}
 use Rattle.row_laws.proofs.Finishes.{AreEndsIn}
@@ -116,8 +116,8 @@ haves_good s u depth x t n code b small l c =
     each_good s u depth InMid x (2 * u + 1) (is x) (have_to x t n code) (λ y m. have_taken s u depth x y t n code l m)
     (λ y m. record { own = refl; fits = record { sender = omega (arith, small, l); sent = refl; message = (b, c) } })
 
-pub haves_few : (u x : ℕ) (t : Tier) (n code : ℕ) → length (haves u x t n code) ≤ 2 * u + 1
-haves_few u x t n code = each_few (2 * u + 1) (is x) (have_to x t n code)
+pub haves_few : (u x : ℕ) (t : Tier) (n code : ℕ) → x < 2 * u + 1 → length (haves u x t n code) ≤ 2 * u
+haves_few u x t n code l = let e = each_less (2 * u + 1) (is x) (have_to x t n code) x l (eq-eqb x x refl) in omega (arith, e)
 
 -- TOKENS
 
@@ -162,10 +162,10 @@ haves_again_good s u depth x t (e ∷ es) b small l k =
     both_good s u depth InMid x (haves u x t e.0 e.1) (haves_again u x t es) (haves_good s u depth x t e.0 e.1 b small l k.0)
     (haves_again_good s u depth x t es b small l k.1)
 
-pub haves_again_few : (u x : ℕ) (t : Tier) (es : List (ℕ × ℕ)) → u ≤ 2 → length (haves_again u x t es) ≤ 5 * length es
-haves_again_few u x t [] small = omega arith
-haves_again_few u x t (e ∷ es) small =
-    omega (arith, small, length-append (haves u x t e.0 e.1) (haves_again u x t es), haves_few u x t e.0 e.1, haves_again_few u x t es small)
+pub haves_again_few : (u x : ℕ) (t : Tier) (es : List (ℕ × ℕ)) → u ≤ 2 → x < 2 * u + 1 → length (haves_again u x t es) ≤ 4 * length es
+haves_again_few u x t [] small l = omega arith
+haves_again_few u x t (e ∷ es) small l =
+    omega (arith, small, length-append (haves u x t e.0 e.1) (haves_again u x t es), haves_few u x t e.0 e.1 l, haves_again_few u x t es small l)
 
 -- FLOORS
 

@@ -6,12 +6,12 @@ use Rattle.log_model.specs.Log.{LogState, open_at}
 use Rattle.log_values.specs.declared.any_value.AnyValue.{AnyValue}
 use Rattle.frames.specs.declared.turn.Turn.{Turn}
 use Rattle.tier_model.specs.Moves.{node, Packet, Move}
-use Rattle.row_laws.specs.Moves.{IsSealable, IsMoveTo}
+use Rattle.row_laws.specs.Moves.{IsSealable, most_sent, IsMoveTo}
 
 module _ {S : Type 0} (IsIn : S → Type 0) (log_in : S → LogState AnyValue) (GoesWell : Packet → Type 0) (t : Tier) (x : ℕ) (σ : S) where
   -- a move that only sends, and may change all but the log
   pub telling : (new : S) (ks : List Packet) (answer : Turn) → IsIn new → log_in new ≡ log_in σ
-      → AllByRecursion GoesWell ks × AllByRecursion (IsSealable (node t x)) ks → length ks ≤ 255
+      → AllByRecursion GoesWell ks × AllByRecursion (IsSealable (node t x)) ks → length ks ≤ most_sent
       → IsMoveTo IsIn log_in GoesWell t x σ (record { state = new; facts = []; sends = ks; answer = answer })
   telling new ks answer k same good few = record { state = k; taken = good.0; sealable = good.1; few = few; short = omega arith; facts = tt; opens = ap open_at same }
 

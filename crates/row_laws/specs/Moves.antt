@@ -43,9 +43,10 @@ pub record IsSealable (from : End) (k : Packet) : Type 0 where
   pub own : k.from ≡ from
   pub fits : FitsFrame from k.message
 
--- a retry of one of five middle nodes sends most: 5 Asks, 16 calls and 32 Haves to 5 nodes each, and 2 floors to 5
+-- A retry of one of five middle nodes sends most: Asks to the 4 others, 16 calls to 5 nodes each, 32 Haves to 4 each, and 2
+-- floors to 5 each.
 abbrev pub most_sent : ℕ
-most_sent = 255
+most_sent = 222
 
 -- MOVES
 
