@@ -1,5 +1,5 @@
 -- What opening a node's journal told, and what a restart makes of it.
-use Rattle.std.proofs.Common.{◌≡◌, ◌⊎◌, ℕ, List, true, refl, sym, ap, ◌∙◌, subst, Result, Ok, Err}
+use Rattle.std.proofs.Common.{◌≡◌, ◌⊎◌, ℕ, List, true, refl, sym, ap, ◌∙◌, subst, [], Some, Result, Ok, Err}
 use Rattle.std.specs.Prelude.{IfOk, OnOk, OnErr}
 use Rattle.std.specs.declared.alloc.Global.{Global}
 use Rattle.std.specs.declared.boxed.Box.{Box}
@@ -18,7 +18,9 @@ use Rattle.log_values.specs.declared.fact.Fact.{Fact}
 use Rattle.frames.specs.declared.turn.Fault.{Fault}
 use Rattle.frames.specs.declared.turn.Fault.TheVariants as faults
 use Rattle.node_log.specs.Faults.{as_opening_fault}
-use Rattle.node_log.specs.Views.{View, Restarts}
+use Rattle.log_model.specs.Recover.{onto}
+use Rattle.node_log.specs.LogNodes.{Standing}
+use Rattle.node_log.specs.Views.{View, CameUp, Restarts, seen_as}
 use Rattle.node_log.specs.Restarting.{Journal, Opens, ComesUp}
 
 -- OPENING
@@ -143,3 +145,16 @@ restarts old new a b recovered (Err why) (Err fault) k c = record {
   where
     same_result : (at : ℕ) → ◌≡◌ {A = Result (Unit {0}) Fault} (Err fault) (Err (faults.BadRecord at)) → ◌≡◌ {A = Result Journal Fault} (Err why) (Err (faults.BadRecord at))
     same_result at e = let f = c.0 in cc
+
+-- a node that came up with the log that the facts leave, and with the rest that they leave
+pub came_up : {R S : Type 0} (whole : Standing R → S) (old new : View (Standing R)) (recovered : List Fact → S) (facts : List Fact) (standing : Standing R) (place : ℕ) → new ≡ record old { up = Some standing; place = place } → whole standing ≡ recovered (onto facts [])
+    → CameUp (seen_as whole old) (seen_as whole new) recovered facts × (new.place ≡ place)
+came_up {R} whole old new recovered facts standing place e f = (
+  ap (seen_as whole) e
+  ∙ ap (λ z. record { faults = old.faults; tier = old.tier; me = old.me; up = Some z; place = place }) f
+  ∙ ap (λ (z : ℕ). record { faults = old.faults; tier = old.tier; me = old.me; up = Some (recovered (onto facts [])); place = z }) (sym same_place),
+  same_place,
+)
+  where
+    same_place : new.place ≡ place
+    same_place = ap (λ (z : View (Standing R)). z.place) e

@@ -1,5 +1,5 @@
 -- What a turn of a node's log writes and sends can be written and sent. It writes at most one fact.
-use Rattle.std.proofs.Common.{◌≡◌, ℕ, ◌+◌, ◌*◌, ◌<◌, ◌≤◌, refl, Bool, true, false, cond, List, [], ◌∷◌, length, map, ap, inl, inr, arith, Option, Some, None, zero, suc}
+use Rattle.std.proofs.Common.{◌≡◌, ℕ, ◌+◌, ◌*◌, ◌<◌, ◌≤◌, refl, Bool, true, false, cond, List, [], ◌∷◌, length, map, sym, ap, ◌∙◌, subst, inl, inr, arith, Option, Some, None, zero, suc}
 use Rattle.std.specs.Prelude.{slice_get, nat_lt, nat_le, ◌==◌}
 use Rattle.std.specs.List.{AllByRecursion}
 use Rattle.std.proofs.lemmas.List.{length-map}
@@ -10,20 +10,22 @@ use Rattle.log_model.specs.declared.fact.Fact.{Fact}
 use Rattle.log_model.specs.declared.fact.Fact.TheVariants.{Promised, Accepted as Voted, Learned}
 use Rattle.log_model.specs.declared.message.PaxMsg.{PaxMsg}
 use Rattle.log_model.specs.declared.message.PaxMsg.TheVariants.{Prepare, Promise, Accept, Accepted, Ask, Learn, Behind}
+use Rattle.log_model.specs.declared.turn.LogTurn.{LogTurn}
 use Rattle.log_model.specs.declared.turn.LogIdle.{LogIdle}
 use Rattle.log_model.specs.declared.turn.LogIdle.TheVariants.{BallotSpent, Stale, Behind as IsBehind, Nothing}
-use Rattle.log_model.specs.Log.{Leader, LogState, Turn, open_at, idles, stays, says, seen_at, count_below, is_at, is_from, with_ballot}
+use Rattle.log_model.specs.Log.{Leader, LogState, Turn, told, open_at, idles, stays, says, seen_at, count_below, is_at, is_from, with_ballot}
 use Rattle.log_model.specs.Rows.{tells, leads, lead, promises, joins, on_prepare, on_promise, promised_by, to_offer, offers, offer_as, offer, accepts, says_again, on_accept, learned_turn, notes, on_accepted, on_learn, on_ask, on_msg}
 use Rattle.log_model.specs.Ranges.{IsFactIn, IsLogIn, IsMessageIn, IsSendIn, IsTurnIn, IsOwnIn, MayRaise}
 use Rattle.log_model.proofs.Ranged.{msg_in, lead_in, offer_in}
 use Rattle.log_values.specs.declared.any_value.AnyValue.{AnyValue}
+use Rattle.log_values.specs.declared.fact.Fact.{Fact as Written}
 use Rattle.log_values.specs.Fields.{FitsBallot}
 use Rattle.log_values.specs.Records.{FitsFact}
 use Rattle.fact_journal.proofs.Lengths.{few_short}
 use Rattle.frames.specs.LogMessages.{IsCarried, FitsLog}
-use Rattle.paxos_log.specs.TierLog.{HasPlace}
+use Rattle.paxos_log.specs.TierLog.{HasPlace, NodeLog, with_state}
 use Rattle.tier_model.specs.Moves.{as_fact}
-use Rattle.node_log.specs.LogNodes.{IsLogTurn}
+use Rattle.node_log.specs.LogNodes.{IsLogTurn, IsOwnLog}
 use Rattle.node_log.specs.Settling.{CanRecord}
 
 -- MESSAGES
@@ -175,3 +177,17 @@ lead_turn u t x log low k = record { range = lead_in u (IsCarried t) FitsBallot 
 
 pub offer_turn : (u : ℕ) (t : Tier) (x : ℕ) (log : LogState AnyValue) (own : Option AnyValue) → IsLogIn (IsCarried t) FitsBallot log → IsOwnIn (IsCarried t) (open_at log) own → IsLogTurn u t (offer u x log own)
 offer_turn u t x log own k q = record { range = offer_in u (IsCarried t) FitsBallot x log own k q; few = (offer_as_few u x log log.leader own).most }
+
+-- WHAT A CALL OF THE LOG TOLD
+
+-- its messages have frames
+pub told_sends : (u : ℕ) (t : Tier) (turn : Turn AnyValue) (out : LogTurn AnyValue) → out ≡ told turn → IsLogTurn u t turn → AllByRecursion {X = ℕ × PaxMsg AnyValue} (λ send. FitsLog t send.1) out.sends
+told_sends u t turn out e k = subst (λ (z : LogTurn AnyValue). AllByRecursion {X = ℕ × PaxMsg AnyValue} (λ send. FitsLog t send.1) z.sends) (sym e) (turn_sends u t turn k)
+
+-- its facts can be written down
+pub told_recorded : (u : ℕ) (t : Tier) (turn : Turn AnyValue) (out : LogTurn AnyValue) (facts : List Written) → out ≡ told turn → facts ≡ map as_fact out.facts → IsLogTurn u t turn → CanRecord facts
+told_recorded u t turn out facts e f k = subst CanRecord (sym (f ∙ ap (λ (z : LogTurn AnyValue). map as_fact z.facts) e)) (turn_recorded u t turn k)
+
+-- and the log that it leaves is the node's own
+pub own_after : (u : ℕ) (t : Tier) (x : ℕ) (log : NodeLog AnyValue) (turn : Turn AnyValue) → IsOwnLog u t x log → IsLogTurn u t turn → IsOwnLog u t x (with_state log turn.state)
+own_after u t x log turn own k = record { faults = own.faults; me = own.me; range = k.range.state }

@@ -14,7 +14,7 @@ mod working;
 
 pub use answers::{answer_of, needs_own, offer_cause};
 pub use decided::{Decided, decide_turn};
-pub use laws::{log_turns, moves, restarts};
+pub use laws::{log_turns, moves, restarts, tells};
 pub use facts::facts_of;
 pub use log_node::LogNode;
 pub use restoring::restored;
