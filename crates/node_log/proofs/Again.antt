@@ -1,5 +1,5 @@
 -- The frames of a list of messages, where one that is the message before again is a copy of the packet before.
-use Rattle.std.proofs.Common.{◌≡◌, ℕ, ◌+◌, ◌-◌, ◌<◌, List, [], ◌∷◌, ◌++◌, map, take, length, refl, sym, ap, ◌∙◌, arith, append_assoc, Some, zero, suc}
+use Rattle.std.proofs.Common.{◌≡◌, ℕ, ◌+◌, ◌-◌, ◌<◌, List, [], ◌∷◌, ◌++◌, take, length, refl, sym, ap, ◌∙◌, arith, append_assoc, Some, zero, suc}
 use Rattle.std.specs.Prelude.{slice_get, IfOk}
 use Rattle.std.specs.declared.result.Result.{Result}
 use Rattle.std.specs.declared.result.Result.TheVariants.{Ok, Err}
@@ -12,7 +12,7 @@ use Rattle.log_values.specs.declared.any_value.AnyValue.{AnyValue}
 use Rattle.frames.specs.declared.message.Msg.TheVariants.{Log}
 use Rattle.frames.specs.Frames.{frame}
 use Rattle.tier_model.specs.Moves.{node, log_packet, log_packets}
-use Rattle.node_log.specs.Packets.{sealed, all_sealed, HasSent, IsFrameAt, StillHas}
+use Rattle.node_log.specs.Packets.{sealed, all_sealed, HasSent, IsFrameAt}
 use Rattle.log_model.proofs.Basics.{get_end}
 
 abbrev Send : Type 0

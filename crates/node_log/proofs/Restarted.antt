@@ -1,9 +1,6 @@
 -- What opening a node's journal told, and what a restart makes of it.
 use Rattle.std.proofs.Common.{◌≡◌, ◌⊎◌, ℕ, List, true, refl, sym, ap, ◌∙◌, subst, [], Some, Result, Ok, Err}
-use Rattle.std.specs.Prelude.{IfOk, OnOk, OnErr}
-use Rattle.std.specs.declared.alloc.Global.{Global}
-use Rattle.std.specs.declared.boxed.Box.{Box}
-use Rattle.aeg_base.specs.declared.names.NodeId.{NodeId}
+use Rattle.std.specs.Prelude.{IfOk, OnOk}
 use Rattle.aeg_base.specs.declared.names.Tier.{Tier}
 use Rattle.aeg_disk.specs.Disk.{DiskState, Rose, Later}
 use Rattle.node_journal.specs.declared.opening.OpenErr.{OpenErr}
@@ -151,8 +148,8 @@ pub came_up : {R S : Type 0} (whole : Standing R → S) (old new : View (Standin
     → CameUp (seen_as whole old) (seen_as whole new) recovered facts × (new.place ≡ place)
 came_up {R} whole old new recovered facts standing place e f = (
   ap (seen_as whole) e
-  ∙ ap (λ z. record { faults = old.faults; tier = old.tier; me = old.me; up = Some z; place = place }) f
-  ∙ ap (λ (z : ℕ). record { faults = old.faults; tier = old.tier; me = old.me; up = Some (recovered (onto facts [])); place = z }) (sym same_place),
+      ∙ ap (λ z. record { faults = old.faults; tier = old.tier; me = old.me; up = Some z; place = place }) f
+      ∙ ap (λ (z : ℕ). record { faults = old.faults; tier = old.tier; me = old.me; up = Some (recovered (onto facts [])); place = z }) (sym same_place),
   same_place,
 )
   where

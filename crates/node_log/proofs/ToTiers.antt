@@ -1,12 +1,10 @@
 -- One message to each node of a tier, as packets.
-use Rattle.std.proofs.Common.{◌≡◌, ℕ, ◌+◌, ◌*◌, Bool, true, false, cond, List, [], ◌∷◌, ◌++◌, map, refl, sym, ap, ◌∙◌, append_assoc, Option, Some, zero, suc}
+use Rattle.std.proofs.Common.{◌≡◌, ℕ, ◌+◌, ◌*◌, Bool, true, false, cond, List, [], ◌∷◌, ◌++◌, map, refl, sym, ap, ◌∙◌, Option, Some, zero, suc}
 use Rattle.std.proofs.lemmas.List.{map-append}
 use Rattle.aeg_base.specs.declared.names.End.{End}
 use Rattle.aeg_base.specs.declared.names.Tier.{Tier}
-use Rattle.log_model.specs.declared.message.PaxMsg.{PaxMsg}
 use Rattle.log_model.specs.declared.message.PaxMsg.TheVariants.{Ask}
 use Rattle.log_model.specs.Log.{is}
-use Rattle.log_values.specs.declared.any_value.AnyValue.{AnyValue}
 use Rattle.frames.specs.declared.message.Msg.{Msg}
 use Rattle.frames.specs.declared.message.Msg.TheVariants.{Log}
 use Rattle.frames.specs.Frames.{frame}

@@ -1,17 +1,16 @@
 -- What an append to a node's journal told: what was written, what may have been, and why it was not.
-use Rattle.std.proofs.Common.{◌≡◌, ◌⊎◌, ℕ, ◌+◌, ◌-◌, ◌^◌, ◌≤◌, Bool, true, false, List, min, refl, sym, ap, ◌∙◌, subst, inl, inr, Result, Ok, Err}
-use Rattle.std.specs.Prelude.{OnOk, OnErr}
+use Rattle.std.proofs.Common.{◌≡◌, ◌⊎◌, ℕ, ◌+◌, ◌-◌, ◌^◌, ◌≤◌, Bool, true, false, List, min, refl, sym, subst, inl, inr, Result, Ok, Err}
+use Rattle.std.specs.Prelude.{OnOk}
 use Rattle.std.proofs.lemmas.Bool.{false_from_ne_true}
-use Rattle.aeg_disk.specs.Disk.{DiskState, Rose, Later}
+use Rattle.aeg_disk.specs.Disk.{DiskState, Rose}
 use Rattle.node_journal.specs.declared.journal.AppendErr.{AppendErr}
 use Rattle.node_journal.specs.declared.journal.AppendErr.TheVariants as appends
-use Rattle.fact_journal.specs.Calls.{length_with, is_past, Appended, IsCut, old_or_new}
-use Rattle.fact_journal.specs.Standing.{HasFacts, StandsFor}
+use Rattle.fact_journal.specs.Calls.{length_with, is_past, Appended, IsCut}
+use Rattle.fact_journal.specs.Standing.{HasFacts}
 use Rattle.fact_journal.proofs.Appends.{not_begun}
 use Rattle.log_model.specs.Nodes.{writes}
 use Rattle.log_values.specs.declared.fact.Fact.{Fact}
 use Rattle.frames.specs.declared.turn.Fault.{Fault}
-use Rattle.frames.specs.declared.turn.Fault.TheVariants as faults
 use Rattle.node_log.specs.Faults.{as_fault}
 use Rattle.node_log.specs.Views.{Wrote, MayHaveWritten, HasCause}
 

@@ -12,7 +12,6 @@ as_fault appends.Disk = faults.Disk
 as_fault (appends.Full size) = faults.JournalFull size
 as_fault appends.Memory = faults.Memory
 
-
 abbrev pub as_opening_fault : OpenErr → Fault
 as_opening_fault opens.Disk = faults.Disk
 as_opening_fault (opens.BadRecord at) = faults.BadRecord at

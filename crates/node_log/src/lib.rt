@@ -3,9 +3,9 @@
 
 mod answers;
 mod decided;
+mod facts;
 mod faults;
 mod laws;
-mod facts;
 mod log_node;
 mod recording;
 mod restoring;
@@ -14,8 +14,8 @@ mod working;
 
 pub use answers::{answer_of, needs_own, offer_cause};
 pub use decided::{Decided, decide_turn};
-pub use laws::{log_turns, moves, restarts, tells};
 pub use facts::facts_of;
+pub use laws::{log_turns, moves, restarts, tells};
 pub use log_node::LogNode;
 pub use restoring::restored;
 pub use sending::{send_asks, send_log, send_one, send_to_tier};
