@@ -24,7 +24,8 @@ map_each g (suc n) skip f =
     ∙ ap (λ z. z ++ map g (cond (skip n) [] (f n ∷ []))) (map_each g n skip f)
     ∙ ap (λ z. each n skip (λ y. g (f y)) ++ z) (map_one g (skip n) (f n))
 
-pub tier_sealed : (u : ℕ) (from : End) (t : Tier) (but : Option ℕ) (message : Msg) (bytes : List ℕ) → bytes ≡ frame from message → each (2 * u + 1) (skips but) (λ y. (node t y, bytes)) ≡ all_sealed (to_tier u from t but message)
+pub tier_sealed : (u : ℕ) (from : End) (t : Tier) (but : Option ℕ) (message : Msg) (bytes : List ℕ) → bytes ≡ frame from message
+    → each (2 * u + 1) (skips but) (λ y. (node t y, bytes)) ≡ all_sealed (to_tier u from t but message)
 tier_sealed u from t but message bytes e =
     ap (λ z. each (2 * u + 1) (skips but) (λ y. (node t y, z))) e
     ∙ sym (map_each sealed (2 * u + 1) (skips but) (λ y. record { from = from; to = node t y; message = message }))
