@@ -33,13 +33,16 @@ ordered t facts logs e fit = subst (AreInOrder 0) (sym e) (in_order t 0 facts fi
 -- it is the one that the definition leaves, which takes the newest fact first
 pub restored_is : {E : Type 0} (u x : ℕ) (facts : List Fact) (logs : List (LogFact AnyValue)) (r : Result (NodeLog AnyValue) E) → logs ≡ log_facts facts
     → IfOk r (λ log. log ≡ with_state (new_log u x) (recover u (newest_first logs))) → IfOk r (λ log. log ≡ restored_log u x facts)
-restored_is u x facts logs (Ok log) e f = f ∙ ap (λ z. with_state (new_log u x) (recover u (newest_first z))) e ∙ ap (λ z. with_state (new_log u x) (recover u z)) (sym (log_facts-onto facts []))
+restored_is u x facts logs (Ok log) e f = f ∙ ap (λ z. with_state (new_log u x) (recover u (newest_first z))) e
+    ∙ ap (λ z. with_state (new_log u x) (recover u z)) (sym (log_facts-onto facts []))
 restored_is u x facts logs (Err error) e f = tt
 
 -- and the node's own, in range
-pub restored_own : {E : Type 0} (u : ℕ) (t : Tier) (x : ℕ) (facts : List Fact) (r : Result (NodeLog AnyValue) E) → FactsFit t 0 facts → IfOk r (λ log. log ≡ restored_log u x facts) → IfOk r (IsOwnLog u t x)
+pub restored_own : {E : Type 0} (u : ℕ) (t : Tier) (x : ℕ) (facts : List Fact) (r : Result (NodeLog AnyValue) E) → FactsFit t 0 facts
+    → IfOk r (λ log. log ≡ restored_log u x facts) → IfOk r (IsOwnLog u t x)
 restored_own u t x facts (Ok log) fit e = subst (IsOwnLog u t x) (sym e) (record { faults = refl; me = refl; range = range })
   where
     range : IsLogIn (IsCarried t) FitsBallot (restored_log u x facts).state
-    range = subst (λ z. IsLogIn (IsCarried t) FitsBallot (recover u z)) (sym (log_facts-onto facts [])) (restored_in (IsCarried t) FitsBallot u (log_facts facts) (in_range t 0 facts fit) (in_order t 0 facts fit))
+    range = subst (λ z. IsLogIn (IsCarried t) FitsBallot (recover u z)) (sym (log_facts-onto facts []))
+        (restored_in (IsCarried t) FitsBallot u (log_facts facts) (in_range t 0 facts fit) (in_order t 0 facts fit))
 restored_own u t x facts (Err error) fit e = tt

@@ -1,9 +1,6 @@
 -- What opening a node's journal told, and what a restart makes of it.
-use Rattle.std.proofs.Common.{◌≡◌, ◌⊎◌, ℕ, List, true, refl, sym, ap, ◌∙◌, subst, Result, Ok, Err}
-use Rattle.std.specs.Prelude.{IfOk, OnOk, OnErr}
-use Rattle.std.specs.declared.alloc.Global.{Global}
-use Rattle.std.specs.declared.boxed.Box.{Box}
-use Rattle.aeg_base.specs.declared.names.NodeId.{NodeId}
+use Rattle.std.proofs.Common.{◌≡◌, ◌⊎◌, ℕ, List, true, refl, sym, ap, ◌∙◌, subst, [], Some, Result, Ok, Err}
+use Rattle.std.specs.Prelude.{IfOk, OnOk}
 use Rattle.aeg_base.specs.declared.names.Tier.{Tier}
 use Rattle.aeg_disk.specs.Disk.{DiskState, Rose, Later}
 use Rattle.node_journal.specs.declared.opening.OpenErr.{OpenErr}
@@ -18,7 +15,9 @@ use Rattle.log_values.specs.declared.fact.Fact.{Fact}
 use Rattle.frames.specs.declared.turn.Fault.{Fault}
 use Rattle.frames.specs.declared.turn.Fault.TheVariants as faults
 use Rattle.node_log.specs.Faults.{as_opening_fault}
-use Rattle.node_log.specs.Views.{View, Restarts}
+use Rattle.log_model.specs.Recover.{onto}
+use Rattle.node_log.specs.LogNodes.{Standing}
+use Rattle.node_log.specs.Views.{View, CameUp, Restarts, seen_as}
 use Rattle.node_log.specs.Restarting.{Journal, Opens, ComesUp}
 
 -- OPENING
@@ -94,12 +93,14 @@ module _ (tier : Tier) (a b : DiskState) where
   pub opens_ok : (r : Result Journal OpenErr) (j : Journal) → r ≡ Ok j → ToldOpening tier a b r → Opens tier a b (Ok j)
   opens_ok r j e k = opened j (subst (ToldOpening tier a b) e k)
 
-  pub opens_err : (r : Result Journal OpenErr) (error : OpenErr) (fault : Fault) → r ≡ Err error → fault ≡ as_opening_fault error → ToldOpening tier a b r → Opens tier a b (Err fault)
+  pub opens_err : (r : Result Journal OpenErr) (error : OpenErr) (fault : Fault) → r ≡ Err error → fault ≡ as_opening_fault error
+      → ToldOpening tier a b r → Opens tier a b (Err fault)
   opens_err r error fault e f k = subst (λ (z : Fault). Opens tier a b (Err z)) (sym f) (not_opened error (subst (ToldOpening tier a b) e k))
 
 -- RESTARTS
 
-pub restarts : {S : Type 0} (old new : View S) (a b : DiskState) (recovered : List Fact → S) (opened : Result Journal Fault) (result : Result (Unit {0}) Fault) → Opens old.tier a b opened → ComesUp old new recovered opened result → Restarts old new a b recovered result
+pub restarts : {S : Type 0} (old new : View S) (a b : DiskState) (recovered : List Fact → S) (opened : Result Journal Fault)
+    (result : Result (Unit {0}) Fault) → Opens old.tier a b opened → ComesUp old new recovered opened result → Restarts old new a b recovered result
 restarts old new a b recovered (Ok j) (Ok _) k c = record {
   fits = (j.1.items, k.fits, c.0);
   reads = λ tells. (j.1.items, subst (λ (z : ℕ). Opened old.tier a b j.1.items z) (sym c.1) (k.reads tells), c.0);
@@ -141,5 +142,20 @@ restarts old new a b recovered (Err why) (Err fault) k c = record {
   later = k.later;
 }
   where
-    same_result : (at : ℕ) → ◌≡◌ {A = Result (Unit {0}) Fault} (Err fault) (Err (faults.BadRecord at)) → ◌≡◌ {A = Result Journal Fault} (Err why) (Err (faults.BadRecord at))
+    same_result : (at : ℕ) → ◌≡◌ {A = Result (Unit {0}) Fault} (Err fault) (Err (faults.BadRecord at))
+        → ◌≡◌ {A = Result Journal Fault} (Err why) (Err (faults.BadRecord at))
     same_result at e = let f = c.0 in cc
+
+-- a node that came up with the log that the facts leave, and with the rest that they leave
+pub came_up : {R S : Type 0} (whole : Standing R → S) (old new : View (Standing R)) (recovered : List Fact → S) (facts : List Fact)
+    (standing : Standing R) (place : ℕ) → new ≡ record old { up = Some standing; place = place } → whole standing ≡ recovered (onto facts [])
+    → CameUp (seen_as whole old) (seen_as whole new) recovered facts × (new.place ≡ place)
+came_up {R} whole old new recovered facts standing place e f = (
+  ap (seen_as whole) e
+      ∙ ap (λ z. record { faults = old.faults; tier = old.tier; me = old.me; up = Some z; place = place }) f
+      ∙ ap (λ (z : ℕ). record { faults = old.faults; tier = old.tier; me = old.me; up = Some (recovered (onto facts [])); place = z }) (sym same_place),
+  same_place,
+)
+  where
+    same_place : new.place ≡ place
+    same_place = ap (λ (z : View (Standing R)). z.place) e

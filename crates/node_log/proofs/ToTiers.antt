@@ -1,12 +1,10 @@
 -- One message to each node of a tier, as packets.
-use Rattle.std.proofs.Common.{◌≡◌, ℕ, ◌+◌, ◌*◌, Bool, true, false, cond, List, [], ◌∷◌, ◌++◌, map, refl, sym, ap, ◌∙◌, append_assoc, Option, Some, zero, suc}
+use Rattle.std.proofs.Common.{◌≡◌, ℕ, ◌+◌, ◌*◌, Bool, true, false, cond, List, [], ◌∷◌, ◌++◌, map, refl, sym, ap, ◌∙◌, Option, Some, zero, suc}
 use Rattle.std.proofs.lemmas.List.{map-append}
 use Rattle.aeg_base.specs.declared.names.End.{End}
 use Rattle.aeg_base.specs.declared.names.Tier.{Tier}
-use Rattle.log_model.specs.declared.message.PaxMsg.{PaxMsg}
 use Rattle.log_model.specs.declared.message.PaxMsg.TheVariants.{Ask}
 use Rattle.log_model.specs.Log.{is}
-use Rattle.log_values.specs.declared.any_value.AnyValue.{AnyValue}
 use Rattle.frames.specs.declared.message.Msg.{Msg}
 use Rattle.frames.specs.declared.message.Msg.TheVariants.{Log}
 use Rattle.frames.specs.Frames.{frame}
@@ -26,7 +24,8 @@ map_each g (suc n) skip f =
     ∙ ap (λ z. z ++ map g (cond (skip n) [] (f n ∷ []))) (map_each g n skip f)
     ∙ ap (λ z. each n skip (λ y. g (f y)) ++ z) (map_one g (skip n) (f n))
 
-pub tier_sealed : (u : ℕ) (from : End) (t : Tier) (but : Option ℕ) (message : Msg) (bytes : List ℕ) → bytes ≡ frame from message → each (2 * u + 1) (skips but) (λ y. (node t y, bytes)) ≡ all_sealed (to_tier u from t but message)
+pub tier_sealed : (u : ℕ) (from : End) (t : Tier) (but : Option ℕ) (message : Msg) (bytes : List ℕ) → bytes ≡ frame from message
+    → each (2 * u + 1) (skips but) (λ y. (node t y, bytes)) ≡ all_sealed (to_tier u from t but message)
 tier_sealed u from t but message bytes e =
     ap (λ z. each (2 * u + 1) (skips but) (λ y. (node t y, z))) e
     ∙ sym (map_each sealed (2 * u + 1) (skips but) (λ y. record { from = from; to = node t y; message = message }))

@@ -1,17 +1,16 @@
 -- What an append to a node's journal told: what was written, what may have been, and why it was not.
-use Rattle.std.proofs.Common.{◌≡◌, ◌⊎◌, ℕ, ◌+◌, ◌-◌, ◌^◌, ◌≤◌, Bool, true, false, List, min, refl, sym, ap, ◌∙◌, subst, inl, inr, Result, Ok, Err}
-use Rattle.std.specs.Prelude.{OnOk, OnErr}
+use Rattle.std.proofs.Common.{◌≡◌, ◌⊎◌, ℕ, ◌+◌, ◌-◌, ◌^◌, ◌≤◌, Bool, true, false, List, min, refl, sym, subst, inl, inr, Result, Ok, Err}
+use Rattle.std.specs.Prelude.{OnOk}
 use Rattle.std.proofs.lemmas.Bool.{false_from_ne_true}
-use Rattle.aeg_disk.specs.Disk.{DiskState, Rose, Later}
+use Rattle.aeg_disk.specs.Disk.{DiskState, Rose}
 use Rattle.node_journal.specs.declared.journal.AppendErr.{AppendErr}
 use Rattle.node_journal.specs.declared.journal.AppendErr.TheVariants as appends
-use Rattle.fact_journal.specs.Calls.{length_with, is_past, Appended, IsCut, old_or_new}
-use Rattle.fact_journal.specs.Standing.{HasFacts, StandsFor}
+use Rattle.fact_journal.specs.Calls.{length_with, is_past, Appended, IsCut}
+use Rattle.fact_journal.specs.Standing.{HasFacts}
 use Rattle.fact_journal.proofs.Appends.{not_begun}
 use Rattle.log_model.specs.Nodes.{writes}
 use Rattle.log_values.specs.declared.fact.Fact.{Fact}
 use Rattle.frames.specs.declared.turn.Fault.{Fault}
-use Rattle.frames.specs.declared.turn.Fault.TheVariants as faults
 use Rattle.node_log.specs.Faults.{as_fault}
 use Rattle.node_log.specs.Views.{Wrote, MayHaveWritten, HasCause}
 
@@ -28,7 +27,8 @@ pub record Told (at next : ℕ) (facts : List Fact) (a b : DiskState) (r : Resul
   pub cause : r ≡ Err appends.Disk → (b.stopped ≡ true) ⊎ Rose a.faults b.faults
 
 -- it is full, or memory ran out, so it is neither of the other two
-not_full : (at next : ℕ) (facts : List Fact) (a b : DiskState) (r : Result (Unit {0}) AppendErr) → ((n : ℕ) → r ≡ Err (appends.Full n) → ⊥) → (r ≡ Err appends.Memory → ⊥) → Told at next facts a b r → is_past (at + 1) facts ≡ false
+not_full : (at next : ℕ) (facts : List Fact) (a b : DiskState) (r : Result (Unit {0}) AppendErr) → ((n : ℕ) → r ≡ Err (appends.Full n) → ⊥)
+    → (r ≡ Err appends.Memory → ⊥) → Told at next facts a b r → is_past (at + 1) facts ≡ false
 not_full at next facts a b r f m k = false_from_ne_true (is_past (at + 1) facts) (λ e. go (k.past e))
   where
     go : (r ≡ Err (appends.Full (min (length_with (at + 1) facts) (2 ^ 64 - 1)))) ⊎ (r ≡ Err appends.Memory) → ⊥
@@ -42,7 +42,8 @@ wrote_at_fault at next facts a b k = go (writes facts) refl
     go true e = refl
     go false e = absurd (let f = (k.idle e).0 in cc)
 
-pub wrote : (at next : ℕ) (facts : List Fact) (a b : DiskState) (r : Result (Unit {0}) AppendErr) → r ≡ Ok tt → Told at next facts a b r → Wrote a b at next facts
+pub wrote : (at next : ℕ) (facts : List Fact) (a b : DiskState) (r : Result (Unit {0}) AppendErr) → r ≡ Ok tt → Told at next facts a b r
+    → Wrote a b at next facts
 wrote at next facts a b r ok told =
     let k = subst (λ z. Told at next facts a b z) ok told in
     record {
@@ -60,7 +61,8 @@ not_written at facts a b e = subst (λ (z : DiskState). MayHaveWritten a z at fa
   stop = λ runs stands. absurd cc;
 })
 
-pub may_have : (at next : ℕ) (facts : List Fact) (a b : DiskState) (r : Result (Unit {0}) AppendErr) (error : AppendErr) → r ≡ Err error → Told at next facts a b r → MayHaveWritten a b at facts
+pub may_have : (at next : ℕ) (facts : List Fact) (a b : DiskState) (r : Result (Unit {0}) AppendErr) (error : AppendErr) → r ≡ Err error
+    → Told at next facts a b r → MayHaveWritten a b at facts
 may_have at next facts a b r error err told = go error (subst (λ z. Told at next facts a b z) err told)
   where
     go : (error : AppendErr) → Told at next facts a b (Err error) → MayHaveWritten a b at facts
@@ -68,8 +70,11 @@ may_have at next facts a b r error err told = go error (subst (λ z. Told at nex
     go (appends.Full n) k = not_written at facts a b (k.nothing_written n refl)
     go appends.Memory k = record { one_of_two = k.leaves; stop = k.stopped }
 
-pub has_cause : (at next : ℕ) (facts : List Fact) (a b : DiskState) (r : Result (Unit {0}) AppendErr) (error : AppendErr) (given fault : Fault) → r ≡ Err error → given ≡ as_fault error → ◌≡◌ {A = Result (Unit {0}) Fault} (Err given) (Err fault) → Told at next facts a b r → HasCause a b at facts fault
-has_cause at next facts a b r error given fault err is same told = subst (HasCause a b at facts) as_told (go error (subst (λ z. Told at next facts a b z) err told))
+pub has_cause : (at next : ℕ) (facts : List Fact) (a b : DiskState) (r : Result (Unit {0}) AppendErr) (error : AppendErr) (given fault : Fault)
+    → r ≡ Err error → given ≡ as_fault error → ◌≡◌ {A = Result (Unit {0}) Fault} (Err given) (Err fault) → Told at next facts a b r
+    → HasCause a b at facts fault
+has_cause at next facts a b r error given fault err is same told = subst (HasCause a b at facts) as_told
+    (go error (subst (λ z. Told at next facts a b z) err told))
   where
     as_told : as_fault error ≡ fault
     as_told = cc

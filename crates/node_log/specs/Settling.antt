@@ -38,7 +38,8 @@ pub record Records (before after : DiskState) (place next : ℕ) (decided : Resu
 
 -- A call decided the row's move: it has the move's state in hand then, with the facts and the answer, and the packets stand
 -- behind those before. Where memory ran out, too, these stand there still.
-pub record Decides {R S : Type 0} (whole : Standing R → S) (row : S → Move S) (old new : Working R) (before after : List (End × List ℕ)) (decided : Result Decided Memory) : Type 0 where
+pub record Decides {R S : Type 0} (whole : Standing R → S) (row : S → Move S) (old new : Working R) (before after : List (End × List ℕ))
+    (decided : Result Decided Memory) : Type 0 where
   pub state : OnOk decided (whole (standing_in new) ≡ (row (whole (standing_in old))).state)
   pub facts : IfOk decided (λ d. d.facts.items ≡ (row (whole (standing_in old))).facts)
   pub answer : IfOk decided (λ d. d.answer ≡ (row (whole (standing_in old))).answer)

@@ -1,7 +1,7 @@
 -- What contracts see of a node, and what an event makes of it, of its disk and of the packets.
-use Rattle.std.specs.Prelude.{◌≡◌, ◌⊎◌, ℕ, ◌+◌, ◌-◌, ◌^◌, ◌≤◌, min, Bool, true, false, List, [], ◌∷◌, ◌++◌, map, Option, Some, None, is_some, option_map, IfSome, IfOk, OnOk, OnErr}
+use Rattle.std.specs.Prelude.{◌≡◌, ◌⊎◌, ℕ, ◌+◌, ◌-◌, ◌^◌, ◌≤◌, min, Bool, true, false, List, [], ◌++◌, Option, Some, None, is_some, option_map, IfSome, IfOk, OnOk, OnErr}
 use Rattle.std.specs.declared.result.Result.{Result}
-use Rattle.std.specs.declared.result.Result.TheVariants.{Ok, Err}
+use Rattle.std.specs.declared.result.Result.TheVariants.{Err}
 use Rattle.aeg_base.specs.declared.names.Tier.{Tier}
 use Rattle.aeg_base.specs.declared.names.End.{End}
 use Rattle.aeg_disk.specs.Disk.{DiskState, Rose, Later}
@@ -65,19 +65,23 @@ pub record Wrote (before after : DiskState) (place_before place_after : ℕ) (fa
 -- The facts may have been written down or not, and a stop that was armed and met tells which.
 pub record MayHaveWritten (before after : DiskState) (place : ℕ) (facts : List Fact) : Type 0 where
   pub one_of_two : (rs : List (List Fact)) → before.tells ≡ true → HasFacts rs before place → StandsFor (old_or_new rs facts) after
-  pub stop : before.stopped ≡ false → after.stopped ≡ true → (rs : List (List Fact)) → before.tells ≡ true → HasFacts rs before place → IsCut rs facts before after
+  pub stop : before.stopped ≡ false → after.stopped ≡ true → (rs : List (List Fact)) → before.tells ≡ true → HasFacts rs before place
+      → IsCut rs facts before after
 
 -- Why an event has a fault: the journal would pass its limit, and nothing was written; the disk failed as the facts were
 -- written; or memory ran out.
 abbrev pub HasCause : DiskState → DiskState → ℕ → List Fact → Fault → Type 0
-HasCause before after place facts (faults.JournalFull size) = (is_past (place + 1) facts ≡ true) × (size ≡ min (length_with (place + 1) facts) (2 ^ 64 - 1)) × (after ≡ before)
-HasCause before after place facts faults.Disk = (is_past (place + 1) facts ≡ false) × (writes facts ≡ true) × ((after.stopped ≡ true) ⊎ Rose before.faults after.faults)
+HasCause before after place facts (faults.JournalFull size) = (is_past (place + 1) facts ≡ true)
+    × (size ≡ min (length_with (place + 1) facts) (2 ^ 64 - 1)) × (after ≡ before)
+HasCause before after place facts faults.Disk = (is_past (place + 1) facts ≡ false) × (writes facts ≡ true)
+    × ((after.stopped ≡ true) ⊎ Rose before.faults after.faults)
 HasCause before after place facts faults.Memory = Unit {0}
 HasCause before after place facts (faults.BadRecord at) = ⊥
 
 -- A call of a node that is up makes the row's move, and its facts are written down before anything is handed out. After a
 -- fault the node is down, hands out nothing, and its disk has the old records, or these and the move's one.
-pub record Moves {S : Type 0} (old new : View S) (disk_before disk_after : DiskState) (before after : List (End × List ℕ)) (row : S → Move S) (result : Result Answer Fault) : Type 0 where
+pub record Moves {S : Type 0} (old new : View S) (disk_before disk_after : DiskState) (before after : List (End × List ℕ)) (row : S → Move S)
+    (result : Result Answer Fault) : Type 0 where
   pub made : IfOk result (λ answer. IfSome old.up (λ s. Made old new before after (row s) answer))
   pub wrote : OnOk result (IfSome old.up (λ s. Wrote disk_before disk_after old.place new.place (row s).facts))
   pub down : OnErr result (new ≡ went_down old)
@@ -107,7 +111,8 @@ pub record Restarts {S : Type 0} (old new : View S) (before after : DiskState) (
   -- where it tells, from the facts of the records that it has
   pub reads : OnOk result (before.tells ≡ true → (facts : List Fact) × Opened old.tier before after facts new.place × CameUp old new recovered facts)
   -- where it stands for lists of records that fit, from one of them, which it has then
-  pub one_list : OnOk result ((lists : List (List (List Fact))) → StandsFor lists before → EachFits old.tier lists → (facts : List Fact) × ReadsOne lists after facts new.place × CameUp old new recovered facts)
+  pub one_list : OnOk result ((lists : List (List (List Fact))) → StandsFor lists before → EachFits old.tier lists
+      → (facts : List Fact) × ReadsOne lists after facts new.place × CameUp old new recovered facts)
   -- a disk without a bad record is never refused, and one with it is refused there
   pub whole : OnOk result (before.tells ≡ true → (at : ℕ) → IsRefusedAt old.tier at before.bytes → ⊥)
   pub refused : (at : ℕ) → result ≡ Err (faults.BadRecord at) → before.tells ≡ true → IsRefusedAt old.tier at before.bytes

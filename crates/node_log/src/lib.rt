@@ -15,7 +15,7 @@ mod working;
 pub use answers::{answer_of, needs_own, offer_cause};
 pub use decided::{Decided, decide_turn};
 pub use facts::facts_of;
-pub use laws::{log_turns, moves, restarts};
+pub use laws::{log_turns, moves, restarts, tells};
 pub use log_node::LogNode;
 pub use restoring::restored;
 pub use sending::{send_asks, send_log, send_one, send_to_tier};

@@ -106,7 +106,8 @@ impl<R: Drop> LogNode<R> {
 
     /// The index of another end, where it is a node of the same tier.
     pub fn peer(&self, from: End) -> Option<u8>
-        ensures { MatchOption result (is_node_of self.now.faults self.now.tier from ≡ false) (λ index. (is_node_of self.now.faults self.now.tier from ≡ true) × ((index ≡ end_index from) × (index < 2 * self.now.faults + 1))) }
+        ensures { MatchOption result (is_node_of self.now.faults self.now.tier from ≡ false)
+            (λ index. (is_node_of self.now.faults self.now.tier from ≡ true) × ((index ≡ end_index from) × (index < 2 * self.now.faults + 1))) }
     {
         match from {
             End::Client(_) => None,

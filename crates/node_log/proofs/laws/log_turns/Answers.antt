@@ -1,4 +1,4 @@
-use Rattle.node_log.proofs.Turns.{received, placed, message_turn, lead_turn, offer_turn, turn_sends, turn_recorded}
+use Rattle.node_log.proofs.Turns.{received, placed, message_turn, lead_turn, offer_turn, turn_sends, turn_recorded, own_after}
 use Rattle.node_log.proofs.laws.log_turns.Goals as goal
 
 pub returns-clause-received : goal.returns-clause-received
@@ -21,3 +21,6 @@ returns-clause-sends c = turn_sends
 
 pub returns-clause-recorded : goal.returns-clause-recorded
 returns-clause-recorded c = turn_recorded
+
+pub returns-clause-own : goal.returns-clause-own
+returns-clause-own c = own_after
