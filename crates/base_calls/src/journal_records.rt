@@ -107,20 +107,19 @@ const STOPS: [Stop; 11] = [
     (5, false, false, 1),
 ];
 
-fn stops_so<D: Device>(alloc: Global, disk: &mut D, stop: Stop) -> Result<bool, Fail> {
+fn stops_so<D: Device + Drop>(alloc: Global, mut disk: D, stop: Stop) -> Result<bool, Fail> {
     let (nth, keep, met, records) = stop;
     let body = promised(alloc)?;
-    Ok(stopped(alloc, disk, &body, nth, keep)? == (met, records))
+    Ok(stopped(alloc, &mut disk, &body, nth, keep)? == (met, records))
 }
 
 #[test]
 fn what_a_stop_leaves_of_an_append(rt: HostRuntime) -> Result<(), Fail> {
     let alloc = rt.alloc();
     for stop in STOPS {
-        let mut disk = MemDisk::new(alloc, Vec::new(alloc));
-        assert!(rt; stops_so(alloc, &mut disk, stop)?, "call {}", stop.0);
-        let mut sure = SureDisk::new(alloc);
-        assert!(rt; stops_so(alloc, &mut sure, stop)?, "call {}", stop.0);
+        let memory = stops_so(alloc, MemDisk::new(alloc, Vec::new(alloc)), stop)?;
+        let sure = stops_so(alloc, SureDisk::new(alloc), stop)?;
+        assert!(rt; memory && sure, "call {}", stop.0);
     }
     Ok(())
 }

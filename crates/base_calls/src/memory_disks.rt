@@ -98,8 +98,8 @@ fn leaves<D: Device>(alloc: Global, disk: &mut D, stop: Stop) -> Result<bool, Fa
 }
 
 /// Whether the stop leaves that, and the disk is blank once it is erased.
-fn stops_so<D: Device>(alloc: Global, disk: &mut D, stop: Stop) -> Result<bool, Fail> {
-    let stops = leaves(alloc, disk, stop)?;
+fn stops_so<D: Device + Drop>(alloc: Global, mut disk: D, stop: Stop) -> Result<bool, Fail> {
+    let stops = leaves(alloc, &mut disk, stop)?;
     disk.erase();
     Ok(stops && disk.len()? == 0)
 }
@@ -108,10 +108,9 @@ fn stops_so<D: Device>(alloc: Global, disk: &mut D, stop: Stop) -> Result<bool, 
 fn a_stop_keeps_all_or_drops_what_no_sync_kept(rt: HostRuntime) -> Result<(), Fail> {
     let alloc = rt.alloc();
     for stop in STOPS {
-        let mut disk = MemDisk::new(alloc, Vec::new(alloc));
-        assert!(rt; stops_so(alloc, &mut disk, stop)?, "at {}", stop.0);
-        let mut sure = SureDisk::new(alloc);
-        assert!(rt; stops_so(alloc, &mut sure, stop)?, "at {}", stop.0);
+        let memory = stops_so(alloc, MemDisk::new(alloc, Vec::new(alloc)), stop)?;
+        let sure = stops_so(alloc, SureDisk::new(alloc), stop)?;
+        assert!(rt; memory && sure, "at {}", stop.0);
     }
     Ok(())
 }
