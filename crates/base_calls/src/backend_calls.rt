@@ -1,5 +1,5 @@
 // Calls one after another, with their codes and what they leave.
-use aeg_base::Bytes;
+use crate::texts::bytes_of;
 use backend_svc::{Inventory, Payment};
 use std::alloc::Global;
 use std::process::Abort;
@@ -7,7 +7,7 @@ use std::test::Fail;
 use svc_api::Backend;
 
 fn apply<B: Backend>(alloc: Global, backend: &mut B, call: &str) -> Result<u8, Fail> {
-    let call = Bytes::of(String::from_str(alloc, call)?.into_bytes());
+    let call = bytes_of(alloc, call)?;
     Ok(backend.apply(&call)?)
 }
 
@@ -45,7 +45,7 @@ fn takes_seats(
 ) -> Result<(), Fail> {
     let (call, code, taken) = *row;
     let told = (apply(alloc, inventory, call)?, inventory.taken(1));
-    assert_eq!(rt; told, (code, taken), "{call}");
+    assert!(rt; told == (code, taken), "{call}");
     Ok(())
 }
 
@@ -53,7 +53,7 @@ fn takes_seats(
 fn spends(rt: &impl Abort, alloc: Global, payment: &mut Payment, row: &Row) -> Result<(), Fail> {
     let (call, code, spent) = *row;
     let told = (apply(alloc, payment, call)?, payment.spent(1));
-    assert_eq!(rt; told, (code, spent), "{call}");
+    assert!(rt; told == (code, spent), "{call}");
     Ok(())
 }
 
@@ -78,13 +78,13 @@ fn after_money(rt: &impl Abort, alloc: Global) -> Result<Payment, Fail> {
 #[test]
 fn seats_of_a_trip(rt: HostRuntime) -> Result<(), Fail> {
     let fresh = after_seats(&rt, rt.alloc())?.blank()?;
-    assert_eq!(rt; fresh.taken(1), 0);
+    assert!(rt; fresh.taken(1) == 0);
     Ok(())
 }
 
 #[test]
 fn money_of_a_client(rt: HostRuntime) -> Result<(), Fail> {
     let fresh = after_money(&rt, rt.alloc())?.blank()?;
-    assert_eq!(rt; fresh.spent(1), 0);
+    assert!(rt; fresh.spent(1) == 0);
     Ok(())
 }

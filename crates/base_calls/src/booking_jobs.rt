@@ -4,8 +4,9 @@ ghost use Rattle.std.specs.List.{All};
 ghost use Rattle.exec_core.specs.Jobs.{BeginsWell};
 ghost use Rattle.rollback.specs.Runs.{AreNumbers};
 
-use aeg_base::{Bytes, ReqId, Seq};
-use exec_core::{Job, Ran, Seg, run_by};
+use crate::texts::bytes_of;
+use aeg_base::{ReqId, Seq};
+use exec_core::{Exec, Job, Ran, Seg, run_by};
 use kv_store::Store;
 use std::alloc::Global;
 use std::test::Fail;
@@ -24,6 +25,17 @@ pub const LINKED: [Ask; 3] = [
 /// Both want that seat, whose lock they don't declare.
 pub const BOOKS: [Ask; 2] = [(1, 2, "book 1 1"), (2, 2, "book 2 1")];
 
+/// A schedule, as segments with the numbers of their turns.
+pub type Turns = &'static [(u8, usize)];
+
+/// The first booking runs to its end and gets the seat: it makes 13 steps, and the one that finds it gone 7.
+pub const FIRST_WINS: Turns = &[(0, 13), (1, 7)];
+
+pub const SECOND_WINS: Turns = &[(1, 13), (0, 7)];
+
+/// Both bookings find a lock held.
+pub const BOTH_HELD: Turns = &[(0, 6), (1, 6)];
+
 /// Two clients open one trip.
 pub const SAME_TRIP: [Ask; 2] = [(1, 1, "open 1 5 10 0"), (2, 1, "open 1 5 10 0")];
 
@@ -35,7 +47,7 @@ fn segment<S: Service>(alloc: Global, svc: &S, ask: Ask) -> Result<Seg, Fail>
         return Err("a number out of range".into());
     }
     let who = ReqId { client, seq };
-    let body = Bytes::of(String::from_str(alloc, text)?.into_bytes());
+    let body = bytes_of(alloc, text)?;
     if svc.begin(who, &body, 0)?.is_none() {
         return Err("no request".into());
     }
@@ -63,7 +75,7 @@ pub fn job_of<S: Service>(alloc: Global, svc: &S, asks: &[Ask]) -> Result<Job, F
 }
 
 /// A schedule of segments, each so many times.
-pub fn schedule(alloc: Global, items: &[(u8, usize)]) -> Result<Vec<u8>, Fail> {
+pub fn schedule(alloc: Global, items: Turns) -> Result<Vec<u8>, Fail> {
     let mut schedule = Vec::new(alloc);
     for &(seg, count) in items {
         schedule.extend_from_slice(&vec![in alloc; seg; count]?)?;
@@ -75,7 +87,7 @@ pub fn run_asks<S: Service>(
     alloc: Global,
     svc: &S,
     asks: &[Ask],
-    items: &[(u8, usize)],
+    items: Turns,
     store: &mut Store,
 ) -> Result<Ran, Fail>
     requires few { length asks.now ≤ 32 }
@@ -101,6 +113,20 @@ pub fn linked<S: Service>(alloc: Global, svc: &S) -> Result<Store, Fail>
     let mut store = blank(alloc);
     run_asks(alloc, svc, &LINKED, &[], &mut store)?;
     Ok(store)
+}
+
+/// Runs a job on a store that is let go.
+pub fn run_on_blank<S: Service, E: Exec<S>>(
+    alloc: Global,
+    exec: &mut E,
+    svc: &S,
+    asks: &[Ask],
+) -> Result<Ran, Fail>
+    requires { length asks.now ≤ 32 }
+{
+    let job = job_of(alloc, svc, asks)?;
+    let ran = exec.run(svc, &job, &mut blank(alloc))?;
+    Ok(ran)
 }
 
 pub fn are_same(a: &Store, b: &Store) -> Result<bool, Fail> {

@@ -1,5 +1,6 @@
 // The actions of each segment, and the rules that texts break.
-use aeg_base::{Bytes, Key, ReqId, Tier};
+use crate::texts::bytes_of;
+use aeg_base::{Bytes, Key, LockSet, ReqId, Tier};
 use booking::{BadRequest, BookProg, Booking, read_request};
 use std::alloc::Global;
 use std::process::Abort;
@@ -265,7 +266,7 @@ fn tell_all(
 /// The program of the text at the stage, where it is a request that goes on there.
 fn begun(alloc: Global, text: &str, stage: u8) -> Result<Option<BookProg>, Fail> {
     let who = ReqId { client: 1, seq: 2 };
-    let body = Bytes::of(String::from_str(alloc, text)?.into_bytes());
+    let body = bytes_of(alloc, text)?;
     let prog = Booking::new(alloc).begin(who, &body, stage)?;
     Ok(prog)
 }
@@ -279,16 +280,15 @@ fn actions(alloc: Global, row: &Row) -> Result<Bytes, Fail> {
     Ok(told)
 }
 
-fn has_actions(rt: &impl Abort, alloc: Global, row: &Row) -> Result<(), Fail> {
+fn has_actions(alloc: Global, row: &Row) -> Result<bool, Fail> {
     let told = actions(alloc, row)?;
-    assert_eq!(rt; told.items(), row.4.as_bytes());
-    Ok(())
+    Ok(told.items() == row.4.as_bytes())
 }
 
 #[test]
 fn actions_of_segments(rt: HostRuntime) -> Result<(), Fail> {
     for row in &ROWS {
-        has_actions(&rt, rt.alloc(), row)?;
+        assert!(rt; has_actions(rt.alloc(), row)?, "{} at {}", row.0, row.1);
     }
     Ok(())
 }
@@ -317,19 +317,19 @@ const LOCKING: [(&str, &str, bool); 5] = [
     ("book 1 2", "look 18", false),
 ];
 
-/// Whether the first segments of two requests share a lock; none where a text is no request.
-fn share_a_lock(alloc: Global, one: &str, other: &str) -> Result<Option<bool>, Fail> {
-    let (Some(one), Some(other)) = (begun(alloc, one, 0)?, begun(alloc, other, 0)?) else {
-        return Ok(None);
-    };
-    Ok(Some(one.declared().meets(&other.declared())))
+/// The locks that the first segment of a request declares.
+fn locks_of(alloc: Global, text: &str) -> Result<LockSet, Fail> {
+    match begun(alloc, text, 0)? {
+        Some(prog) => Ok(prog.declared()),
+        None => Err("no request".into()),
+    }
 }
 
 #[test]
 fn locks_of_segments(rt: HostRuntime) -> Result<(), Fail> {
     for (one, other, share) in &LOCKING {
-        let shared = share_a_lock(rt.alloc(), one, other)?;
-        assert_eq!(rt; shared, Some(*share), "{one} and {other}");
+        let shared = locks_of(rt.alloc(), one)?.meets(&locks_of(rt.alloc(), other)?);
+        assert!(rt; shared == *share, "{one} and {other}");
     }
     Ok(())
 }

@@ -10,19 +10,20 @@ use node_journal::{AppendErr, Journal, OpenErr, open_on};
 use std::alloc::Global;
 use std::test::Fail;
 
-// A promise of ballot (1, 0).
+/// A promise of ballot (1, 0).
+const PROMISE: [u8; 6] = [1, 0, 0, 0, 1, 0];
+
 fn promised(alloc: Global) -> Result<Bytes, Memory>
     ensures { IfOk result (λ b. length b ≡ 6) }
 {
     Ok(Bytes::of(vec![in alloc; 1, 0, 0, 0, 1, 0]?))
 }
 
-// Opens a journal and adds a record.
-fn add_one<D: Disk>(
-    alloc: Global,
-    disk: &mut D,
-    body: &Bytes,
-) -> Result<Result<(), AppendErr>, OpenErr>
+/// What an opening comes to, and an append after it.
+type Added = Result<Result<(), AppendErr>, OpenErr>;
+
+/// Opens a journal and adds a record.
+fn add_one<D: Disk>(alloc: Global, disk: &mut D, body: &Bytes) -> Added
     requires filled { 0 < length body.now }
     requires short { length body.now ≤ RECORD_BYTES }
 {
@@ -30,13 +31,44 @@ fn add_one<D: Disk>(
     Ok(journal.append(disk, body))
 }
 
-// The number of records on a disk.
+/// Whether a promise that is added to a disk has this answer.
+fn answers<D: Disk>(alloc: Global, disk: &mut D, answer: Added) -> Result<bool, Fail> {
+    let body = promised(alloc)?;
+    Ok(add_one(alloc, disk, &body) == answer)
+}
+
+/// The number of records on a disk.
 fn count_records<D: Disk>(alloc: Global, disk: &mut D) -> Result<usize, OpenErr> {
     let (_journal, records) = open_on(alloc, disk)?;
     Ok(records.len())
 }
 
-// Whether a stop at this call of an append was met, and the number of records that it leaves.
+fn has_bytes<D: Disk>(alloc: Global, disk: &mut D, bytes: &[u8]) -> Result<bool, Fail> {
+    let all = contents(alloc, disk)?;
+    Ok(all.items() == bytes)
+}
+
+fn is_one_promise(records: &[Bytes]) -> bool {
+    records.len() == 1 && records[0].items() == PROMISE.as_slice()
+}
+
+/// Whether a journal ends at this place and has one record, the promise.
+fn has_promise<D: Disk>(alloc: Global, disk: &mut D, place: u64) -> Result<bool, Fail> {
+    let (journal, records) = open_on(alloc, disk)?;
+    Ok(journal.place() == place && is_one_promise(&records))
+}
+
+#[test]
+fn a_journal_with_one_promise(rt: HostRuntime) -> Result<(), Fail> {
+    let alloc = rt.alloc();
+    let mut disk = SureDisk::new(alloc);
+    assert!(rt; answers(alloc, &mut disk, Ok(Ok(())))?);
+    assert!(rt; has_bytes(alloc, &mut disk, &[1, 0, 0, 0, 6, 1, 0, 0, 0, 1, 0, 0])?);
+    assert!(rt; has_promise(alloc, &mut disk, 11)?);
+    Ok(())
+}
+
+/// Whether a stop at this call of an append was met, and the number of records that it leaves.
 fn stopped<D: Device>(
     alloc: Global,
     disk: &mut D,
@@ -57,7 +89,146 @@ fn stopped<D: Device>(
     Ok((was, count_records(alloc, disk)?))
 }
 
-// Adds a record so many times.
+/// The call of an append that is to stop, whether what was written by then is kept, whether the stop is met, and the
+/// number of records that it leaves.
+type Stop = (u8, bool, bool, usize);
+
+const STOPS: [Stop; 11] = [
+    (0, true, false, 1),
+    (1, true, true, 0),
+    (2, true, true, 0),
+    (3, true, true, 1),
+    (4, true, true, 1),
+    (5, true, false, 1),
+    (1, false, true, 0),
+    (2, false, true, 0),
+    (3, false, true, 0),
+    (4, false, true, 0),
+    (5, false, false, 1),
+];
+
+fn stops_so<D: Device + Drop>(alloc: Global, mut disk: D, stop: Stop) -> Result<bool, Fail> {
+    let (nth, keep, met, records) = stop;
+    let body = promised(alloc)?;
+    Ok(stopped(alloc, &mut disk, &body, nth, keep)? == (met, records))
+}
+
+#[test]
+fn what_a_stop_leaves_of_an_append(rt: HostRuntime) -> Result<(), Fail> {
+    let alloc = rt.alloc();
+    for stop in STOPS {
+        let memory = stops_so(alloc, MemDisk::new(alloc, Vec::new(alloc)), stop)?;
+        let sure = stops_so(alloc, SureDisk::new(alloc), stop)?;
+        assert!(rt; memory && sure, "call {}", stop.0);
+    }
+    Ok(())
+}
+
+const IN_OPENING: Added = Err(OpenErr::Disk);
+
+const IN_APPEND: Added = Ok(Err(AppendErr::Disk));
+
+/// What a promise comes to where the disk's call with the row's number fails, and the number of records that are left.
+/// The last row's call isn't made.
+const FAILING: [(Added, usize); 9] = [
+    (IN_OPENING, 0),
+    (IN_OPENING, 0),
+    (IN_OPENING, 0),
+    (IN_OPENING, 0),
+    (IN_APPEND, 0),
+    (IN_APPEND, 0),
+    (IN_APPEND, 0),
+    (IN_APPEND, 1),
+    (Ok(Ok(())), 1),
+];
+
+/// Whether a promise comes to that where one call fails.
+fn one_call_fails_so(
+    alloc: Global,
+    call: u32,
+    answer: Added,
+    records: usize,
+) -> Result<bool, Fail> {
+    let mut disk = MemDisk::new(alloc, vec![in alloc; call]?);
+    if !answers(alloc, &mut disk, answer)? {
+        return Ok(false);
+    }
+    Ok(call == 8 || count_records(alloc, &mut disk)? == records)
+}
+
+/// Whether a promise comes to that where the call fails and all after it.
+fn further_calls_fail_so(
+    alloc: Global,
+    call: u32,
+    answer: Added,
+    records: usize,
+) -> Result<bool, Fail> {
+    let mut fuse = FuseDisk::new(SureDisk::new(alloc), call);
+    let answered = answers(alloc, &mut fuse, answer)?;
+    let mut sure = fuse.into_disk();
+    Ok(answered && count_records(alloc, &mut sure)? == records)
+}
+
+#[test]
+fn what_a_failing_call_leaves(rt: HostRuntime) -> Result<(), Fail> {
+    let alloc = rt.alloc();
+    for call in 0..9u32 {
+        let (answer, records) = FAILING[call as usize];
+        assert!(rt;
+            one_call_fails_so(alloc, call, answer, records)?,
+            "call {call} fails"
+        );
+        assert!(rt;
+            further_calls_fail_so(alloc, call, answer, records)?,
+            "{call} calls pass"
+        );
+    }
+    Ok(())
+}
+
+/// The bytes of a disk, and the number of its records or why they are none.
+const OPENINGS: [(&[u8], Result<usize, OpenErr>); 9] = [
+    (&[1], Ok(0)),
+    (&[2, 1], Ok(0)),
+    (&[1, 0], Err(OpenErr::BadRecord { at: 0 })),
+    (&[1, 0, 0, 0, 0, 0], Err(OpenErr::BadRecord { at: 0 })),
+    (&[1, 0, 0, 0, 1, 9], Err(OpenErr::BadRecord { at: 0 })),
+    (&[1, 0, 0, 0, 1, 9, 0], Ok(1)),
+    (&[1, 0, 0, 0, 1, 9, 3, 1], Ok(1)),
+    (&[1, 0, 0, 0, 1, 9, 1], Err(OpenErr::BadRecord { at: 6 })),
+    (&[1, 0, 0, 0, 1, 9, 1, 0, 0, 0, 2, 8, 7, 0], Ok(2)),
+];
+
+fn opens_so(alloc: Global, bytes: &[u8], answer: Result<usize, OpenErr>) -> Result<bool, Fail> {
+    let mut disk = SureDisk::new(alloc);
+    disk.write_at(0, bytes)?;
+    Ok(count_records(alloc, &mut disk) == answer)
+}
+
+#[test]
+fn what_opening_refuses(rt: HostRuntime) -> Result<(), Fail> {
+    for (bytes, answer) in OPENINGS {
+        assert!(rt; opens_so(rt.alloc(), bytes, answer)?, "bytes {bytes:?}");
+    }
+    Ok(())
+}
+
+/// The journal of a disk.
+fn opened<D: Disk>(alloc: Global, disk: &mut D) -> Result<Journal, OpenErr>
+    ensures { IfOk result (λ journal. (D.state disk.new).tells ≡ true → IsReady (D.state disk.new) journal) }
+{
+    let (journal, _records) = open_on(alloc, disk)?;
+    Ok(journal)
+}
+
+/// So many bytes 7.
+fn sevens(alloc: Global, count: usize) -> Result<Bytes, Memory>
+    ensures { IfOk result (λ b. length b ≡ count) }
+{
+    Ok(Bytes::of(vec![in alloc; 7; count]?))
+}
+
+/// Adds a record so many times.
 fn fill<D: Disk>(
     journal: &mut Journal,
     disk: &mut D,
@@ -75,7 +246,25 @@ fn fill<D: Disk>(
     Ok(())
 }
 
-// The length at which a record is refused.
+/// Adds a record of so many bytes, so many times.
+fn fill_with<D: Disk>(
+    alloc: Global,
+    journal: &mut Journal,
+    disk: &mut D,
+    count: usize,
+    times: u32,
+) -> Result<(), Fail>
+    requires filled { 0 < count }
+    requires short { count ≤ RECORD_BYTES }
+    requires settled { (D.state disk.old).tells ≡ true → IsReady (D.state disk.old) journal.old }
+    ensures settled { OnOk result ((D.state disk.new).tells ≡ true → IsReady (D.state disk.new) journal.new) }
+{
+    let body = sevens(alloc, count)?;
+    fill(journal, disk, &body, times)?;
+    Ok(())
+}
+
+/// The length at which a record is refused.
 fn refused_at<D: Disk>(
     journal: &mut Journal,
     disk: &mut D,
@@ -95,144 +284,32 @@ fn refused_at<D: Disk>(
     }
 }
 
-// So many bytes 7.
-fn sevens(alloc: Global, count: usize) -> Result<Bytes, Memory>
-    ensures { IfOk result (λ b. length b ≡ count) }
+/// The length at which a record of so many bytes is refused.
+fn refused_with<D: Disk>(
+    alloc: Global,
+    journal: &mut Journal,
+    disk: &mut D,
+    count: usize,
+) -> Result<u64, Fail>
+    requires filled { 0 < count }
+    requires short { count ≤ RECORD_BYTES }
+    requires settled { (D.state disk.old).tells ≡ true → IsReady (D.state disk.old) journal.old }
+    ensures { OnOk result ((D.state disk.new).tells ≡ true → IsReady (D.state disk.new) journal.new) }
 {
-    Ok(Bytes::of(vec![in alloc; 7; count]?))
+    let body = sevens(alloc, count)?;
+    let len = refused_at(journal, disk, &body)?;
+    Ok(len)
 }
 
-// The length after 4,094 of the longest records, those at which two more are refused, and the length after a last one.
+/// The length after 4,094 of the longest records, those at which two more are refused, and the length after a last one.
 fn fill_up<D: Disk>(alloc: Global, disk: &mut D) -> Result<[u64; 4], Fail> {
-    let (mut journal, _records) = open_on(alloc, disk)?;
-    let longest = sevens(alloc, 16_384)?;
-    fill(&mut journal, disk, &longest, 4_094)?;
+    let mut journal = opened(alloc, disk)?;
+    fill_with(alloc, &mut journal, disk, 16_384, 4_094)?;
     let filled = disk.len()?;
-    let far = refused_at(&mut journal, disk, &longest)?;
-    let near = refused_at(&mut journal, disk, &sevens(alloc, 12_293)?)?;
-    journal.append(disk, &sevens(alloc, 12_292)?)?;
+    let far = refused_with(alloc, &mut journal, disk, 16_384)?;
+    let near = refused_with(alloc, &mut journal, disk, 12_293)?;
+    fill_with(alloc, &mut journal, disk, 12_292, 1)?;
     Ok([filled, far, near, disk.len()?])
-}
-
-#[test]
-fn a_journal_with_one_promise(rt: HostRuntime) -> Result<(), Fail> {
-    let alloc = rt.alloc();
-    let mut disk = SureDisk::new(alloc);
-    assert_eq!(rt; add_one(alloc, &mut disk, &promised(alloc)?), Ok(Ok(())));
-    let bytes = contents(alloc, &mut disk)?;
-    assert_eq!(rt;
-        bytes.items(),
-        [1, 0, 0, 0, 6, 1, 0, 0, 0, 1, 0, 0].as_slice()
-    );
-    let (journal, records) = open_on(alloc, &mut disk)?;
-    assert_eq!(rt; journal.place(), 11);
-    assert_eq!(rt; records.len(), 1);
-    assert!(rt; records[0] == promised(alloc)?);
-    Ok(())
-}
-
-#[test]
-fn what_a_stop_leaves_of_an_append(rt: HostRuntime) -> Result<(), Fail> {
-    let alloc = rt.alloc();
-    let body = promised(alloc)?;
-    let table = [
-        (0u8, true, false, 1usize),
-        (1, true, true, 0),
-        (2, true, true, 0),
-        (3, true, true, 1),
-        (4, true, true, 1),
-        (5, true, false, 1),
-        (1, false, true, 0),
-        (2, false, true, 0),
-        (3, false, true, 0),
-        (4, false, true, 0),
-        (5, false, false, 1),
-    ];
-    for (nth, keep, met, records) in table {
-        let mut disk = MemDisk::new(alloc, Vec::new(alloc));
-        assert_eq!(rt;
-            stopped(alloc, &mut disk, &body, nth, keep)?,
-            (met, records),
-            "call {nth}"
-        );
-        let mut sure = SureDisk::new(alloc);
-        assert_eq!(rt;
-            stopped(alloc, &mut sure, &body, nth, keep)?,
-            (met, records),
-            "call {nth}"
-        );
-    }
-    Ok(())
-}
-
-#[test]
-fn what_a_failing_call_leaves(rt: HostRuntime) -> Result<(), Fail> {
-    let alloc = rt.alloc();
-    let body = promised(alloc)?;
-    let in_opening = Err(OpenErr::Disk);
-    let in_append = Ok(Err(AppendErr::Disk));
-    let table = [
-        (in_opening, 0usize),
-        (in_opening, 0),
-        (in_opening, 0),
-        (in_opening, 0),
-        (in_append, 0),
-        (in_append, 0),
-        (in_append, 0),
-        (in_append, 1),
-        (Ok(Ok(())), 1),
-    ];
-    for call in 0..9u32 {
-        let (answer, records) = table[call as usize];
-        let mut disk = MemDisk::new(alloc, vec![in alloc; call]?);
-        assert_eq!(rt;
-            add_one(alloc, &mut disk, &body),
-            answer,
-            "call {call} fails"
-        );
-        let mut fuse = FuseDisk::new(SureDisk::new(alloc), call);
-        assert_eq!(rt;
-            add_one(alloc, &mut fuse, &body),
-            answer,
-            "{call} calls pass"
-        );
-        let mut sure = fuse.into_disk();
-        assert_eq!(rt;
-            count_records(alloc, &mut sure)?,
-            records,
-            "{call} calls passed"
-        );
-        if call < 8 {
-            assert_eq!(rt;
-                count_records(alloc, &mut disk)?,
-                records,
-                "call {call} failed"
-            );
-        }
-    }
-    Ok(())
-}
-
-#[test]
-fn what_opening_refuses(rt: HostRuntime) -> Result<(), Fail> {
-    let alloc = rt.alloc();
-    let table = [
-        ([1u8].as_slice(), Ok(0usize)),
-        (&[2, 1], Ok(0)),
-        (&[1, 0], Err(OpenErr::BadRecord { at: 0 })),
-        (&[1, 0, 0, 0, 0, 0], Err(OpenErr::BadRecord { at: 0 })),
-        (&[1, 0, 0, 0, 1, 9], Err(OpenErr::BadRecord { at: 0 })),
-        (&[1, 0, 0, 0, 1, 9, 0], Ok(1)),
-        (&[1, 0, 0, 0, 1, 9, 3, 1], Ok(1)),
-        (&[1, 0, 0, 0, 1, 9, 1], Err(OpenErr::BadRecord { at: 6 })),
-        (&[1, 0, 0, 0, 1, 9, 1, 0, 0, 0, 2, 8, 7, 0], Ok(2)),
-    ];
-    for (bytes, answer) in table {
-        let mut disk = SureDisk::new(alloc);
-        disk.write_at(0, bytes)?;
-        assert_eq!(rt; count_records(alloc, &mut disk), answer, "bytes {bytes:?}");
-    }
-    Ok(())
 }
 
 #[test]
@@ -240,6 +317,6 @@ fn a_journal_up_to_its_limit(rt: HostRuntime) -> Result<(), Fail> {
     let alloc = rt.alloc();
     let mut disk = MemDisk::new(alloc, Vec::new(alloc));
     let lengths = fill_up(alloc, &mut disk)?;
-    assert_eq!(rt; lengths, [67_096_567, 67_112_956, 67_108_865, 67_108_864]);
+    assert!(rt; lengths == [67_096_567, 67_112_956, 67_108_865, 67_108_864]);
     Ok(())
 }

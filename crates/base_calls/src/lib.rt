@@ -45,6 +45,8 @@ mod store_puts;
 #[cfg(test)]
 mod streams;
 #[cfg(test)]
+mod texts;
+#[cfg(test)]
 mod threaded_jobs;
 #[cfg(test)]
 mod wire_fields;

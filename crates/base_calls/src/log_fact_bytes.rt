@@ -4,7 +4,6 @@ ghost use Rattle.log_values.specs.Records.{FitsFact, FitsRecord};
 use aeg_base::Bytes;
 use log_values::{Fact, Record};
 use std::alloc::Global;
-use std::process::Abort;
 use std::test::*;
 
 /// The record that promises ballot (1, 0), as it stands in a journal.
@@ -25,30 +24,33 @@ const EACH_FACT: [&[u8]; 4] = [
     b"\x04\x01\x00\x00\x00\x01\x00",
 ];
 
-/// Checks that the record is written as these bytes.
-fn is_kept(rt: &impl Abort, alloc: Global, kept: &Record, bytes: &[u8]) -> Result<(), Fail>
+/// Whether the record is written as these bytes.
+fn is_kept(alloc: Global, kept: &Record, bytes: &[u8]) -> Result<bool, Fail>
     requires { FitsRecord kept.now }
 {
     let mut out = Bytes::new(alloc);
     kept.encode(&mut out)?;
-    assert_eq!(rt; out.items(), bytes);
-    Ok(())
+    Ok(out.items() == bytes)
 }
 
-/// Checks that the bytes are a record of so many facts, which is written so.
-fn is_record(rt: &impl Abort, alloc: Global, bytes: &[u8], count: usize) -> Result<(), Fail> {
+/// Whether the bytes are a record of so many facts, which is written so.
+fn is_record(alloc: Global, bytes: &[u8], count: usize) -> Result<bool, Fail> {
     let Some(record) = Record::decode(alloc, bytes)? else {
         return Err("a record".into());
     };
-    assert_eq!(rt; record.facts().len(), count);
-    is_kept(rt, alloc, &record, bytes)
+    Ok(record.facts().len() == count && is_kept(alloc, &record, bytes)?)
+}
+
+fn is_no_record(alloc: Global, bytes: &[u8]) -> Result<bool, Fail> {
+    let record = Record::decode(alloc, bytes)?;
+    Ok(record.is_none())
 }
 
 #[test]
 fn a_record_is_read_and_written(rt: HostRuntime) -> Result<(), Fail> {
-    is_record(&rt, rt.alloc(), &PROMISE, 1)?;
-    is_record(&rt, rt.alloc(), FACTS, 4)?;
-    assert!(rt; Record::decode(rt.alloc(), &[])?.is_none());
+    assert!(rt; is_record(rt.alloc(), &PROMISE, 1)?);
+    assert!(rt; is_record(rt.alloc(), FACTS, 4)?);
+    assert!(rt; is_no_record(rt.alloc(), &[])?);
     Ok(())
 }
 
@@ -62,31 +64,34 @@ fn place_of(fact: &Fact) -> usize {
     }
 }
 
-/// Checks that the fact is written as these bytes.
-fn is_fact_written(rt: &impl Abort, alloc: Global, fact: &Fact, bytes: &[u8]) -> Result<(), Fail>
+/// Whether the fact is written as these bytes.
+fn is_fact_written(alloc: Global, fact: &Fact, bytes: &[u8]) -> Result<bool, Fail>
     requires { FitsFact fact.now }
 {
     let mut out = Bytes::new(alloc);
     fact.encode(&mut out)?;
-    assert_eq!(rt; out.items(), bytes);
-    Ok(())
+    Ok(out.items() == bytes)
 }
 
-/// Checks that the bytes are a fact of this kind, which is written so.
-fn is_fact(rt: &impl Abort, alloc: Global, bytes: &[u8], place: usize) -> Result<(), Fail> {
+/// Whether the bytes are a fact of this kind, which is written so.
+fn is_fact(alloc: Global, bytes: &[u8], place: usize) -> Result<bool, Fail> {
     let Some(fact) = Fact::decode(alloc, bytes)? else {
         return Err("a fact".into());
     };
-    assert_eq!(rt; place_of(&fact), place);
-    is_fact_written(rt, alloc, &fact, bytes)
+    Ok(place_of(&fact) == place && is_fact_written(alloc, &fact, bytes)?)
+}
+
+fn is_no_fact(alloc: Global, bytes: &[u8]) -> Result<bool, Fail> {
+    let fact = Fact::decode(alloc, bytes)?;
+    Ok(fact.is_none())
 }
 
 #[test]
 fn each_fact_is_read_and_written(rt: HostRuntime) -> Result<(), Fail> {
     for place in 0..4 {
-        is_fact(&rt, rt.alloc(), EACH_FACT[place], place)?;
+        assert!(rt; is_fact(rt.alloc(), EACH_FACT[place], place)?);
     }
-    assert!(rt; Fact::decode(rt.alloc(), FACTS)?.is_none());
+    assert!(rt; is_no_fact(rt.alloc(), FACTS)?);
     Ok(())
 }
 
@@ -96,6 +101,6 @@ fn a_record_is_made_of_its_facts(rt: HostRuntime) -> Result<(), Fail> {
         return Err("a record".into());
     };
     let again = Record::of(record.into_facts());
-    assert_eq!(rt; again.facts().len(), 4);
+    assert!(rt; again.facts().len() == 4);
     Ok(())
 }

@@ -1,10 +1,10 @@
 // Values and tokens, as they stand in frames and journals.
+ghost use Rattle.log_values.specs.Outcomes.{FitsOutcome};
 ghost use Rattle.log_values.specs.Values.{FitsAny, FitsBack, FitsMid};
 
 use aeg_base::{Bytes, Key, Value};
 use log_values::{AnyValue, BackValue, MidValue, Token, Verdict, encode_outcome, read_outcome};
 use std::alloc::Global;
-use std::process::Abort;
 use std::test::*;
 use svc_api::Outcome;
 
@@ -45,151 +45,154 @@ const NO_VALUES: [&[u8]; 13] = [
     b"\x06",
 ];
 
-/// Checks that the value is written as these bytes.
-fn is_written(rt: &impl Abort, alloc: Global, value: &AnyValue, bytes: &[u8]) -> Result<(), Fail>
+/// Whether the value is written as these bytes.
+fn is_written(alloc: Global, value: &AnyValue, bytes: &[u8]) -> Result<bool, Fail>
     requires { FitsAny value.now }
 {
     let mut out = Bytes::new(alloc);
     value.encode(&mut out)?;
-    assert_eq!(rt; out.items(), bytes);
-    Ok(())
+    Ok(out.items() == bytes)
 }
 
-/// Checks that a copy is the same value, which is not to settle below 3.
-fn is_copied(rt: &impl Abort, value: &AnyValue) -> Result<(), Fail> {
+fn is_copied(value: &AnyValue) -> Result<bool, Fail> {
     let copy = value.copy()?;
-    assert!(rt; value.same(&copy));
-    assert!(rt; !value.same(&AnyValue::Back(BackValue::Settle { floor: 3 })));
-    Ok(())
+    Ok(value.same(&copy))
 }
 
-/// Checks that the bytes are a value, which is written so and copied.
-fn is_value(rt: &impl Abort, alloc: Global, bytes: &[u8]) -> Result<(), Fail> {
+/// Whether the value is to settle below 3.
+fn settles(value: &AnyValue) -> bool {
+    value.same(&AnyValue::Back(BackValue::Settle { floor: 3 }))
+}
+
+/// Whether the bytes are a value, which is written so and copied, and is not to settle below 3.
+fn is_value(alloc: Global, bytes: &[u8]) -> Result<bool, Fail> {
     let Some(value) = AnyValue::decode(alloc, bytes)? else {
         return Err("a value".into());
     };
-    is_written(rt, alloc, &value, bytes)?;
-    is_copied(rt, &value)
+    Ok(is_written(alloc, &value, bytes)? && is_copied(&value)? && !settles(&value))
 }
 
 #[test]
 fn each_value_is_read_written_and_copied(rt: HostRuntime) -> Result<(), Fail> {
     for bytes in &VALUES {
-        is_value(&rt, rt.alloc(), bytes)?;
+        assert!(rt; is_value(rt.alloc(), bytes)?);
     }
     Ok(())
 }
 
-fn is_no_value(rt: &impl Abort, alloc: Global, bytes: &[u8]) -> Result<(), Fail> {
-    assert!(rt; AnyValue::decode(alloc, bytes)?.is_none());
-    Ok(())
+fn is_no_value(alloc: Global, bytes: &[u8]) -> Result<bool, Fail> {
+    let value = AnyValue::decode(alloc, bytes)?;
+    Ok(value.is_none())
 }
 
 #[test]
 fn other_bytes_are_no_value(rt: HostRuntime) -> Result<(), Fail> {
     for bytes in &NO_VALUES {
-        is_no_value(&rt, rt.alloc(), bytes)?;
+        assert!(rt; is_no_value(rt.alloc(), bytes)?);
     }
     Ok(())
 }
 
-/// Checks the pairs and the number of ends.
-fn has(rt: &impl Abort, outcome: &Outcome, pairs: &[(Key, u64)], ends: usize) {
-    assert_eq!(rt; outcome.pairs.items(), pairs);
-    assert_eq!(rt; outcome.ends.items().len(), ends);
+/// Whether the outcome has these pairs, and so many ends.
+fn has(outcome: &Outcome, pairs: &[(Key, u64)], ends: usize) -> bool {
+    outcome.pairs.items() == pairs && outcome.ends.items().len() == ends
 }
 
-/// Checks that the token tells the pairs and so many ends, and is the outcome's token.
-fn tells(
-    rt: &impl Abort,
-    alloc: Global,
-    token: &Token,
-    pairs: &[(Key, u64)],
-    ends: usize,
-) -> Result<(), Fail> {
+/// Whether it is the outcome's token.
+fn is_spelt(alloc: Global, outcome: &Outcome, token: &Token) -> Result<bool, Fail>
+    requires { FitsOutcome outcome.now }
+{
+    let again = encode_outcome(alloc, outcome)?;
+    Ok(again.same(token))
+}
+
+/// Whether the token tells the pairs and so many ends, and is the outcome's token.
+fn tells(alloc: Global, token: &Token, pairs: &[(Key, u64)], ends: usize) -> Result<bool, Fail> {
     let Some(outcome) = read_outcome(alloc, token)? else {
         return Err("an outcome".into());
     };
-    has(rt, &outcome, pairs, ends);
-    let again = encode_outcome(alloc, &outcome)?;
-    assert!(rt; again.same(token));
-    Ok(())
+    Ok(has(&outcome, pairs, ends) && is_spelt(alloc, &outcome, token)?)
 }
 
 #[test]
 fn a_token_tells_the_outcome(rt: HostRuntime) -> Result<(), Fail> {
     let token = Token::of(Bytes::of(Vec::from_slice(rt.alloc(), OPENED)?));
-    tells(&rt, rt.alloc(), &token, &OPENED_PAIRS, 1)
+    assert!(rt; tells(rt.alloc(), &token, &OPENED_PAIRS, 1)?);
+    Ok(())
 }
 
-/// Checks that the value of a middle log is written as these bytes.
-fn is_mid_written(
-    rt: &impl Abort,
-    alloc: Global,
-    value: &MidValue,
-    bytes: &[u8],
-) -> Result<(), Fail>
+/// Whether the value of a middle log is written as these bytes.
+fn is_mid_written(alloc: Global, value: &MidValue, bytes: &[u8]) -> Result<bool, Fail>
     requires { FitsMid value.now }
 {
     let mut out = Bytes::new(alloc);
     value.encode(&mut out)?;
-    assert_eq!(rt; out.items(), bytes);
-    Ok(())
+    Ok(out.items() == bytes)
 }
 
-/// Checks that the bytes are a value of a middle log, which is written so and copied.
-fn is_mid(rt: &impl Abort, alloc: Global, bytes: &[u8]) -> Result<(), Fail> {
+fn is_mid_copied(value: &MidValue) -> Result<bool, Fail> {
+    let copy = value.copy()?;
+    Ok(value.same(&copy))
+}
+
+/// Whether the bytes are a value of a middle log, which is written so and copied.
+fn is_mid(alloc: Global, bytes: &[u8]) -> Result<bool, Fail> {
     let Some(value) = MidValue::decode(alloc, bytes)? else {
         return Err("a value".into());
     };
-    let copy = value.copy()?;
-    assert!(rt; value.same(&copy));
-    is_mid_written(rt, alloc, &value, bytes)
+    Ok(is_mid_copied(&value)? && is_mid_written(alloc, &value, bytes)?)
+}
+
+fn is_no_mid(alloc: Global, bytes: &[u8]) -> Result<bool, Fail> {
+    let value = MidValue::decode(alloc, bytes)?;
+    Ok(value.is_none())
 }
 
 #[test]
 fn each_value_of_a_middle_log_is_read_and_written(rt: HostRuntime) -> Result<(), Fail> {
     for bytes in &VALUES[..5] {
-        is_mid(&rt, rt.alloc(), bytes)?;
+        assert!(rt; is_mid(rt.alloc(), bytes)?);
     }
     for bytes in &VALUES[5..] {
-        assert!(rt; MidValue::decode(rt.alloc(), bytes)?.is_none());
+        assert!(rt; is_no_mid(rt.alloc(), bytes)?);
     }
     Ok(())
 }
 
-/// Checks that the value of a backend's log is written as these bytes.
-fn is_back_written(
-    rt: &impl Abort,
-    alloc: Global,
-    value: &BackValue,
-    bytes: &[u8],
-) -> Result<(), Fail>
+/// Whether the value of a backend's log is written as these bytes.
+fn is_back_written(alloc: Global, value: &BackValue, bytes: &[u8]) -> Result<bool, Fail>
     requires { FitsBack value.now }
 {
     let mut out = Bytes::new(alloc);
     value.encode(&mut out)?;
-    assert_eq!(rt; out.items(), bytes);
-    Ok(())
+    Ok(out.items() == bytes)
 }
 
-/// Checks that the bytes are a value of a backend's log, which is written so and copied.
-fn is_back(rt: &impl Abort, alloc: Global, bytes: &[u8]) -> Result<(), Fail> {
+fn is_back_copied(value: &BackValue) -> Result<bool, Fail> {
+    let copy = value.copy()?;
+    Ok(value.same(&copy))
+}
+
+/// Whether the bytes are a value of a backend's log, which is written so and copied.
+fn is_back(alloc: Global, bytes: &[u8]) -> Result<bool, Fail> {
     let Some(value) = BackValue::decode(alloc, bytes)? else {
         return Err("a value".into());
     };
-    let copy = value.copy()?;
-    assert!(rt; value.same(&copy));
-    is_back_written(rt, alloc, &value, bytes)
+    Ok(is_back_copied(&value)? && is_back_written(alloc, &value, bytes)?)
+}
+
+fn is_no_back(alloc: Global, bytes: &[u8]) -> Result<bool, Fail> {
+    let value = BackValue::decode(alloc, bytes)?;
+    Ok(value.is_none())
 }
 
 #[test]
 fn each_value_of_a_backend_log_is_read_and_written(rt: HostRuntime) -> Result<(), Fail> {
     for bytes in &VALUES[5..] {
-        is_back(&rt, rt.alloc(), bytes)?;
+        assert!(rt; is_back(rt.alloc(), bytes)?);
     }
     for bytes in &VALUES[..5] {
-        assert!(rt; BackValue::decode(rt.alloc(), bytes)?.is_none());
+        assert!(rt; is_no_back(rt.alloc(), bytes)?);
     }
     Ok(())
 }
@@ -203,14 +206,19 @@ fn counts_of(value: &MidValue) -> (usize, usize) {
     }
 }
 
+/// Those of the value with these bytes.
+fn counts(alloc: Global, bytes: &[u8]) -> Result<(usize, usize), Fail> {
+    let Some(value) = MidValue::decode(alloc, bytes)? else {
+        return Err("a value".into());
+    };
+    Ok(counts_of(&value))
+}
+
 #[test]
 fn a_value_has_its_parts(rt: HostRuntime) -> Result<(), Fail> {
     let wanted = [(0, 0), (1, 0), (0, 1), (0, 2), (0, 0)];
     for i in 0..5 {
-        let Some(value) = MidValue::decode(rt.alloc(), VALUES[i])? else {
-            return Err("a value".into());
-        };
-        assert_eq!(rt; counts_of(&value), wanted[i]);
+        assert!(rt; counts(rt.alloc(), VALUES[i])? == wanted[i]);
     }
     Ok(())
 }

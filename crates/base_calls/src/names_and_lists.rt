@@ -1,5 +1,7 @@
 // Limits, locks, the order of ballots, and lists that grow at their end.
-use aeg_base::{Ballot, Bytes, Key, LockSet, Seq, Tier, limits, lock_of};
+use crate::texts::bytes_of;
+use aeg_base::{Ballot, Bytes, Key, LockSet, Memory, Seq, Tier, limits, lock_of};
+use std::alloc::Global;
 use std::test::*;
 
 #[test]
@@ -79,8 +81,8 @@ fn set_of(locks: &[u16]) -> Result<LockSet, Fail> {
 fn sets_meet_in_a_shared_lock(rt: HostRuntime) -> Result<(), Fail> {
     for (these, those, meets) in PAIRS_OF_SETS {
         let (one, other) = (set_of(these)?, set_of(those)?);
-        assert_eq!(rt; one.meets(&other), meets, "{these:?} {those:?}");
-        assert_eq!(rt; other.meets(&one), meets, "{those:?} {these:?}");
+        let met = (one.meets(&other), other.meets(&one));
+        assert!(rt; met == (meets, meets), "{these:?} {those:?}");
     }
     Ok(())
 }
@@ -99,13 +101,20 @@ fn ballot((counter, node): (u32, u8)) -> Ballot {
     Ballot { counter, node }
 }
 
+/// Whether a ballot is below another, at most it, and the same.
+fn compared(one: Ballot, other: Ballot) -> [bool; 3] {
+    [
+        one.is_below(other),
+        one.is_at_most(other),
+        one.is_same(other),
+    ]
+}
+
 #[test]
 fn ballots_go_by_counter_then_node(rt: HostRuntime) {
-    for (first, second, [below, at_most, same]) in PAIRS_OF_BALLOTS {
-        let (one, other) = (ballot(first), ballot(second));
-        assert_eq!(rt; one.is_below(other), below, "{one:?} {other:?}");
-        assert_eq!(rt; one.is_at_most(other), at_most, "{one:?} {other:?}");
-        assert_eq!(rt; one.is_same(other), same, "{one:?} {other:?}");
+    for (first, second, wanted) in PAIRS_OF_BALLOTS {
+        let told = compared(ballot(first), ballot(second));
+        assert!(rt; told == wanted, "{first:?} {second:?}");
     }
 }
 
@@ -116,49 +125,75 @@ const ADDED_BYTES: [(u8, &[u8], &[u8]); 3] = [
     (b'\0', b"\xff", b"abcd\0\xff"),
 ];
 
+/// Adds to the bytes; whether all is there then.
+fn adds(bytes: &mut Bytes, byte: u8, more: &[u8], items: &[u8]) -> Result<bool, Memory> {
+    bytes.push(byte)?;
+    bytes.extend(more)?;
+    Ok(bytes.items() == items)
+}
+
 #[test]
 fn bytes_are_added_at_the_end(rt: HostRuntime) -> Result<(), Fail> {
     let mut bytes = Bytes::new(rt.alloc());
     for (byte, more, items) in ADDED_BYTES {
-        bytes.push(byte)?;
-        bytes.extend(more)?;
-        assert_eq!(rt; bytes.items(), items);
+        assert!(rt; adds(&mut bytes, byte, more, items)?);
     }
     Ok(())
 }
 
+fn are_bytes(bytes: Bytes, items: &[u8]) -> bool {
+    let all = bytes.into_vec();
+    all.as_slice() == items
+}
+
+/// Whether a copy is the same, and another where a byte is added.
+fn is_copied(bytes: &mut Bytes) -> Result<bool, Memory> {
+    let copy = bytes.copy()?;
+    let same = copy == *bytes;
+    bytes.push(b's')?;
+    let differs = copy != *bytes;
+    let stays = are_bytes(copy, b"open");
+    Ok(same && differs && stays)
+}
+
 #[test]
 fn a_copy_of_bytes_stays_as_it_was(rt: HostRuntime) -> Result<(), Fail> {
-    let mut bytes = Bytes::of(Vec::from_slice(rt.alloc(), b"open")?);
-    let copy = bytes.copy()?;
-    assert!(rt; copy == bytes);
-    bytes.push(b's')?;
-    assert!(rt; copy != bytes);
-    assert_eq!(rt; copy.into_vec().as_slice(), b"open".as_slice());
-    assert_eq!(rt; bytes.into_vec().as_slice(), b"opens".as_slice());
+    let mut bytes = bytes_of(rt.alloc(), "open")?;
+    assert!(rt; is_copied(&mut bytes)?);
+    assert!(rt; are_bytes(bytes, b"opens"));
     Ok(())
+}
+
+fn pushed(alloc: Global) -> Result<Vec<Tier>, Memory> {
+    let mut seq = Seq::new(alloc);
+    seq.push(Tier::Mid)?;
+    seq.push(Tier::Inv)?;
+    Ok(seq.into_vec())
+}
+
+fn are_pushed(alloc: Global) -> Result<bool, Memory> {
+    let tiers = pushed(alloc)?;
+    Ok(tiers.as_slice() == [Tier::Mid, Tier::Inv].as_slice())
 }
 
 #[test]
 fn values_are_added_at_the_end(rt: HostRuntime) -> Result<(), Fail> {
     let tiers = Seq::of(Vec::from_slice(rt.alloc(), &[Tier::Pay])?);
-    let mut seq = Seq::new(tiers.allocator());
-    for tier in [Tier::Mid, Tier::Inv] {
-        seq.push(tier)?;
-    }
-    assert_eq!(rt; tiers.items(), [Tier::Pay].as_slice());
-    assert_eq!(rt;
-        seq.into_vec().as_slice(),
-        [Tier::Mid, Tier::Inv].as_slice()
-    );
+    assert!(rt; are_pushed(tiers.allocator())?);
+    assert!(rt; tiers.items() == [Tier::Pay].as_slice());
     Ok(())
+}
+
+/// The same bytes, on the same heap.
+fn again(bytes: &Bytes) -> Result<Bytes, Memory> {
+    let mut other = Bytes::new(bytes.allocator());
+    other.extend(bytes.items())?;
+    Ok(other)
 }
 
 #[test]
 fn a_list_tells_the_heap_that_it_is_on(rt: HostRuntime) -> Result<(), Fail> {
-    let text = Bytes::of(Vec::from_slice(rt.alloc(), b"open")?);
-    let mut other = Bytes::new(text.allocator());
-    other.extend(text.items())?;
-    assert!(rt; other == text);
+    let text = bytes_of(rt.alloc(), "open")?;
+    assert!(rt; again(&text)? == text);
     Ok(())
 }

@@ -40,28 +40,26 @@ fn values(store: &Store) -> [u64; 4] {
     ]
 }
 
-/// Checks the pairs of a store.
-fn has_pairs(rt: &impl Abort, store: &Store, pairs: &[(Key, u64)]) -> Result<(), Fail> {
-    assert_eq!(rt; store.pairs()?.as_slice(), pairs);
-    Ok(())
+fn has_pairs(store: &Store, pairs: &[(Key, u64)]) -> Result<bool, Fail> {
+    let all = store.pairs()?;
+    Ok(all.as_slice() == pairs)
 }
 
-/// Makes a put, and checks what the store has then.
-fn holds(rt: &impl Abort, store: &mut Store, row: &Put) -> Result<(), Fail> {
+/// Makes a put; whether the store has then what it should.
+fn holds(store: &mut Store, row: &Put) -> Result<bool, Fail> {
     let (key, value, held, pairs) = *row;
     if key.class >= KEY_CLASSES {
         return Err("a class out of range".into());
     }
     store.put(key, value)?;
-    assert_eq!(rt; (values(store), store.len()), (held, pairs.len()));
-    has_pairs(rt, store, pairs)
+    Ok(values(store) == held && store.len() == pairs.len() && has_pairs(store, pairs)?)
 }
 
 #[test]
 fn a_store_holds_what_was_put(rt: HostRuntime) -> Result<(), Fail> {
     let mut store = Store::new(rt.alloc());
     for row in &PUTS {
-        holds(&rt, &mut store, row)?;
+        assert!(rt; holds(&mut store, row)?);
     }
     Ok(())
 }
@@ -80,13 +78,19 @@ fn exchange(store: &mut Store) -> Result<(), Fail> {
     Ok(())
 }
 
+/// Whether a copy of the store with one pair still has it where the store has another.
+fn is_copied(store: &mut Store) -> Result<bool, Fail> {
+    let copy = store.copy()?;
+    exchange(store)?;
+    has_pairs(&copy, &[(HIGH, 7)])
+}
+
 #[test]
 fn a_copy_stays_as_it_was(rt: HostRuntime) -> Result<(), Fail> {
     let mut store = with_one(rt.alloc())?;
-    let copy = store.copy()?;
-    exchange(&mut store)?;
-    has_pairs(&rt, &copy, &[(HIGH, 7)])?;
-    has_pairs(&rt, &store, &[(LOW, 5)])
+    assert!(rt; is_copied(&mut store)?);
+    assert!(rt; has_pairs(&store, &[(LOW, 5)])?);
+    Ok(())
 }
 
 /// The pairs before the puts of a list.
@@ -95,13 +99,16 @@ const BEFORE: [(Key, u64); 2] = [(LOW, 5), (HIGH, 7)];
 /// A put of the list, the pairs afterwards, and those keys with their values that have changed since the list began.
 type Logged = (Key, u64, Pairs, Pairs);
 
-const LOGGED: [Logged; 4] = [
-    (
-        MIDDLE,
-        4,
-        &[(LOW, 5), (MIDDLE, 4), (HIGH, 7)],
-        &[(MIDDLE, 4)],
-    ),
+/// The first put of the list.
+const FIRST: Logged = (
+    MIDDLE,
+    4,
+    &[(LOW, 5), (MIDDLE, 4), (HIGH, 7)],
+    &[(MIDDLE, 4)],
+);
+
+/// The puts after it.
+const LATER: [Logged; 3] = [
     (
         LOW,
         6,
@@ -117,34 +124,42 @@ const LOGGED: [Logged; 4] = [
     (LOW, 5, &[(LOW, 5), (MIDDLE, 4)], &[(MIDDLE, 4), (HIGH, 0)]),
 ];
 
-/// Checks the pairs, what has changed, and what was there before.
+/// Whether these keys with their values have changed since the list began.
+fn has_changed(store: &Store, list: &UndoList, changed: &[(Key, u64)]) -> Result<bool, Fail> {
+    let all = store.changed(list)?;
+    Ok(all.as_slice() == changed)
+}
+
+/// Whether the store tells what was there before.
+fn tells_before(store: &Store, list: &UndoList) -> Result<bool, Fail> {
+    let all = store.pairs_before(list)?;
+    Ok(all.as_slice() == BEFORE.as_slice())
+}
+
+/// Whether the store has the pairs, tells what has changed, and what was there before.
 fn shows(
-    rt: &impl Abort,
     store: &Store,
     list: &UndoList,
     pairs: &[(Key, u64)],
     changed: &[(Key, u64)],
-) -> Result<(), Fail> {
-    has_pairs(rt, store, pairs)?;
-    assert_eq!(rt; store.changed(list)?.as_slice(), changed);
-    assert_eq!(rt; store.pairs_before(list)?.as_slice(), BEFORE.as_slice());
-    Ok(())
+) -> Result<bool, Fail> {
+    Ok(has_pairs(store, pairs)? && has_changed(store, list, changed)? && tells_before(store, list)?)
 }
 
-/// Makes room for a put of the list, makes the put, and checks what is shown then.
-fn put(rt: &impl Abort, store: &mut Store, list: &mut UndoList, logged: Logged) -> Result<(), Fail>
+/// Makes room for a put of the list, and makes the put; whether the store shows then what it should.
+fn put(store: &mut Store, list: &mut UndoList, logged: &Logged) -> Result<bool, Fail>
     requires left { StaysWithin list.old.top list.old.entries store.old.map }
     requires room { list.old.top ≤ store.old.room }
     ensures left { OnOk result (StaysWithin list.new.top list.new.entries store.new.map) }
     ensures room { OnOk result (list.new.top ≤ store.new.room) }
 {
-    let (key, value, pairs, changed) = logged;
+    let (key, value, pairs, changed) = *logged;
     if key.class >= KEY_CLASSES {
         return Err("a class out of range".into());
     }
     store.reserve(list, 1)?;
     store.put_logged(list, key, value);
-    shows(rt, store, list, pairs, changed)
+    shows(store, list, pairs, changed)
 }
 
 fn before(alloc: Global) -> Result<Store, Fail> {
@@ -154,23 +169,22 @@ fn before(alloc: Global) -> Result<Store, Fail> {
     Ok(store)
 }
 
-/// Makes the puts of the list.
-fn put_all(rt: &impl Abort, store: &mut Store, list: &mut UndoList) -> Result<(), Fail>
+/// Makes the puts of the list after the first.
+fn put_later(rt: &impl Abort, store: &mut Store, list: &mut UndoList) -> Result<(), Fail>
     requires left { StaysWithin list.old.top list.old.entries store.old.map }
     requires room { list.old.top ≤ store.old.room }
     ensures left { OnOk result (StaysWithin list.new.top list.new.entries store.new.map) }
     ensures room { OnOk result (list.new.top ≤ store.new.room) }
 {
-    let [first, second, third, fourth] = LOGGED;
-    put(rt, store, list, first)?;
-    put(rt, store, list, second)?;
-    put(rt, store, list, third)?;
-    put(rt, store, list, fourth)
+    'logged: for logged in &LATER {
+        assert!(rt; put(store, list, logged)?);
+    }
+    Ok(())
 }
 
-/// Takes back all puts but the first, and checks what is shown then. One key was put twice since then, so the order
-/// counts.
-fn back_to_the_first(rt: &impl Abort, store: &mut Store, list: &mut UndoList) -> Result<(), Fail>
+/// Takes back all puts but the first; whether the store shows then what it did after that. One key was put twice since
+/// then, so the order counts.
+fn back_to_the_first(store: &mut Store, list: &mut UndoList) -> Result<bool, Fail>
     requires left { StaysWithin list.old.top list.old.entries store.old.map }
     requires room { list.old.top ≤ store.old.room }
     ensures left { OnOk result (StaysWithin list.new.top list.new.entries store.new.map) }
@@ -180,18 +194,34 @@ fn back_to_the_first(rt: &impl Abort, store: &mut Store, list: &mut UndoList) ->
         return Err("a list of four puts".into());
     }
     store.undo_to(list, 1);
-    assert_eq!(rt; list.len(), 1);
-    let (_, _, pairs, changed) = LOGGED[0];
-    shows(rt, store, list, pairs, changed)
+    let (_, _, pairs, changed) = FIRST;
+    Ok(list.len() == 1 && shows(store, list, pairs, changed)?)
+}
+
+/// Takes back all puts; whether the store shows then what it did before them.
+fn back_to_the_start(store: &mut Store, list: &mut UndoList) -> Result<bool, Fail>
+    requires left { StaysWithin list.old.top list.old.entries store.old.map }
+    requires room { list.old.top ≤ store.old.room }
+{
+    store.undo(list);
+    Ok(list.len() == 0 && shows(store, list, &BEFORE, &[])?)
+}
+
+/// Makes the puts of the list and takes them back.
+fn put_and_undo(rt: &impl Abort, store: &mut Store, list: &mut UndoList) -> Result<(), Fail>
+    requires left { StaysWithin list.old.top list.old.entries store.old.map }
+    requires room { list.old.top ≤ store.old.room }
+{
+    assert!(rt; put(store, list, &FIRST)?);
+    put_later(rt, store, list)?;
+    assert!(rt; back_to_the_first(store, list)?);
+    assert!(rt; back_to_the_start(store, list)?);
+    Ok(())
 }
 
 #[test]
 fn puts_are_undone(rt: HostRuntime) -> Result<(), Fail> {
     let mut store = before(rt.alloc())?;
     let mut list = UndoList::new(rt.alloc());
-    put_all(&rt, &mut store, &mut list)?;
-    back_to_the_first(&rt, &mut store, &mut list)?;
-    store.undo(&mut list);
-    assert_eq!(rt; list.len(), 0);
-    shows(&rt, &store, &list, &BEFORE, &[])
+    put_and_undo(&rt, &mut store, &mut list)
 }

@@ -1,12 +1,10 @@
 // Threads that meet, segments that one thread runs one after another, and a group that threads run again.
 ghost use Rattle.std.specs.Prelude.{◌≤◌, length};
-ghost use Rattle.std.specs.List.{All};
-ghost use Rattle.exec_core.specs.Jobs.{BeginsWell};
 
-use crate::booking_jobs::{Ask, BOOKS, SAME_TRIP, blank, job_of, linked};
+use crate::booking_jobs::{Ask, BOOKS, SAME_TRIP, blank, is_run, job_of, linked, run_on_blank};
 use crate::in_turn::run_in_turn;
 use booking::Booking;
-use exec_core::{CrossGate, Exec, Gate, Job, OpenGate, Ran};
+use exec_core::{CrossGate, Gate, OpenGate, Ran};
 use exec_locked::LockedExec;
 use kv_store::Store;
 use std::alloc::Global;
@@ -24,51 +22,51 @@ const TWO: [Ask; 2] = [(1, 1, "open 1 5 10 0"), (2, 1, "open 2 5 10 0")];
 /// The first booking reads all that it reads, and then the second does until it finds a lock held.
 const CROSSED: [u8; 11] = [0, 0, 0, 0, 0, 0, 1, 1, 1, 1, 1];
 
-/// Runs a job on a store that is let go.
-fn run_on_blank<S: Service, E: Exec<S>>(
-    alloc: Global,
-    exec: &mut E,
-    svc: &S,
-    asks: &[Ask],
-) -> Result<Ran, Fail>
-    requires { length asks.now ≤ 32 }
-{
-    let job = job_of(alloc, svc, asks)?;
-    let ran = exec.run(svc, &job, &mut blank(alloc))?;
-    Ok(ran)
+/// The runs again, and the number of steps.
+fn counts(ran: &Ran) -> (u8, usize) {
+    (ran.redo, ran.steps.items().len())
 }
 
 #[test]
 fn threads_meet(rt: HostRuntime) -> Result<(), Fail> {
     let svc = Booking::new(rt.alloc());
     let mut exec = LockedExec::new(rt.alloc(), rt, CrossGate::new(500_000_000));
-    let ran = run_on_blank(rt.alloc(), &mut exec, &svc, &TWO)?;
+    let counts = counts(&run_on_blank(rt.alloc(), &mut exec, &svc, &TWO)?);
+    assert!(rt; counts == (0, 10));
     assert!(rt; exec.gate().met());
-    assert_eq!(rt; ran.redo, 0);
-    assert_eq!(rt; ran.steps.items().len(), 10);
     Ok(())
 }
 
+fn is_in_order(ran: &Ran) -> bool {
+    ran.order.items() == [0, 1].as_slice()
+}
+
+/// Whether one thread that runs the segments one after another ends them in their order.
 fn turned_in_order<S: Service, G: Gate>(
     alloc: Global,
     gate: &G,
     svc: &S,
     asks: &[Ask],
-) -> Result<Ran, Fail>
+) -> Result<bool, Fail>
     requires { length asks.now ≤ 32 }
 {
     let job = job_of(alloc, svc, asks)?;
-    run_in_turn(gate, alloc, svc, &job, &mut blank(alloc))
+    let ran = run_in_turn(gate, alloc, svc, &job, &mut blank(alloc))?;
+    Ok(is_in_order(&ran))
 }
 
 #[test]
 fn one_after_another_never_meets(rt: HostRuntime) -> Result<(), Fail> {
     let svc = Booking::new(rt.alloc());
     let gate = CrossGate::new(1_000);
-    let ran = turned_in_order(rt.alloc(), &gate, &svc, &TWO)?;
+    assert!(rt; turned_in_order(rt.alloc(), &gate, &svc, &TWO)?);
     assert!(rt; !gate.met());
-    assert_eq!(rt; ran.order.items(), [0, 1].as_slice());
     Ok(())
+}
+
+/// Whether the first client's segment made its steps before the other's.
+fn is_one_after_another(ran: &Ran) -> bool {
+    is_in_order(ran) && ran.steps.items() == [0, 0, 0, 0, 0, 1, 1].as_slice()
 }
 
 #[test]
@@ -76,8 +74,7 @@ fn groups_run_one_after_another(rt: HostRuntime) -> Result<(), Fail> {
     let svc = Booking::new(rt.alloc());
     let mut exec = LockedExec::new(rt.alloc(), rt, OpenGate);
     let ran = run_on_blank(rt.alloc(), &mut exec, &svc, &SAME_TRIP)?;
-    assert_eq!(rt; ran.steps.items(), [0, 0, 0, 0, 0, 1, 1].as_slice());
-    assert_eq!(rt; ran.order.items(), [0, 1].as_slice());
+    assert!(rt; is_one_after_another(&ran));
     Ok(())
 }
 
@@ -113,19 +110,33 @@ impl Gate for OrderGate {
     }
 }
 
-/// Runs both bookings on threads that this gate holds, on a store where both want one seat.
+/// Runs both bookings on threads that this gate holds.
 fn held_run<S: Service + Sync, R: Threads + Wait + Drop>(
     alloc: Global,
     exec: &mut LockedExec<R, OrderGate>,
     svc: &S,
+    store: &mut Store,
 ) -> Result<Ran, Fail>
 where
     S::Prog: Send,
 {
-    let mut store = linked(alloc, svc)?;
     let job = job_of(alloc, svc, &BOOKS)?;
-    let ran = exec.run_on(svc, &job, &mut store)?;
+    let ran = exec.run_on(svc, &job, store)?;
     Ok(ran)
+}
+
+/// Runs them on a store where both want one seat; whether each step of the gate's order was made, and one was run again.
+fn is_held<S: Service + Sync, R: Threads + Wait + Drop>(
+    alloc: Global,
+    exec: &mut LockedExec<R, OrderGate>,
+    svc: &S,
+) -> Result<bool, Fail>
+where
+    S::Prog: Send,
+{
+    let mut store = linked(alloc, svc)?;
+    let ran = held_run(alloc, exec, svc, &mut store)?;
+    Ok(is_run(&ran, &CROSSED, &[0, 1], 1))
 }
 
 #[test]
@@ -136,9 +147,6 @@ fn a_held_lock_runs_the_group_again(rt: HostRuntime) -> Result<(), Fail> {
         made: AtomicU64::new(0),
     };
     let mut exec = LockedExec::new(rt.alloc(), rt, gate);
-    let ran = held_run(rt.alloc(), &mut exec, &svc)?;
-    assert_eq!(rt; ran.steps.items(), CROSSED.as_slice());
-    assert_eq!(rt; ran.order.items(), [0, 1].as_slice());
-    assert_eq!(rt; ran.redo, 1);
+    assert!(rt; is_held(rt.alloc(), &mut exec, &svc)?);
     Ok(())
 }

@@ -2,7 +2,7 @@ use Rattle.std.proofs.Common.{◌≡◌, ℕ, zero, suc, ◌+◌, ◌==◌, cond
 use Rattle.std.specs.Prelude.{nat_lt}
 use Rattle.svc_api.proofs.Orders.{below_order}
 use Rattle.exec_model.specs.Groups.{IsOrder}
-use Rattle.base_calls.proofs.runs_by_schedule.segments_run_in_the_order_that_is_given.Goals as goal
+use Rattle.base_calls.proofs.runs_by_schedule.second_wins_in_order.Goals as goal
 
 -- the second of two, then the first: each as often as in order
 turned : IsOrder 2 (1 ∷ 0 ∷ [])
@@ -14,4 +14,4 @@ turned i =
     back
 
 pub books_in_order-requires : goal.books_in_order-requires
-books_in_order-requires c c' = turned
+books_in_order-requires c = turned
