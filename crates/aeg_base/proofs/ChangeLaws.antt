@@ -41,14 +41,19 @@ all_put : (P : Key × ℕ → Type 0) (k : Key) (v : ℕ) (ps : List (Key × ℕ
 all_put P k v [] h a = (h, tt)
 all_put P k v (e ∷ es) h a = at (key_cmp k e.0) refl (all_put P k v es h a.1)
   where
-    at : (o : Ordering) → key_cmp k e.0 ≡ o → AllByRecursion P (put key_cmp k v es) → AllByRecursion P (by_order o ((k, v) ∷ e ∷ es) ((e.0, v) ∷ es) (e ∷ put key_cmp k v es))
+    at : (o : Ordering) → key_cmp k e.0 ≡ o → AllByRecursion P (put key_cmp k v es)
+        → AllByRecursion P (by_order o ((k, v) ∷ e ∷ es) ((e.0, v) ∷ es) (e ∷ put key_cmp k v es))
     at Less c r = (h, a)
     at Equal c r = (subst (λ (z : Key). P (z, v)) (key_cmp-IsAntisymmetric k e.0 c) h, a.1)
     at Greater c r = (a.0, r)
 
-pub all_among : (P : Key × ℕ → Type 0) (s t : Store) → ((k : Key) → (value_at s k == value_at t k) ≡ false → P (k, value_at t k)) → (es ps : List (Key × ℕ)) → AllByRecursion P ps → AllByRecursion P (changed_among s t es ps)
+pub all_among : (P : Key × ℕ → Type 0) (s t : Store)
+    → ((k : Key) → (value_at s k == value_at t k) ≡ false → P (k, value_at t k)) → (es ps : List (Key × ℕ))
+    → AllByRecursion P ps → AllByRecursion P (changed_among s t es ps)
 all_among P s t h [] ps a = a
-all_among P s t h (e ∷ es) ps a = all_among P s t h es (if value_at s e.0 == value_at t e.0 then ps else put key_cmp e.0 (value_at t e.0) ps) (go (value_at s e.0 == value_at t e.0) refl)
+all_among P s t h (e ∷ es) ps a = all_among P s t h es
+    (if value_at s e.0 == value_at t e.0 then ps else put key_cmp e.0 (value_at t e.0) ps)
+    (go (value_at s e.0 == value_at t e.0) refl)
   where
     go : (b : Bool) → (value_at s e.0 == value_at t e.0) ≡ b → AllByRecursion P (cond b ps (put key_cmp e.0 (value_at t e.0) ps))
     go true f = a
@@ -69,7 +74,8 @@ among-put q k n ps h = ap is_some (find-put key_cmp key_cmp_total q k n ps) ∙ 
 
 among-kept : (s t : Store) (q : Key) (es ps : List (Key × ℕ)) → IsAmong q ps → IsAmong q (changed_among s t es ps)
 among-kept s t q [] ps h = h
-among-kept s t q (e ∷ es) ps h = among-kept s t q es (if value_at s e.0 == value_at t e.0 then ps else put key_cmp e.0 (value_at t e.0) ps) (go (value_at s e.0 == value_at t e.0))
+among-kept s t q (e ∷ es) ps h = among-kept s t q es
+    (if value_at s e.0 == value_at t e.0 then ps else put key_cmp e.0 (value_at t e.0) ps) (go (value_at s e.0 == value_at t e.0))
   where
     go : (b : Bool) → IsAmong q (cond b ps (put key_cmp e.0 (value_at t e.0) ps))
     go true = h
@@ -77,20 +83,24 @@ among-kept s t q (e ∷ es) ps h = among-kept s t q es (if value_at s e.0 == val
 
 among-changed : (s t : Store) (q : Key) (es ps : List (Key × ℕ)) → (value_at s q == value_at t q) ≡ false → IsAmong q es → IsAmong q (changed_among s t es ps)
 among-changed s t q [] ps n h = absurd (cc)
-among-changed s t q (e ∷ es) ps n h = go (eq_by_cmp key_cmp q e.0) refl h (among-changed s t q es (if value_at s e.0 == value_at t e.0 then ps else put key_cmp e.0 (value_at t e.0) ps) n)
+among-changed s t q (e ∷ es) ps n h = go (eq_by_cmp key_cmp q e.0) refl h
+    (among-changed s t q es (if value_at s e.0 == value_at t e.0 then ps else put key_cmp e.0 (value_at t e.0) ps) n)
   where
     there : List (Key × ℕ)
     there = if value_at s e.0 == value_at t e.0 then ps else put key_cmp e.0 (value_at t e.0) ps
 
-    go : (b : Bool) → eq_by_cmp key_cmp q e.0 ≡ b → is_some (cond b (Some e.1) (find key_cmp q es)) ≡ true → (IsAmong q es → IsAmong q (changed_among s t es there)) → IsAmong q (changed_among s t es there)
+    go : (b : Bool) → eq_by_cmp key_cmp q e.0 ≡ b → is_some (cond b (Some e.1) (find key_cmp q es)) ≡ true
+        → (IsAmong q es → IsAmong q (changed_among s t es there)) → IsAmong q (changed_among s t es there)
     go false f g rec = rec g
     go true f g rec =
         let same : q ≡ e.0 = same_key_eq q e.0 f in
         let differ : (value_at s e.0 == value_at t e.0) ≡ false = subst (λ (z : Key). (value_at s z == value_at t z) ≡ false) same n in
         among-kept s t q es there (subst (IsAmong q) (sym (cond-false (value_at s e.0 == value_at t e.0) ps (put key_cmp e.0 (value_at t e.0) ps) differ))
-        (ap is_some (find-put key_cmp key_cmp_total q e.0 (value_at t e.0) ps ∙ cond-true (eq_by_cmp key_cmp q e.0) (Some (value_at t e.0)) (find key_cmp q ps) f)))
+        (ap is_some (find-put key_cmp key_cmp_total q e.0 (value_at t e.0) ps
+        ∙ cond-true (eq_by_cmp key_cmp q e.0) (Some (value_at t e.0)) (find key_cmp q ps) f)))
 
-written-true : (t : Store) (ps : List (Key × ℕ)) (s : Store) (q : Key) → AllByRecursion (HasNumber t) ps → (value_at s q ≡ value_at t q) ⊎ IsAmong q ps → value_at (written_all s ps) q ≡ value_at t q
+written-true : (t : Store) (ps : List (Key × ℕ)) (s : Store) (q : Key) → AllByRecursion (HasNumber t) ps
+    → (value_at s q ≡ value_at t q) ⊎ IsAmong q ps → value_at (written_all s ps) q ≡ value_at t q
 written-true t [] s q a (inl e) = e
 written-true t [] s q a (inr h) = absurd (cc)
 written-true t (e ∷ es) s q a k = written-true t es (written s e.0 e.1) q a.1 (go (same_key q e.0) refl k)
@@ -126,7 +136,8 @@ covered s t q = go (value_at s q == value_at t q) refl
       where
         not_zero : (b : Bool) → (value_at t q == 0) ≡ b → (value_at t q == 0) ≡ false
         not_zero false e = e
-        not_zero true e = absurd (let f : value_at s q ≡ value_at t q = eqb-true (value_at s q) 0 z ∙ sym (eqb-true (value_at t q) 0 e) in let g = eq-eqb (value_at s q) (value_at t q) f in cc)
+        not_zero true e = absurd (let f : value_at s q ≡ value_at t q = eqb-true (value_at s q) 0 z
+            ∙ sym (eqb-true (value_at t q) 0 e) in let g = eq-eqb (value_at s q) (value_at t q) f in cc)
 
     go : (b : Bool) → (value_at s q == value_at t q) ≡ b → (value_at s q ≡ value_at t q) ⊎ IsAmong q (changes s t)
     go true e = inl (eqb-true (value_at s q) (value_at t q) e)

@@ -4,7 +4,8 @@ use Rattle.aeg_base.specs.Numbers.{checked, number_at, with_number}
 use Rattle.aeg_base.specs.Store.{empty, value_at, written, pairs_of, written_all}
 
 -- pairs stand by class, then id; a write of 0 takes its key out
-sorted : pairs_of (written_all empty ((record { class = 3; id = 1 }, 7) ∷ (record { class = 0; id = 9 }, 5) ∷ (record { class = 3; id = 0 }, 4) ∷ (record { class = 0; id = 9 }, 0) ∷ []))
+sorted : pairs_of (written_all empty ((record { class = 3; id = 1 }, 7) ∷ (record { class = 0; id = 9 }, 5)
+    ∷ (record { class = 3; id = 0 }, 4) ∷ (record { class = 0; id = 9 }, 0) ∷ []))
     ≡ (record { class = 3; id = 0 }, 4) ∷ (record { class = 3; id = 1 }, 7) ∷ []
 unfolding checked with_number
 sorted = refl

@@ -1,12 +1,14 @@
 -- What a finite map of numbers holds after a write, and that maps which answer alike are equal.
-use Rattle.std.proofs.Common.{◌≡◌, ◌≢◌, ℕ, Bool, true, false, cond, ◌==◌, ◌&&◌, not, List, [], ◌∷◌, if◌then◌else◌, refl, sym, ap, subst, ◌∙◌, unwrap_or, None, Some, Option, eqb-true}
+use Rattle.std.proofs.Common.{◌≡◌, ◌≢◌, ℕ, Bool, true, false, cond, ◌==◌, ◌&&◌, not, List, [], ◌∷◌, if◌then◌else◌, refl}
+use Rattle.std.proofs.Common.{sym, ap, subst, ◌∙◌, unwrap_or, None, Some, Option, eqb-true}
 use Rattle.std.specs.Prelude.{T}
 use Rattle.std.specs.Ordering.{eq_by_cmp}
 use Rattle.std.specs.Cmp.{IsTotalOrder, eq_by_cmp_equiv, alike_right}
 use Rattle.std.specs.declared.cmp.Ordering.{Ordering}
 use Rattle.std.specs.declared.cmp.Ordering.TheVariants.{Less, Equal, Greater}
 use Rattle.std.specs.FinMap.{IsAntisymmetric}
-use Rattle.std.specs.FinMap.Entries.{find, put, where_key, is_sorted, by_order, find-put, find-where_key, is_sorted-put, is_sorted-where_key, same_entries as same_lists}
+use Rattle.std.specs.FinMap.Entries.{find, put, where_key, is_sorted, by_order, find-put, find-where_key, is_sorted-put}
+use Rattle.std.specs.FinMap.Entries.{is_sorted-where_key, same_entries as same_lists}
 use Rattle.std.specs.Ordering.{is_eq}
 use Rattle.aeg_base.specs.Numbers.{Numbers, no_numbers, no_zeros, is_canonical, same_entries, checked, number_at, entries_with, with_number}
 
@@ -60,13 +62,15 @@ canonical-with {K} {R} o m k n = at (n == 0) refl
     at true e = both _ _ (is_sorted-where_key R _ m.entries sorted) (no_zeros-where_key R _ m.entries positive)
     at false e = both _ _ (is_sorted-put R o k n m.entries sorted) (no_zeros-put R k n m.entries (not_zero n e) positive)
 
-entries-checked : {K : Type 0} {R : K → K → Ordering} (es : List (K × ℕ)) (b : Bool) (e : is_canonical R es ≡ b) (m : Numbers R) → T b → (checked es b e m).entries ≡ es
+entries-checked : {K : Type 0} {R : K → K → Ordering} (es : List (K × ℕ)) (b : Bool) (e : is_canonical R es ≡ b)
+    (m : Numbers R) → T b → (checked es b e m).entries ≡ es
 unfolding checked
 entries-checked es true e m h = refl
 entries-checked es false e m h = absurd h
 
 -- the entries after a write
-pub entries-with_number : {K : Type 0} {R : K → K → Ordering} → IsTotalOrder R → (m : Numbers R) (k : K) (n : ℕ) → (with_number m k n).entries ≡ entries_with R m.entries k n
+pub entries-with_number : {K : Type 0} {R : K → K → Ordering} → IsTotalOrder R → (m : Numbers R) (k : K) (n : ℕ)
+    → (with_number m k n).entries ≡ entries_with R m.entries k n
 unfolding with_number
 entries-with_number {K} {R} o m k n = entries-checked (entries_with R m.entries k n) _ refl m (canonical-with o m k n)
 
@@ -76,24 +80,28 @@ turned : {A : Type 0} (b : Bool) (x y : A) → cond (not b) x y ≡ cond b y x
 turned true x y = refl
 turned false x y = refl
 
-find-with : {K : Type 0} {R : K → K → Ordering} → IsTotalOrder R → (es : List (K × ℕ)) (k : K) (n : ℕ) (q : K) → find R q (entries_with R es k n) ≡ cond (eq_by_cmp R q k) (if n == 0 then None else Some n) (find R q es)
+find-with : {K : Type 0} {R : K → K → Ordering} → IsTotalOrder R → (es : List (K × ℕ)) (k : K) (n : ℕ) (q : K)
+    → find R q (entries_with R es k n) ≡ cond (eq_by_cmp R q k) (if n == 0 then None else Some n) (find R q es)
 find-with {K} {R} o es k n q = at (n == 0)
   where
     alike : (x : K) → R q x ≡ Equal → not (eq_by_cmp R k x) ≡ not (eq_by_cmp R k q)
     alike x t = ap (λ r. not (is_eq r)) (sym (alike_right o q x k t))
 
-    at : (b : Bool) → find R q (if b then where_key R (λ x. not (eq_by_cmp R k x)) es else put R k n es) ≡ cond (eq_by_cmp R q k) (if b then None else Some n) (find R q es)
+    at : (b : Bool) → find R q (if b then where_key R (λ x. not (eq_by_cmp R k x)) es else put R k n es)
+        ≡ cond (eq_by_cmp R q k) (if b then None else Some n) (find R q es)
     at true = find-where_key R (λ x. not (eq_by_cmp R k x)) q alike es ∙ turned (eq_by_cmp R k q) (find R q es) None
         ∙ ap (λ b. cond b None (find R q es)) ((eq_by_cmp_equiv o).symm k q)
     at false = find-put R o q k n es
 
-unwrapped : (same : Bool) (n : ℕ) (b : Bool) (o : Option ℕ) → (n == 0) ≡ b → unwrap_or (cond same (if b then None else Some n) o) 0 ≡ cond same n (unwrap_or o 0)
+unwrapped : (same : Bool) (n : ℕ) (b : Bool) (o : Option ℕ) → (n == 0) ≡ b
+    → unwrap_or (cond same (if b then None else Some n) o) 0 ≡ cond same n (unwrap_or o 0)
 unwrapped true n true o e = sym (eqb-true n 0 e)
 unwrapped true n false o e = refl
 unwrapped false n b o e = refl
 
 -- the written key has the number, and every other key what it had
-pub number_at-with_number : {K : Type 0} {R : K → K → Ordering} → IsTotalOrder R → (m : Numbers R) (k : K) (n : ℕ) (q : K) → number_at (with_number m k n) q ≡ (if eq_by_cmp R q k then n else number_at m q)
+pub number_at-with_number : {K : Type 0} {R : K → K → Ordering} → IsTotalOrder R
+    → (m : Numbers R) (k : K) (n : ℕ) (q : K) → number_at (with_number m k n) q ≡ (if eq_by_cmp R q k then n else number_at m q)
 unfolding number_at
 number_at-with_number {K} {R} o m k n q =
     ap (λ es. unwrap_or (find R q es) 0) (entries-with_number o m k n)
@@ -129,8 +137,11 @@ same_option None (Some n) h g e = absurd (g (ap (λ n. Some n) (sym e)))
 same_option (Some m) None h g e = absurd (h (ap (λ n. Some n) e))
 
 -- two maps with the same number at each key are equal
-pub same_numbers : {K : Type 0} {R : K → K → Ordering} → IsTotalOrder R → IsAntisymmetric R → (m n : Numbers R) → ((q : K) → number_at m q ≡ number_at n q) → m ≡ n
+pub same_numbers : {K : Type 0} {R : K → K → Ordering} → IsTotalOrder R → IsAntisymmetric R → (m n : Numbers R)
+    → ((q : K) → number_at m q ≡ number_at n q) → m ≡ n
 unfolding number_at
 same_numbers {K} {R} o anti m n same = same_entries m n
     (same_lists R o anti m.entries n.entries (first _ (no_zeros m.entries) m.canonical) (first _ (no_zeros n.entries) n.canonical)
-    (λ q. same_option (find R q m.entries) (find R q n.entries) (not_found_zero R q m.entries (second (is_sorted R m.entries) _ m.canonical)) (not_found_zero R q n.entries (second (is_sorted R n.entries) _ n.canonical)) (same q)))
+    (λ q. same_option (find R q m.entries) (find R q n.entries)
+    (not_found_zero R q m.entries (second (is_sorted R m.entries) _ m.canonical))
+    (not_found_zero R q n.entries (second (is_sorted R n.entries) _ n.canonical)) (same q)))

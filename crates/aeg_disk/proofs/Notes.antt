@@ -6,7 +6,8 @@ use Rattle.aeg_disk.specs.Tape.{changes_of, length_after}
 use Rattle.aeg_disk.specs.declared.note.Note.{Note}
 
 -- the last item, and another in its place
-set_last : {A : Type 0} (xs : List A) (k : ℕ) (x v : A) → length xs ≡ suc k → x ≡ get_or xs k x → (front : List A) × (xs ≡ front ++ x ∷ []) × (slice_set xs k v ≡ front ++ v ∷ [])
+set_last : {A : Type 0} (xs : List A) (k : ℕ) (x v : A) → length xs ≡ suc k → x ≡ get_or xs k x → (front : List A)
+    × (xs ≡ front ++ x ∷ []) × (slice_set xs k v ≡ front ++ v ∷ [])
 set_last [] k x v l e = absurd (cc)
 set_last (y ∷ []) zero x v l e = ([], ap (λ z. z ∷ []) (sym e), refl)
 set_last (y ∷ []) (suc k) x v l e = absurd (omega (arith, l))
@@ -24,7 +25,8 @@ unsynced n s notes run =
     let log = changes_of (noted false n ∷ notes) run in
     ap (λ (b : Bool). cond b (mark_of 0 0 (length_after n) true ∷ log) log) (sym s)
 
-pub sync_noted : (notes : List Note) (k len : ℕ) (last : Note) → length notes ≡ suc k → last ≡ get_or notes k last → last.synced ≡ false → length_after last ≡ len → (run : List ℕ)
+pub sync_noted : (notes : List Note) (k len : ℕ) (last : Note) → length notes ≡ suc k → last ≡ get_or notes k last
+    → last.synced ≡ false → length_after last ≡ len → (run : List ℕ)
     → changes_of (reverse (slice_set notes k (noted true last))) run ≡ mark_of 0 0 len true ∷ changes_of (reverse notes) run
 sync_noted notes k len last l e s long run =
     let r = set_last notes k last (noted true last) l e in

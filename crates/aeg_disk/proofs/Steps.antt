@@ -1,5 +1,6 @@
 -- What each change makes of a disk in memory.
-use Rattle.std.proofs.Common.{◌≡◌, ◌≢◌, ℕ, ◌+◌, ◌-◌, ◌≤◌, min, max, List, [], ◌∷◌, ◌++◌, length, take, drop, Bool, true, false, cond, ◌&&◌, ◌||◌, nat_le, refl, ◌∙◌, ap, arith, length-drop, take-append-drop}
+use Rattle.std.proofs.Common.{◌≡◌, ◌≢◌, ℕ, ◌+◌, ◌-◌, ◌≤◌, min, max, List, [], ◌∷◌, ◌++◌, length, take, drop, Bool, true}
+use Rattle.std.proofs.Common.{false, cond, ◌&&◌, ◌||◌, nat_le, refl, ◌∙◌, ap, arith, length-drop, take-append-drop}
 use Rattle.std.proofs.lemmas.Bool.Decides.{nat_tests}
 use Rattle.std.proofs.lemmas.List.{take_at, take_all, append-nil, length-take}
 use Rattle.std.proofs.lemmas.Bool.{and_from}
@@ -23,12 +24,14 @@ module _ (log : List Change) (old : List ℕ) where
   pub undoes : (at : ℕ) (piece : List ℕ) (s : Bool) → undone (write_of at (length piece) old s) (written at piece old) ≡ old
   undoes at piece s = undo_written at piece old
 
-  pub undoes_logged : (at : ℕ) (piece : List ℕ) (s : Bool) → is_logged log old ≡ true → is_logged (write_of at (length piece) old s ∷ log) (written at piece old) ≡ true
+  pub undoes_logged : (at : ℕ) (piece : List ℕ) (s : Bool) → is_logged log old ≡ true
+      → is_logged (write_of at (length piece) old s ∷ log) (written at piece old) ≡ true
   undoes_logged at piece s h =
       let c = write_of at (length piece) old s in
       let w = written at piece old in
       let long = written_long at piece old in
-      let rl : length c.replaced ≡ min (length piece) (length old - at) = length-take (length piece) (drop at old) ∙ ap (λ (n : ℕ). min (length piece) n) (length-drop at old) in
+      let rl : length c.replaced ≡ min (length piece) (length old - at) = length-take (length piece) (drop at old)
+      ∙ ap (λ (n : ℕ). min (length piece) n) (length-drop at old) in
       logged_true s (is_fit c w) (is_logged log (undone c w))
       (fit_true (start_of c + length c.replaced) (length old) (length c.replaced) (length piece) (length w) (max (length old) (at + length piece))
       (omega (arith, rl)) (omega (arith, rl)) (omega (arith, long)) (omega (arith, long)))
@@ -66,7 +69,9 @@ module _ (log : List Change) (old : List ℕ) where
     state bytes changes failed stopped left = memory_state bytes changes failed stopped left keep
 
     pub put_done : (at : ℕ) (piece : List ℕ) → armed ≢ 1
-        → Done (state old log faults false armed) (state (written at piece old) (write_of at (length piece) old false ∷ log) faults false (armed - 1)) (max (length old) (at + length piece))
+        → Done (state old log faults false armed)
+        (state (written at piece old) (write_of at (length piece) old false ∷ log) faults false (armed - 1))
+        (max (length old) (at + length piece))
         (Put at piece (state old log faults false armed) (state (written at piece old) (write_of at (length piece) old false ∷ log) faults false (armed - 1)))
     put_done at piece unmet =
         let c = write_of at (length piece) old false in
@@ -78,7 +83,10 @@ module _ (log : List Change) (old : List ℕ) where
             bytes = refl;
             kept = ap (λ (l : List ℕ). kept_of log l) (undoes at piece false);
             ranges = refl;
-            past = ap (λ (l : List ℕ). record { kept = kept_of (c ∷ log) (written at piece old); ranges = ranges_of (c ∷ log) } ∷ past_of log l) (undoes at piece false);
+            past = ap (λ (l : List ℕ). record {
+              kept = kept_of (c ∷ log) (written at piece old);
+              ranges = ranges_of (c ∷ log);
+            } ∷ past_of log l) (undoes at piece false);
           };
         }
 

@@ -135,7 +135,8 @@ pub record Missed (a b : DiskState) : Type 0 where
 abbrev pub Writes : ℕ → List ℕ → DiskState → DiskState → Result (Unit {0}) DiskErr → Type 0
 Writes at bytes a b (Ok _) = Done a b (max a.size (at + length bytes)) (Put at bytes a b)
 Writes at bytes a b (Err Memory) = b ≡ a
-Writes at bytes a b (Err Failed) = Stood a b ⊎ Stop a b (written at bytes a.bytes) ⊎ Fault a b (max a.size (at + length bytes)) (Spoilt at (length bytes) a b ⊎ SameContent a b)
+Writes at bytes a b (Err Failed) = Stood a b ⊎ Stop a b (written at bytes a.bytes)
+    ⊎ Fault a b (max a.size (at + length bytes)) (Spoilt at (length bytes) a b ⊎ SameContent a b)
 
 -- a sync, by its answer
 abbrev pub Syncs : DiskState → DiskState → Result (Unit {0}) DiskErr → Type 0

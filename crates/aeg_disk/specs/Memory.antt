@@ -36,7 +36,8 @@ past_of (c ∷ log) bytes = record { kept = kept_of (c ∷ log) bytes; ranges = 
 
 -- the change replaced bytes within its range and within the disk, and the disk grew no further than its range
 abbrev pub is_fit : Change → List ℕ → Bool
-is_fit c bytes = nat_le (start_of c + length c.replaced) c.before && nat_le (length c.replaced) c.count && nat_le c.before (length bytes) && nat_le (length bytes) (max c.before (c.place + c.count))
+is_fit c bytes = nat_le (start_of c + length c.replaced) c.before && nat_le (length c.replaced) c.count
+    && nat_le c.before (length bytes) && nat_le (length bytes) (max c.before (c.place + c.count))
 
 -- each change of the log fits the bytes that it left
 abbrev pub is_logged : List Change → List ℕ → Bool

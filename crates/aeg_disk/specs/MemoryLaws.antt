@@ -22,8 +22,14 @@ logged_image (c ∷ log) bytes h = at (λ g. logged_image log (undone c bytes) g
     at ih true g = refl
     at ih false g =
         let parts = and_parts (is_fit c bytes) (is_logged log (undone c bytes)) g in
-        let fits = four (nat_le (start_of c + length c.replaced) c.before) (nat_le (length c.replaced) c.count) (nat_le c.before (length bytes)) (nat_le (length bytes) (max c.before (c.place + c.count))) parts.0 in
-        (undone c bytes, ih parts.1, torn_undo c.place c.count c.before c.replaced bytes (leb-true _ _ fits.0) (leb-true _ _ fits.1) (leb-true _ _ fits.2) (leb-true _ _ fits.3))
+        let fits = four (nat_le (start_of c + length c.replaced) c.before) (nat_le (length c.replaced) c.count)
+        (nat_le c.before (length bytes)) (nat_le (length bytes) (max c.before (c.place + c.count))) parts.0 in (
+          undone c bytes,
+          ih parts.1,
+          torn_undo c.place c.count c.before c.replaced bytes (leb-true _ _ fits.0) (leb-true _ _ fits.1)
+              (leb-true _ _ fits.2) (leb-true _ _ fits.3),
+        )
 
-pub lawful_memory : (bytes : List ℕ) (log : List Change) (faults : ℕ) (stopped : Bool) (armed : ℕ) (keep : Bool) → is_logged log bytes ≡ true → Lawful (memory_state bytes log faults stopped armed keep)
+pub lawful_memory : (bytes : List ℕ) (log : List Change) (faults : ℕ) (stopped : Bool) (armed : ℕ) (keep : Bool)
+    → is_logged log bytes ≡ true → Lawful (memory_state bytes log faults stopped armed keep)
 lawful_memory bytes log faults stopped armed keep h = record { size = refl; reads = logged_image log bytes h }

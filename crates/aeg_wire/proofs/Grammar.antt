@@ -1,5 +1,6 @@
 -- A grammar both ways: what is read was spelled so, and what is spelled so is read, whatever follows.
-use Rattle.std.proofs.Common.{◌≡◌, ℕ, suc, ◌+◌, ◌<◌, Bool, true, List, ◌∷◌, ◌++◌, get_or, take, drop, Some, None, refl, sym, ap, subst, ◌∙◌, append_assoc, arith, inl, inr}
+use Rattle.std.proofs.Common.{◌≡◌, ℕ, suc, ◌+◌, ◌<◌, Bool, true, List, ◌∷◌, ◌++◌, get_or, take, drop, Some, None, refl}
+use Rattle.std.proofs.Common.{sym, ap, subst, ◌∙◌, append_assoc, arith, inl, inr}
 use Rattle.std.proofs.lemmas.Bool.{cases_lt}
 use Rattle.std.proofs.lemmas.List.{length-take, get_or-drop, get_or-take, get_or_past}
 use Rattle.std.proofs.lemmas.Option.{same_Some, cond_some}
@@ -36,7 +37,8 @@ pub record IsGrammar {A : Type 0} (fits : A → Type 0) (spelling : A → List �
 
 -- ---- steps that gave something
 
-pub bind_some : {A B : Type 0} (r : Read A) (next : A × List ℕ → Read B) (y : B × List ℕ) → (r >>= next) ≡ Some y → (x : A × List ℕ) × (r ≡ Some x) × (next x ≡ Some y)
+pub bind_some : {A B : Type 0} (r : Read A) (next : A × List ℕ → Read B) (y : B × List ℕ) → (r >>= next) ≡ Some y
+    → (x : A × List ℕ) × (r ≡ Some x) × (next x ≡ Some y)
 bind_some (Some x) next y e = (x, refl, e)
 bind_some None next y e = absurd cc
 
@@ -92,8 +94,13 @@ both_grammar fits spelling read fits2 spelling2 read2 g h = record {
       let first = g.takes bytes b.0.0 b.0.1 are b.1 in
       let second = (h b.0.0 first.1).takes b.0.1 m.0.0 m.0.1 first.0.rest_fits m.1 in
       let both_taken = Takes-then bytes (spelling b.0.0) b.0.1 (spelling2 b.0.0 m.0.0) m.0.1 first.0 second.0 in
-      subst (λ (q : (_ × _) × List ℕ). Takes bytes (spelling q.0.0 ++ spelling2 q.0.0 q.0.1) q.1 × (fits q.0.0 × fits2 q.0.0 q.0.1)) m.2 (both_taken, (first.1, second.1));
-  again = λ p rest fit. rw (append_assoc (spelling p.0) (spelling2 p.0 p.1) rest, g.again p.0 (spelling2 p.0 p.1 ++ rest) fit.0, (h p.0 fit.0).again p.1 rest fit.1) refl;
+      subst (λ (q : (_ × _) × List ℕ). Takes bytes (spelling q.0.0 ++ spelling2 q.0.0 q.0.1) q.1
+      × (fits q.0.0 × fits2 q.0.0 q.0.1)) m.2 (both_taken, (first.1, second.1));
+  again = λ p rest fit. rw (
+    append_assoc (spelling p.0) (spelling2 p.0 p.1) rest,
+    g.again p.0 (spelling2 p.0 p.1 ++ rest) fit.0,
+    (h p.0 fit.0).again p.1 rest fit.1,
+  ) refl;
 }
 
 -- No spelling begins another.

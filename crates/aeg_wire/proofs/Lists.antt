@@ -32,7 +32,9 @@ list_again : {A : Type 0} (fits : A → Type 0) (spelling : A → List ℕ) (one
 unfolding list_at
 list_again fits spelling one g [] rest all = refl
 list_again fits spelling one g (x ∷ xs) rest all =
-    let regrouped : flat_map spelling (x ∷ xs) ++ rest ≡ spelling x ++ (flat_map spelling xs ++ rest) = ap (λ (z : List ℕ). z ++ rest) (flat_map-cons spelling x xs) ∙ append_assoc (spelling x) (flat_map spelling xs) rest in
+    let regrouped : flat_map spelling (x ∷ xs) ++ rest ≡ spelling x
+    ++ (flat_map spelling xs ++ rest) = ap (λ (z : List ℕ). z ++ rest) (flat_map-cons spelling x xs)
+    ∙ append_assoc (spelling x) (flat_map spelling xs) rest in
     ap (list_at one (suc (length xs))) regrouped ∙ rw (g.again x (flat_map spelling xs ++ rest) all.0, list_again fits spelling one g xs rest all.1) refl
 
 pub list_grammar : {A : Type 0} (fits : A → Type 0) (spelling : A → List ℕ) (one : List ℕ → Read A) → IsGrammar fits spelling one
@@ -66,12 +68,17 @@ regroup : {A : Type 0} (front : List A) (x : A) (read : Read (List A)) → with_
 regroup front x (Some field) = ap (λ (xs : List _). Some (xs, field.1)) (simp append_assoc)
 regroup front x None = refl
 
-pub goes_on : {A : Type 0} (one : List ℕ → Read A) (front : List A) (count i : ℕ) (bytes : List ℕ) (x : A) (after : List ℕ) (total : Read (List A)) → i < count → one bytes ≡ Some (x, after)
+pub goes_on : {A : Type 0} (one : List ℕ → Read A) (front : List A) (count i : ℕ) (bytes : List ℕ) (x : A)
+    (after : List ℕ) (total : Read (List A)) → i < count → one bytes ≡ Some (x, after)
     → with_front front (list_at one (count - i) bytes) ≡ total → with_front (front ++ x ∷ []) (list_at one (count - (i + 1)) after) ≡ total
 unfolding list_at
 goes_on one front count i bytes x after total lt h so_far =
     let k : count - i ≡ suc (count - (i + 1)) = omega arith in
-    let step : with_front front (list_at one (count - i) bytes) ≡ with_front (front ++ x ∷ []) (list_at one (count - (i + 1)) after) = rw (k, h) (regroup front x (list_at one (count - (i + 1)) after)) in
+    let step : with_front front (list_at one (count - i) bytes)
+    ≡ with_front (front ++ x ∷ []) (list_at one (count - (i + 1)) after) = rw (
+      k,
+      h,
+    ) (regroup front x (list_at one (count - (i + 1)) after)) in
     sym step ∙ so_far
 
 -- where a field isn't there, the list isn't
@@ -83,7 +90,8 @@ ends one front count i bytes total lt h so_far =
     let step : with_front front (list_at one (count - i) bytes) ≡ None = rw (k, h) refl in
     sym so_far ∙ step
 
-pub is_done : {A : Type 0} (one : List ℕ → Read A) (front : List A) (count i : ℕ) (bytes : List ℕ) (total : Read (List A)) → count ≤ i → with_front front (list_at one (count - i) bytes) ≡ total → total ≡ Some (front, bytes)
+pub is_done : {A : Type 0} (one : List ℕ → Read A) (front : List A) (count i : ℕ) (bytes : List ℕ)
+    (total : Read (List A)) → count ≤ i → with_front front (list_at one (count - i) bytes) ≡ total → total ≡ Some (front, bytes)
 unfolding list_at
 is_done one front count i bytes total le so_far =
     let k : count - i ≡ 0 = omega arith in

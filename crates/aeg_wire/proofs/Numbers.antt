@@ -1,5 +1,6 @@
 -- The grammars of numbers, bytes and texts.
-use Rattle.std.proofs.Common.{◌≡◌, ℕ, ◌^◌, ◌<◌, ◌≤◌, Bool, true, false, cond, ltb, List, [], ◌∷◌, ◌++◌, length, take, drop, Option, Some, None, refl, sym, ap, subst, ◌∙◌, arith}
+use Rattle.std.proofs.Common.{◌≡◌, ℕ, ◌^◌, ◌<◌, ◌≤◌, Bool, true, false, cond, ltb, List, [], ◌∷◌, ◌++◌, length, take}
+use Rattle.std.proofs.Common.{drop, Option, Some, None, refl, sym, ap, subst, ◌∙◌, arith}
 use Rattle.std.specs.Int.{Width, w16, w32, w64, byte_len, from_be_bytes, to_be_bytes}
 use Rattle.std.proofs.lemmas.Bool.{ltb-false, le-ltb}
 use Rattle.std.proofs.lemmas.List.{take_at, drop_at, take-append-drop, length-append, length-take}
@@ -55,23 +56,29 @@ bytes_again some rest =
     let long : ltb (length (some ++ rest)) (length some) ≡ false = le-ltb _ _ (omega (arith, length-append some rest)) in
     rw (long, take_at some rest (length some) refl, drop_at some rest (length some) refl) refl
 
-by_test : (b : Bool) (m n : ℕ) (front after rest : List ℕ) → cond {A = Read ℕ} b None (Some (m, after)) ≡ Some (n, rest) → (cond {A = Read (List ℕ)} b None (Some (front, after)) ≡ Some (front, rest)) × (n ≡ m)
+by_test : (b : Bool) (m n : ℕ) (front after rest : List ℕ) → cond {A = Read ℕ} b None (Some (m, after)) ≡ Some (n, rest)
+    → (cond {A = Read (List ℕ)} b None (Some (front, after)) ≡ Some (front, rest)) × (n ≡ m)
 by_test true m n front after rest e = absurd cc
 by_test false m n front after rest e =
     let same = same_Some (m, after) (n, rest) e in
     (ap (λ (p : ℕ × List ℕ). Some (front, p.1)) same, ap (λ (p : ℕ × List ℕ). p.0) (sym same))
 
 -- a number's bytes, before they are a number
-number_front : (w : Width) (bytes : List ℕ) (n : ℕ) (rest : List ℕ) → number_at w bytes ≡ Some (n, rest) → (bytes_at (byte_len w) bytes ≡ Some (take (byte_len w) bytes, rest)) × (n ≡ from_be_bytes w (take (byte_len w) bytes))
-number_front w bytes n rest e = by_test (ltb (length bytes) (byte_len w)) (from_be_bytes w (take (byte_len w) bytes)) n (take (byte_len w) bytes) (drop (byte_len w) bytes) rest e
+number_front : (w : Width) (bytes : List ℕ) (n : ℕ) (rest : List ℕ) → number_at w bytes ≡ Some (n, rest)
+    → (bytes_at (byte_len w) bytes ≡ Some (take (byte_len w) bytes, rest)) × (n ≡ from_be_bytes w (take (byte_len w) bytes))
+number_front w bytes n rest e = by_test (ltb (length bytes) (byte_len w)) (from_be_bytes w (take (byte_len w) bytes)) n
+    (take (byte_len w) bytes) (drop (byte_len w) bytes) rest e
 
 pub number_grammar : (w : Width) (limit : ℕ) → IsWide w limit → IsGrammar (λ n. n < limit) (λ n. to_be_bytes w n) (number_at w)
 number_grammar w limit wide = record {
   takes = λ bytes n rest fits e.
       let g = number_front w bytes n rest e in
       let t = bytes_take (byte_len w) bytes (take (byte_len w) bytes) rest fits g.0 in
-      let back : to_be_bytes w n ≡ take (byte_len w) bytes = ap (to_be_bytes w) g.1 ∙ wide.back (take (byte_len w) bytes) t.1 (IsBytes-take (byte_len w) bytes fits) in
-      (subst (λ (z : List ℕ). Takes bytes z rest) (sym back) t.0, subst (λ (m : ℕ). m < limit) (sym g.1) (wide.below (take (byte_len w) bytes) (IsBytes-take (byte_len w) bytes fits)));
+      let back : to_be_bytes w n ≡ take (byte_len w) bytes = ap (to_be_bytes w) g.1
+      ∙ wide.back (take (byte_len w) bytes) t.1 (IsBytes-take (byte_len w) bytes fits) in (
+        subst (λ (z : List ℕ). Takes bytes z rest) (sym back) t.0,
+        subst (λ (m : ℕ). m < limit) (sym g.1) (wide.below (take (byte_len w) bytes) (IsBytes-take (byte_len w) bytes fits)),
+      );
   again = λ n rest lt.
       let len = wide.len n in
       let long : ltb (length (to_be_bytes w n ++ rest)) (byte_len w) ≡ false = le-ltb _ _ (omega (arith, length-append (to_be_bytes w n) rest)) in

@@ -4,7 +4,8 @@ use Rattle.std.proofs.lemmas.Bool.{lt-ltb, le-ltb}
 use Rattle.aeg_base.specs.declared.limits.TheConstants.{INPUT_BYTES, INPUT_LINES}
 use Rattle.server_model.specs.Backends.{Amounts}
 use Rattle.server_model.specs.Server.{Server, Step, Refused, Goes, opening_server, step}
-use Rattle.server_model.specs.Single.{booking_meaning, Line, Skips, Bad, Steps, line_of, lines_of, Judged, Reads, Fails, judge, judged, judgement, Outcome, goes_on_with, then_told, told_line, run_from}
+use Rattle.server_model.specs.Single.{booking_meaning, Line, Skips, Bad, Steps, line_of, lines_of, Judged, Reads, Fails}
+use Rattle.server_model.specs.Single.{judge, judged, judgement, Outcome, goes_on_with, then_told, told_line, run_from}
 use Rattle.server_model.specs.declared.history.Numbered.{Numbered}
 use Rattle.aegean_main.specs.Answer.{refused_with, answer_run, answer_judged, answer_of}
 use Rattle.aegean_main.specs.Counting.{steps_in}
@@ -13,28 +14,37 @@ use Rattle.aegean_main.specs.declared.status.LimitKind.TheVariants as limits
 use Rattle.aegean_main.specs.declared.status.Status.TheVariants.{Script, Limit}
 
 -- more lines than the limit
-pub answer_of-lines : (input : List ℕ) → length input ≤ INPUT_BYTES → INPUT_LINES < length (lines_of input) → answer_of input ≡ refused_with (Limit limits.Lines)
+pub answer_of-lines : (input : List ℕ) → length input ≤ INPUT_BYTES → INPUT_LINES < length (lines_of input)
+    → answer_of input ≡ refused_with (Limit limits.Lines)
 answer_of-lines input bytes lines =
-    ap (λ b. cond b (refused_with (Limit limits.Bytes)) (cond (nat_lt INPUT_LINES (length (lines_of input))) (refused_with (Limit limits.Lines)) (answer_judged (judgement input)))) (le-ltb INPUT_BYTES (length input) bytes)
+    ap (λ b. cond b (refused_with (Limit limits.Bytes))
+    (cond (nat_lt INPUT_LINES (length (lines_of input))) (refused_with (Limit limits.Lines))
+    (answer_judged (judgement input)))) (le-ltb INPUT_BYTES (length input) bytes)
     ∙ ap (λ b. cond b (refused_with (Limit limits.Lines)) (answer_judged (judgement input))) (lt-ltb INPUT_LINES (length (lines_of input)) lines)
 
 -- an input within the limits
 pub answer_of-judged : (input : List ℕ) → length input ≤ INPUT_BYTES → length (lines_of input) ≤ INPUT_LINES → answer_of input ≡ answer_judged (judgement input)
 answer_of-judged input bytes lines =
-    ap (λ b. cond b (refused_with (Limit limits.Bytes)) (cond (nat_lt INPUT_LINES (length (lines_of input))) (refused_with (Limit limits.Lines)) (answer_judged (judgement input)))) (le-ltb INPUT_BYTES (length input) bytes)
+    ap (λ b. cond b (refused_with (Limit limits.Bytes))
+    (cond (nat_lt INPUT_LINES (length (lines_of input))) (refused_with (Limit limits.Lines))
+    (answer_judged (judgement input)))) (le-ltb INPUT_BYTES (length input) bytes)
     ∙ ap (λ b. cond b (refused_with (Limit limits.Lines)) (answer_judged (judgement input))) (le-ltb INPUT_LINES (length (lines_of input)) lines)
 
 -- more bytes than the limit
 pub answer_of-bytes : (input : List ℕ) → INPUT_BYTES < length input → answer_of input ≡ refused_with (Limit limits.Bytes)
 answer_of-bytes input bytes =
-    ap (λ b. cond b (refused_with (Limit limits.Bytes)) (cond (nat_lt INPUT_LINES (length (lines_of input))) (refused_with (Limit limits.Lines)) (answer_judged (judgement input)))) (lt-ltb INPUT_BYTES (length input) bytes)
+    ap (λ b. cond b (refused_with (Limit limits.Bytes))
+    (cond (nat_lt INPUT_LINES (length (lines_of input))) (refused_with (Limit limits.Lines))
+    (answer_judged (judgement input)))) (lt-ltb INPUT_BYTES (length input) bytes)
 
-pub answer_of-bad : (input : List ℕ) (line row : ℕ) → length input ≤ INPUT_BYTES → length (lines_of input) ≤ INPUT_LINES → judgement input ≡ Fails line row → answer_of input ≡ refused_with (Script line row)
+pub answer_of-bad : (input : List ℕ) (line row : ℕ) → length input ≤ INPUT_BYTES → length (lines_of input) ≤ INPUT_LINES
+    → judgement input ≡ Fails line row → answer_of input ≡ refused_with (Script line row)
 answer_of-bad input line row bytes lines e = answer_of-judged input bytes lines ∙ ap answer_judged e
 
 -- ONE STEP AFTER ANOTHER
 
-same_rest : (st : Step Amounts) (number : ℕ) (f g : Server Amounts → Outcome) → ((s : Server Amounts) → f s ≡ g s) → goes_on_with st number f ≡ goes_on_with st number g
+same_rest : (st : Step Amounts) (number : ℕ) (f g : Server Amounts → Outcome) → ((s : Server Amounts) → f s ≡ g s)
+    → goes_on_with st number f ≡ goes_on_with st number g
 same_rest (Refused row) number f g e = refl
 same_rest (Goes new told) number f g e = ap (then_told (told_line told)) (e new)
 
@@ -47,7 +57,8 @@ one_line (Steps hist body) number (Fails at row) more steps s same e = absurd (c
 one_line (Steps hist body) number (Reads zs) more steps s same e =
     let one : Numbered = record { line = number; hist = hist; body = body } in
     let whole : one ∷ zs ≡ steps = cc in
-    same_rest (step booking_meaning s hist body) number more (run_from booking_meaning zs) (λ t. same zs t refl) ∙ ap (λ (z : List Numbered). run_from booking_meaning z s) whole
+    same_rest (step booking_meaning s hist body) number more (run_from booking_meaning zs) (λ t. same zs t refl)
+    ∙ ap (λ (z : List Numbered). run_from booking_meaning z s) whole
 
 -- the lines' steps are those that they are judged to be
 pub run_lines-judged : (lines : List (List ℕ)) (number : ℕ) (steps : List Numbered) (s : Server Amounts) → judge number lines ≡ Reads steps

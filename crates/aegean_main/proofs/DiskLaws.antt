@@ -1,5 +1,7 @@
 -- How the disks fare in a run, event by event.
-use Rattle.std.proofs.Common.{◌≡◌, ◌⊎◌, inl, inr, ℕ, zero, suc, ◌+◌, ◌<◌, ◌≤◌, ◌&&◌, nat_le, Bool, true, false, List, [], ◌∷◌, ◌++◌, length, map, Option, Some, None, get_or, refl, sym, ap, subst, ◌∙◌, if◌then◌else◌, arith}
+use Rattle.std.proofs.Common.{◌≡◌, ◌⊎◌, inl, inr, ℕ, zero, suc, ◌+◌, ◌<◌, ◌≤◌, ◌&&◌, nat_le, Bool, true, false, List}
+use Rattle.std.proofs.Common.{[], ◌∷◌, ◌++◌, length, map, Option, Some, None, get_or, refl, sym, ap, subst, ◌∙◌}
+use Rattle.std.proofs.Common.{if◌then◌else◌, arith}
 use Rattle.std.specs.Prelude.{slice_get, min, ◌-◌, ◌^◌}
 use Rattle.std.proofs.lemmas.Option.{slice_get_within, slice_get-get_or}
 use Rattle.std.proofs.lemmas.Bool.{leb-true, and_parts, false_from_ne_true, eqb-true}
@@ -95,7 +97,8 @@ none_more a = omega arith
 plus_assoc : (a b d : ℕ) → a + (b + d) ≡ (a + b) + d
 plus_assoc a b d = omega arith
 
-faults-append : (c : Config Amounts) (w : BookingWorld) (x : ℕ) (es fs : List TraceEvent) → faults_at c w x (es ++ fs) ≡ faults_at c w x es + faults_at c (run c es w) x fs
+faults-append : (c : Config Amounts) (w : BookingWorld) (x : ℕ) (es fs : List TraceEvent)
+    → faults_at c w x (es ++ fs) ≡ faults_at c w x es + faults_at c (run c es w) x fs
 faults-append c w x [] fs = none_more (faults_at c w x fs)
 faults-append c w x (e ∷ es) fs =
     ap (λ (z : ℕ). (if fails_at w x e then 1 else 0) + z) (faults-append c (after c w e) x es fs)
@@ -120,30 +123,39 @@ rose_by old new x a b r e f =
     subst (λ (z : DiskState). Rose z.faults b.faults) one (subst (λ (z : DiskState). Rose r.0.faults z.faults) two r.4)
 
 -- one event more
-counts_by : (w : BookingWorld) (x had many : ℕ) (n b : DiskState) (now new : List DiskState) (e : TraceEvent) (t : Bool) → fails_at w x e ≡ t → min (had + many) (2 ^ 64 - 1) ≤ n.faults → n.faults ≤ b.faults → slice_get now x ≡ Some n → slice_get new x ≡ Some b
+counts_by : (w : BookingWorld) (x had many : ℕ) (n b : DiskState) (now new : List DiskState) (e : TraceEvent) (t : Bool)
+    → fails_at w x e ≡ t → min (had + many) (2 ^ 64 - 1) ≤ n.faults → n.faults ≤ b.faults → slice_get now x ≡ Some n
+    → slice_get new x ≡ Some b
     → HasCause w now new e → min (had + (many + ((if t then 1 else 0) + 0))) (2 ^ 64 - 1) ≤ b.faults
 counts_by w x had many n b now new e false f low more g k h = omega (arith, low, more)
 counts_by w x had many n b now new e true f low more g k h =
     let rose : Rose n.faults b.faults = rose_by now new x n b (rose_there w now new x e h f) g k in
     omega (arith, low, rose)
 
-counts-last : (c : Config Amounts) (es : List TraceEvent) (e : TraceEvent) (first now new : List DiskState) → CountsFaults c es first now → NoneFell first now → NoneFell now new → HasCause (world c es) now new e → CountsFaults c (es ++ e ∷ []) first new
+counts-last : (c : Config Amounts) (es : List TraceEvent) (e : TraceEvent) (first now new : List DiskState)
+    → CountsFaults c es first now → NoneFell first now → NoneFell now new → HasCause (world c es) now new e
+    → CountsFaults c (es ++ e ∷ []) first new
 counts-last c es e first now new h l m cause x a b p q =
     let n = there first now x a l.0 p in
-    let count : faults_at c start x (es ++ e ∷ []) ≡ faults_at c start x es + ((if fails_at (world c es) x e then 1 else 0) + 0) = faults-append c start x es (e ∷ []) in
-    let by = counts_by (world c es) x a.faults (faults_at c start x es) n.0 b now new e (fails_at (world c es) x e) refl (h x a n.0 p n.1) (m.1 x n.0 b n.1 q) n.1 q cause in
+    let count : faults_at c start x (es ++ e ∷ [])
+    ≡ faults_at c start x es + ((if fails_at (world c es) x e then 1 else 0) + 0) = faults-append c start x es (e ∷ []) in
+    let by = counts_by (world c es) x a.faults (faults_at c start x es) n.0 b now new e (fails_at (world c es) x e) refl
+    (h x a n.0 p n.1) (m.1 x n.0 b n.1 q) n.1 q cause in
     subst (λ (z : ℕ). min (a.faults + z) (2 ^ 64 - 1) ≤ b.faults) (sym count) by
 
 -- A RUN'S DISKS
 
 -- one event more
-pub disks_more : (script : Script) (es : List TraceEvent) (e : TraceEvent) (first now new : List DiskState) → DisksStand script es first now → Finds (world (tiers script) es) e → HasCause (world (tiers script) es) now new e → NoneFell now new
+pub disks_more : (script : Script) (es : List TraceEvent) (e : TraceEvent) (first now new : List DiskState)
+    → DisksStand script es first now → Finds (world (tiers script) es) e → HasCause (world (tiers script) es) now new e
+    → NoneFell now new
     → AreDisks (world (tiers script) (es ++ e ∷ [])) new → DisksStand script (es ++ e ∷ []) first new
 disks_more script es e first now new s f cause m d =
     let on : world (tiers script) (es ++ e ∷ []) ≡ after (tiers script) (world (tiers script) es) e = run-append (tiers script) es (e ∷ []) start in
     let had : NoneRose first new → NoneRose first now = none_rose_before first now new m in
     let sure : NoneRose first new → is_sure e ≡ true = λ n.
-    is_sure_by (world (tiers script) es) e (s.sole (had n)) f (false_from_ne_true (is_faulty e) (λ t. let c = cause t in none_rose_at first now new c.0 s.later n c.2)) in
+    is_sure_by (world (tiers script) es) e (s.sole (had n)) f
+    (false_from_ne_true (is_faulty e) (λ t. let c = cause t in none_rose_at first now new c.0 s.later n c.2)) in
     record {
       leaves = record {
         disks = d;
@@ -156,10 +168,13 @@ disks_more script es e first now new s f cause m d =
 
 -- THE FIRST RESTARTS
 
-first_sure : (c : Config Amounts) (es : List TraceEvent) (w : BookingWorld) (old new : List DiskState) → AllFind c w es → AllCaused old new es → NoneRose old new → IsSole w → AllSure es × IsSole (run c es w)
+first_sure : (c : Config Amounts) (es : List TraceEvent) (w : BookingWorld) (old new : List DiskState) → AllFind c w es
+    → AllCaused old new es → NoneRose old new → IsSole w → AllSure es × IsSole (run c es w)
 first_sure c [] w old new f h n s = (tt, s)
 first_sure c (e ∷ es) w old new f h n s =
-    let sure : is_sure e ≡ true = is_sure_by w e s f.0 (false_from_ne_true (is_faulty e) (λ t. let cause = h.0 t in n cause.0 cause.2.0 cause.2.1 cause.2.2 cause.2.3 cause.2.4)) in
+    let sure : is_sure e ≡ true = is_sure_by w e s f.0
+    (false_from_ne_true (is_faulty e)
+    (λ t. let cause = h.0 t in n cause.0 cause.2.0 cause.2.1 cause.2.2 cause.2.3 cause.2.4)) in
     let rest = first_sure c es (after c w e) old new f.1 h.1 n (sole_after c w e sure s) in
     ((sure, rest.0), rest.1)
 
@@ -183,33 +198,44 @@ fails_here w x n e found r f =
 within : (a b : ℕ) (t : Bool) → nat_le a b && t ≡ true → (a ≤ b) × (t ≡ true)
 within a b t h = let both = and_parts (nat_le a b) t h in (leb-true a b both.0, both.1)
 
-none_below : (c : Config Amounts) (ns : List NodeId) (es : List TraceEvent) (w : BookingWorld) (low x : ℕ) → AllBecome (map (λ n. Restart n (Reads 0)) ns) es → ascends low ns ≡ true → x < low → faults_at c w x es ≡ 0
+none_below : (c : Config Amounts) (ns : List NodeId) (es : List TraceEvent) (w : BookingWorld) (low x : ℕ)
+    → AllBecome (map (λ n. Restart n (Reads 0)) ns) es → ascends low ns ≡ true → x < low → faults_at c w x es ≡ 0
 none_below c [] [] w low x h a l = refl
 none_below c [] (e ∷ es) w low x h a l = absurd h
 none_below c (n ∷ ns) [] w low x h a l = absurd h
 none_below c (n ∷ ns) (e ∷ es) w low x h a l =
     let r = becomes_restart n e h.0 in
     let up = within low (place_of n) (ascends (suc (place_of n)) ns) a in
-    let not_here : fails_at w x e ≡ false = false_from_ne_true (fails_at w x e) (λ t. let same : x ≡ place_of n = fails_here w x n e r.0 r.1 t in omega (arith, same, up.0, l)) in
-    ap (λ (z : Bool). (if z then 1 else 0) + faults_at c (after c w e) x es) not_here ∙ sym (none_more (faults_at c (after c w e) x es)) ∙ none_below c ns es (after c w e) (suc (place_of n)) x h.1 up.1 (omega (arith, up.0, l))
+    let not_here : fails_at w x e ≡ false = false_from_ne_true (fails_at w x e) (λ t. let same : x
+    ≡ place_of n = fails_here w x n e r.0 r.1 t in omega (arith, same, up.0, l)) in
+    ap (λ (z : Bool). (if z then 1 else 0) + faults_at c (after c w e) x es) not_here
+    ∙ sym (none_more (faults_at c (after c w e) x es))
+    ∙ none_below c ns es (after c w e) (suc (place_of n)) x h.1 up.1 (omega (arith, up.0, l))
 
 -- a disk failed at most once, and counted it
 abbrev OneOrNone : Config Amounts → BookingWorld → ℕ → List TraceEvent → List DiskState → List DiskState → Type 0
 OneOrNone c w x es old new = (faults_at c w x es ≡ 0) ⊎ ((faults_at c w x es ≡ 1) × RoseAt old new x)
 
-rose_restart : (w : BookingWorld) (old new : List DiskState) (x : ℕ) (n : NodeId) (e : TraceEvent) (found : Found) → e ≡ Restart n found → HasCause start old new e → fails_at w x e ≡ true → RoseAt old new x
-rose_restart w old new x n e found g h f = rose_there start old new x e h (ap (λ (z : TraceEvent). fails_at start x z) g ∙ sym (ap (λ (z : TraceEvent). fails_at w x z) g) ∙ f)
+rose_restart : (w : BookingWorld) (old new : List DiskState) (x : ℕ) (n : NodeId) (e : TraceEvent) (found : Found)
+    → e ≡ Restart n found → HasCause start old new e → fails_at w x e ≡ true → RoseAt old new x
+rose_restart w old new x n e found g h f = rose_there start old new x e h (ap (λ (z : TraceEvent). fails_at start x z) g
+    ∙ sym (ap (λ (z : TraceEvent). fails_at w x z) g) ∙ f)
 
-count_of : (c : Config Amounts) (w : BookingWorld) (x : ℕ) (e : TraceEvent) (es : List TraceEvent) (t : Bool) → fails_at w x e ≡ t → faults_at c w x (e ∷ es) ≡ (if t then 1 else 0) + faults_at c (after c w e) x es
+count_of : (c : Config Amounts) (w : BookingWorld) (x : ℕ) (e : TraceEvent) (es : List TraceEvent) (t : Bool)
+    → fails_at w x e ≡ t → faults_at c w x (e ∷ es) ≡ (if t then 1 else 0) + faults_at c (after c w e) x es
 count_of c w x e es t f = ap (λ (z : Bool). (if z then 1 else 0) + faults_at c (after c w e) x es) f
 
-one_more : (c : Config Amounts) (w : BookingWorld) (old new : List DiskState) (x : ℕ) (e : TraceEvent) (es : List TraceEvent) (t : Bool) → fails_at w x e ≡ t → (fails_at w x e ≡ true → (faults_at c (after c w e) x es ≡ 0) × RoseAt old new x)
+one_more : (c : Config Amounts) (w : BookingWorld) (old new : List DiskState) (x : ℕ) (e : TraceEvent)
+    (es : List TraceEvent) (t : Bool) → fails_at w x e ≡ t
+    → (fails_at w x e ≡ true → (faults_at c (after c w e) x es ≡ 0) × RoseAt old new x)
     → OneOrNone c (after c w e) x es old new → OneOrNone c w x (e ∷ es) old new
 one_more c w old new x e es true f here rest = inr (count_of c w x e es true f ∙ ap (λ (z : ℕ). 1 + z) (here f).0, (here f).1)
 one_more c w old new x e es false f here (inl none) = inl (count_of c w x e es false f ∙ sym (none_more (faults_at c (after c w e) x es)) ∙ none)
 one_more c w old new x e es false f here (inr one) = inr (count_of c w x e es false f ∙ sym (none_more (faults_at c (after c w e) x es)) ∙ one.0, one.1)
 
-one_or_none : (c : Config Amounts) (ns : List NodeId) (es : List TraceEvent) (w : BookingWorld) (old new : List DiskState) (low x : ℕ) → AllBecome (map (λ n. Restart n (Reads 0)) ns) es → AllCaused old new es → ascends low ns ≡ true → OneOrNone c w x es old new
+one_or_none : (c : Config Amounts) (ns : List NodeId) (es : List TraceEvent) (w : BookingWorld)
+    (old new : List DiskState) (low x : ℕ) → AllBecome (map (λ n. Restart n (Reads 0)) ns) es → AllCaused old new es
+    → ascends low ns ≡ true → OneOrNone c w x es old new
 one_or_none c [] [] w old new low x h k a = inl refl
 one_or_none c [] (e ∷ es) w old new low x h k a = absurd h
 one_or_none c (n ∷ ns) [] w old new low x h k a = absurd h
@@ -217,18 +243,27 @@ one_or_none c (n ∷ ns) (e ∷ es) w old new low x h k a =
     let r = becomes_restart n e h.0 in
     let up = within low (place_of n) (ascends (suc (place_of n)) ns) a in
     one_more c w old new x e es (fails_at w x e) refl
-    (λ f. let same : x ≡ place_of n = fails_here w x n e r.0 r.1 f in (none_below c ns es (after c w e) (suc (place_of n)) x h.1 up.1 (omega (arith, same)), rose_restart w old new x n e r.0 r.1 k.0 f))
+    (λ f. let same : x ≡ place_of n = fails_here w x n e r.0 r.1
+    f in (
+      none_below c ns es (after c w e) (suc (place_of n)) x h.1 up.1 (omega (arith, same)),
+      rose_restart w old new x n e r.0 r.1 k.0 f,
+    ))
     (one_or_none c ns es (after c w e) old new (suc (place_of n)) x h.1 k.1 up.1)
 
-counts_of : (c : Config Amounts) (es : List TraceEvent) (old new : List DiskState) (x : ℕ) (a b : DiskState) → OneOrNone c start x es old new → a.faults ≤ b.faults → slice_get old x ≡ Some a → slice_get new x ≡ Some b
+counts_of : (c : Config Amounts) (es : List TraceEvent) (old new : List DiskState) (x : ℕ) (a b : DiskState)
+    → OneOrNone c start x es old new → a.faults ≤ b.faults → slice_get old x ≡ Some a → slice_get new x ≡ Some b
     → min (a.faults + faults_at c start x es) (2 ^ 64 - 1) ≤ b.faults
 counts_of c es old new x a b (inl none) more p q = omega (arith, none, more)
 counts_of c es old new x a b (inr one) more p q = let rose : Rose a.faults b.faults = rose_by old new x a b one.1 p q in omega (arith, one.0, rose)
 
-first_counts : (c : Config Amounts) (es : List TraceEvent) (old new : List DiskState) → c.u ≤ 2 → AllBecome (starts c.u) es → AllCaused old new es → NoneFell old new → CountsFaults c es old new
-first_counts c es old new few h k l x a b p q = counts_of c es old new x a b (one_or_none c (all_nodes c.u) es start old new 0 x h k (nodes_ascend c.u few)) (l.1 x a b p q) p q
+first_counts : (c : Config Amounts) (es : List TraceEvent) (old new : List DiskState) → c.u ≤ 2
+    → AllBecome (starts c.u) es → AllCaused old new es → NoneFell old new → CountsFaults c es old new
+first_counts c es old new few h k l x a b p q = counts_of c es old new x a b
+    (one_or_none c (all_nodes c.u) es start old new 0 x h k (nodes_ascend c.u few)) (l.1 x a b p q) p q
 
-pub disks_first : (script : Script) (es : List TraceEvent) (old new : List DiskState) → script.u ≤ 2 → AllBecome (starts script.u) es → AllFind (tiers script) start es → AllCaused old new es → NoneFell old new → AreDisks (world (tiers script) es) new
+pub disks_first : (script : Script) (es : List TraceEvent) (old new : List DiskState) → script.u ≤ 2
+    → AllBecome (starts script.u) es → AllFind (tiers script) start es → AllCaused old new es → NoneFell old new
+    → AreDisks (world (tiers script) es) new
     → DisksStand script es old new
 disks_first script es old new few h f k l d = record {
   leaves = record {

@@ -27,5 +27,7 @@ err_of : (A : Type 0) (halt : Halt) → halt ≡ Write → IsErrOf {T = A} {E = 
 err_of A halt e = cc
 
 -- the same halt, as the answer of another call
-pub carried : (A B : Type 0) (halt : Halt) (before now : ℕ) → IsCounted (IsErrOf {T = A} {E = Halt} (Err halt) Write) before now → IsCounted (IsErrOf {T = B} {E = Halt} (Err halt) Write) before now
+pub carried : (A B : Type 0) (halt : Halt) (before now : ℕ)
+    → IsCounted (IsErrOf {T = A} {E = Halt} (Err halt) Write) before now
+    → IsCounted (IsErrOf {T = B} {E = Halt} (Err halt) Write) before now
 carried A B halt before now k = record { rose = λ e. k.rose (err_of A halt (halt_of B halt e)); kept = λ n. k.kept (λ e. n (err_of B halt (halt_of A halt e))) }

@@ -33,14 +33,17 @@ stands_first input = record { counts = counted-none (steps_in (judgement input))
 
 -- a line is so many steps
 counts_on : (total : Result ℕ (ℕ × ℕ)) (lines : List (List ℕ)) (line : List ℕ) (more : List (List ℕ)) (number count steps : ℕ)
-    → lines ≡ line ∷ more → IsSteps steps (line_of line) → total ≡ counted count (steps_in (judge number lines)) → total ≡ counted (count + steps) (steps_in (judge (number + 1) more))
+    → lines ≡ line ∷ more → IsSteps steps (line_of line) → total ≡ counted count (steps_in (judge number lines))
+    → total ≡ counted (count + steps) (steps_in (judge (number + 1) more))
 counts_on total lines line more number count steps e is_steps c =
     c ∙ ap (λ (z : List (List ℕ)). counted count (steps_in (judge number z))) e ∙ ap (counted count) (is_steps number (judge (number + 1) more))
     ∙ counted-more count steps (steps_in (judge (number + 1) more))
 
 -- a line was run
-pub stands_on : (input : List ℕ) (lines : List (List ℕ)) (line : List ℕ) (more : List (List ℕ)) (number count steps : ℕ) (s t : Server Amounts) (old new : List ℕ)
-    → lines ≡ line ∷ more → IsSteps steps (line_of line) → GoesOn (line_of line) s t old new → Stands input lines number count s old → Stands input more (number + 1) (count + steps) t new
+pub stands_on : (input : List ℕ) (lines : List (List ℕ)) (line : List ℕ) (more : List (List ℕ)) (number count steps : ℕ)
+    (s t : Server Amounts) (old new : List ℕ)
+    → lines ≡ line ∷ more → IsSteps steps (line_of line) → GoesOn (line_of line) s t old new
+    → Stands input lines number count s old → Stands input more (number + 1) (count + steps) t new
 stands_on input lines line more number count steps s t old new e is_steps on stands = record {
   counts = counts_on (steps_in (judgement input)) lines line more number count steps e is_steps stands.counts;
   told = stands.told ∙ ap (λ (z : List (List ℕ)). old ++ (run_lines number z s).text) e ∙ (on number (run_lines (number + 1) more)).0;
@@ -49,7 +52,8 @@ stands_on input lines line more number count steps s t old new e is_steps on sta
 
 -- an input whose lines are all steps is answered by what they tell
 answered : (input : List ℕ) (count : ℕ) (text : List ℕ) (refused : Option (ℕ × ℕ)) → steps_in (judgement input) ≡ Ok count
-    → (run_lines 1 (lines_of input) (opening_server booking_meaning)).text ≡ text → (run_lines 1 (lines_of input) (opening_server booking_meaning)).refused ≡ refused
+    → (run_lines 1 (lines_of input) (opening_server booking_meaning)).text ≡ text
+    → (run_lines 1 (lines_of input) (opening_server booking_meaning)).refused ≡ refused
     → answer_judged (judgement input) ≡ ended_with text refused count
 answered input count text refused e t r =
     by_judgement (lines_of input) (judgement input) count refl e
@@ -79,7 +83,8 @@ stands_bad input lines line more number count row s text e bad stands =
     ∙ ap (λ (z : Line). counted count (steps_in (judged number z (judge (number + 1) more)))) bad)
 
 -- a step is refused, and the lines behind it are judged
-pub stands_stopped : (input : List ℕ) (lines : List (List ℕ)) (line : List ℕ) (more : List (List ℕ)) (number count row : ℕ) (s : Server Amounts) (old new : List ℕ) (r : Result Telling RunErr)
+pub stands_stopped : (input : List ℕ) (lines : List (List ℕ)) (line : List ℕ) (more : List (List ℕ))
+    (number count row : ℕ) (s : Server Amounts) (old new : List ℕ) (r : Result Telling RunErr)
     → lines ≡ line ∷ more → IsSteps 1 (line_of line) → IsRefused (line_of line) s row → new ≡ old → Stands input lines number count s old
     → Stops (judge (number + 1) more) new number row r → IfOk r (λ telling. answer_judged (judgement input) ≡ told_with telling.text.items telling.refused)
 stands_stopped input lines line more number count row s old new (Err error) e is_step is_refused same stands stops = tt
@@ -87,24 +92,31 @@ stands_stopped input lines line more number count row s old new (Ok telling) e i
     let all : steps_in (judgement input) ≡ Ok ((count + 1) + stops.0) =
     counts_on (steps_in (judgement input)) lines line more number count 1 e is_step stands.counts ∙ ap (counted (count + 1)) stops.1.0 in
     answered input ((count + 1) + stops.0) old (Some (number, row)) all
-    (stands.told ∙ ap (λ (z : List (List ℕ)). old ++ (run_lines number z s).text) e ∙ ap (λ (z : Outcome). old ++ z.text) (is_refused number (run_lines (number + 1) more)) ∙ append-nil old)
-    (stands.stopped ∙ ap (λ (z : List (List ℕ)). (run_lines number z s).refused) e ∙ ap (λ (z : Outcome). z.refused) (is_refused number (run_lines (number + 1) more)))
+    (stands.told ∙ ap (λ (z : List (List ℕ)). old ++ (run_lines number z s).text) e
+    ∙ ap (λ (z : Outcome). old ++ z.text) (is_refused number (run_lines (number + 1) more)) ∙ append-nil old)
+    (stands.stopped ∙ ap (λ (z : List (List ℕ)). (run_lines number z s).refused) e
+    ∙ ap (λ (z : Outcome). z.refused) (is_refused number (run_lines (number + 1) more)))
     ∙ ap (λ (z : List ℕ). told_with z (Some (number, row))) (sym same ∙ sym stops.1.1.0)
     ∙ ap (λ (z : Option (ℕ × ℕ)). told_with telling.text.items z) (sym stops.1.1.1)
 
 -- and one of them is bad
-pub stands_bad_behind : (input : List ℕ) (lines : List (List ℕ)) (line : List ℕ) (more : List (List ℕ)) (number count row : ℕ) (s : Server Amounts) (old new : List ℕ) (r : Result Telling RunErr)
-    → lines ≡ line ∷ more → IsSteps 1 (line_of line) → Stands input lines number count s old → Stops (judge (number + 1) more) new number row r → IfErr r (IsBadLine (judgement input))
+pub stands_bad_behind : (input : List ℕ) (lines : List (List ℕ)) (line : List ℕ) (more : List (List ℕ))
+    (number count row : ℕ) (s : Server Amounts) (old new : List ℕ) (r : Result Telling RunErr)
+    → lines ≡ line ∷ more → IsSteps 1 (line_of line) → Stands input lines number count s old
+    → Stops (judge (number + 1) more) new number row r → IfErr r (IsBadLine (judgement input))
 stands_bad_behind input lines line more number count row s old new (Ok telling) e is_step stands stops = tt
 stands_bad_behind input lines line more number count row s old new (Err runs.Memory) e is_step stands stops = tt
 stands_bad_behind input lines line more number count row s old new (Err (runs.Bad bad)) e is_step stands stops =
     fails (judgement input) bad.line bad.row
-    (counts_on (steps_in (judgement input)) lines line more number count 1 e is_step stands.counts ∙ ap (λ (j : Judged). counted (count + 1) (steps_in j)) stops)
+    (counts_on (steps_in (judgement input)) lines line more number count 1 e is_step stands.counts
+    ∙ ap (λ (j : Judged). counted (count + 1) (steps_in j)) stops)
 
 -- BY WHAT A LINE'S RUN ANSWERED
 
-pub bad_line : (input : List ℕ) (lines : List (List ℕ)) (line : List ℕ) (more : List (List ℕ)) (number count row shown : ℕ) (s t : Server Amounts) (old new : List ℕ) (error : LineErr)
-    → lines ≡ line ∷ more → error ≡ errs.Bad row → row ≡ shown → TakesLine (line_of line) s t old new (Err error) → Stands input lines number count s old → judgement input ≡ Fails number shown
+pub bad_line : (input : List ℕ) (lines : List (List ℕ)) (line : List ℕ) (more : List (List ℕ))
+    (number count row shown : ℕ) (s t : Server Amounts) (old new : List ℕ) (error : LineErr)
+    → lines ≡ line ∷ more → error ≡ errs.Bad row → row ≡ shown → TakesLine (line_of line) s t old new (Err error)
+    → Stands input lines number count s old → judgement input ≡ Fails number shown
 bad_line input lines line more number count row shown s t old new (errs.Bad at) e is r takes stands =
     let same : at ≡ row = cc in
     stands_bad input lines line more number count at s old e takes stands ∙ ap (λ (z : ℕ). Fails number z) (same ∙ r)

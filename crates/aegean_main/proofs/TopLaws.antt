@@ -1,5 +1,7 @@
 -- What the statuses say, case by case.
-use Rattle.std.proofs.Common.{◌≡◌, ℕ, ◌<◌, ◌≤◌, ◌⊎◌, inl, inr, List, [], ◌∷◌, ◌++◌, Option, None, Some, IfSome, refl, sym, ap, subst, ◌∙◌, length, length-append, Bool, true, false, cond, nat_lt, get_or, map, IsTrue, arith}
+use Rattle.std.proofs.Common.{◌≡◌, ℕ, ◌<◌, ◌≤◌, ◌⊎◌, inl, inr, List, [], ◌∷◌, ◌++◌, Option, None, Some, IfSome, refl}
+use Rattle.std.proofs.Common.{sym, ap, subst, ◌∙◌, length, length-append, Bool, true, false, cond, nat_lt, get_or, map}
+use Rattle.std.proofs.Common.{IsTrue, arith}
 use Rattle.std.specs.Str.{bytes_eq}
 use Rattle.std.proofs.lemmas.Slice.Eq.{bytes_eq-Decides}
 use Rattle.std.specs.Io.KnownBytes.{Consumes}
@@ -9,7 +11,8 @@ use Rattle.aeg_io.proofs.Gained.{Gains-nil}
 use Rattle.server_model.specs.Backends.{Amounts}
 use Rattle.server_model.specs.Server.{Server, Step, Refused, Goes, opening_server, step}
 use Rattle.server_model.specs.History.{IsMade, LegalFrom, Legal, server_or, told_by, told_from, told}
-use Rattle.server_model.specs.Single.{booking_meaning, lines_of, Judged, Reads, Fails, judgement, history_of, Outcome, goes_on_with, run_from, run_of, told_line, steps_line}
+use Rattle.server_model.specs.Single.{booking_meaning, lines_of, Judged, Reads, Fails, judgement, history_of, Outcome}
+use Rattle.server_model.specs.Single.{goes_on_with, run_from, run_of, told_line, steps_line}
 use Rattle.server_model.specs.declared.history.Numbered.{Numbered}
 use Rattle.server_model.specs.declared.history.Told.{Told}
 use Rattle.aegean_main.specs.Answer.{Answer, refused_with, ended_with, answer_judged, answer_of}
@@ -46,7 +49,8 @@ read_too_long (Some input) (Some behind) out came c h =
 
 -- WITHOUT A FAULT
 
-same_or_memory : (answer : Answer) (old new : Option (List ℕ)) (F G : Type 0) (status : Status) → (F → ⊥) → (G → ⊥) → (status ≡ ReadFault → F) → (status ≡ WriteFault → G)
+same_or_memory : (answer : Answer) (old new : Option (List ℕ)) (F G : Type 0) (status : Status) → (F → ⊥) → (G → ⊥)
+    → (status ≡ ReadFault → F) → (status ≡ WriteFault → G)
     → Follows answer old new status → (status ≡ answer.status) ⊎ (status ≡ Memory)
 same_or_memory answer old new F G ReadFault no_read no_write read write f = absurd (no_read (read refl))
 same_or_memory answer old new F G WriteFault no_read no_write read write f = absurd (no_write (write refl))
@@ -70,10 +74,12 @@ made : (st : Step Amounts) (number : ℕ) (rest : Server Amounts → Outcome) (L
 made (Refused row) number rest L s same e = absurd (cc)
 made (Goes new told) number rest L s same e = (tt, same new e)
 
-pub run_from-legal : (steps : List Numbered) (s : Server Amounts) → (run_from booking_meaning steps s).refused ≡ None → LegalFrom booking_meaning (history_of steps) s
+pub run_from-legal : (steps : List Numbered) (s : Server Amounts) → (run_from booking_meaning steps s).refused ≡ None
+    → LegalFrom booking_meaning (history_of steps) s
 run_from-legal [] s e = tt
 run_from-legal (x ∷ xs) s e =
-    made (step booking_meaning s x.hist x.body) x.line (run_from booking_meaning xs) (LegalFrom booking_meaning (history_of xs)) s (λ t h. run_from-legal xs t h) e
+    made (step booking_meaning s x.hist x.body) x.line (run_from booking_meaning xs)
+    (LegalFrom booking_meaning (history_of xs)) s (λ t h. run_from-legal xs t h) e
 
 tells : (st : Step Amounts) (number : ℕ) (rest : Server Amounts → Outcome) (T : Server Amounts → List Told) (s : Server Amounts)
     → ((t : Server Amounts) → (rest t).refused ≡ None → (rest t).text ≡ told_lines (T t)) → (goes_on_with st number rest).refused ≡ None
@@ -85,7 +91,8 @@ pub run_from-told : (steps : List Numbered) (s : Server Amounts) → (run_from b
     → (run_from booking_meaning steps s).text ≡ told_lines (told_from booking_meaning (history_of steps) s)
 run_from-told [] s e = refl
 run_from-told (x ∷ xs) s e =
-    tells (step booking_meaning s x.hist x.body) x.line (run_from booking_meaning xs) (told_from booking_meaning (history_of xs)) s (λ t h. run_from-told xs t h) e
+    tells (step booking_meaning s x.hist x.body) x.line (run_from booking_meaning xs)
+    (told_from booking_meaning (history_of xs)) s (λ t h. run_from-told xs t h) e
 
 -- the input is steps that are all made, and this is their text
 abbrev Tells : List ℕ → List ℕ → Type 0
@@ -118,10 +125,13 @@ passes false x y n d = refl
 done_well : (input : List ℕ) → (answer_of input).status ≡ Done → Tells input (answer_of input).text
 done_well input d =
     let first : answer_of input ≡ cond (nat_lt INPUT_LINES (length (lines_of input))) (refused_with (Limit limits.Lines)) (answer_judged (judgement input)) =
-    passes (nat_lt INPUT_BYTES (length input)) (refused_with (Limit limits.Bytes)) (cond (nat_lt INPUT_LINES (length (lines_of input))) (refused_with (Limit limits.Lines)) (answer_judged (judgement input))) (λ e. absurd (cc)) d in
+    passes (nat_lt INPUT_BYTES (length input)) (refused_with (Limit limits.Bytes))
+    (cond (nat_lt INPUT_LINES (length (lines_of input))) (refused_with (Limit limits.Lines))
+    (answer_judged (judgement input))) (λ e. absurd (cc)) d in
     let D : Answer → Type 0 = λ z. z.status ≡ Done in
     let second : answer_of input ≡ answer_judged (judgement input) =
-    first ∙ passes (nat_lt INPUT_LINES (length (lines_of input))) (refused_with (Limit limits.Lines)) (answer_judged (judgement input)) (λ e. absurd (cc)) (subst D first d) in
+    first ∙ passes (nat_lt INPUT_LINES (length (lines_of input))) (refused_with (Limit limits.Lines))
+    (answer_judged (judgement input)) (λ e. absurd (cc)) (subst D first d) in
     let P : Answer → Type 0 = λ z. Tells input z.text in
     subst P (sym second) (judged_well input (judgement input) refl (subst D second d))
 
@@ -138,12 +148,14 @@ told_history (Some input) old new status f e = let P : Status → Type 0 = λ z.
 
 -- THE COMMAND LINE
 
-one_word : {X : Type 0} (f : X → List ℕ) (words : List X) (word : X) → 1 ≤ length words → length words < 2 → word ≡ get_or words 0 word → map f words ≡ f word ∷ []
+one_word : {X : Type 0} (f : X → List ℕ) (words : List X) (word : X) → 1 ≤ length words → length words < 2
+    → word ≡ get_or words 0 word → map f words ≡ f word ∷ []
 one_word f [] word some few e = absurd (omega arith)
 one_word f (x ∷ []) word some few e = ap (λ z. f z ∷ []) (sym e)
 one_word f (x ∷ y ∷ zs) word some few e = absurd (omega arith)
 
-pub is_one_word : {X : Type 0} (f : X → List ℕ) (words : List X) (word : X) (text read : List ℕ) (b : Bool) → 1 ≤ length words → length words < 2 → word ≡ get_or words 0 word
+pub is_one_word : {X : Type 0} (f : X → List ℕ) (words : List X) (word : X) (text read : List ℕ) (b : Bool)
+    → 1 ≤ length words → length words < 2 → word ≡ get_or words 0 word
     → read ≡ f word → b ≡ bytes_eq read text → (IsTrue b → map f words ≡ text ∷ []) × (map f words ≡ text ∷ [] → IsTrue b)
 is_one_word f words word text read b some few e r t =
     let one = one_word f words word some few e in

@@ -24,7 +24,8 @@ faults_at c w x (e ∷ es) = (if fails_at w x e then 1 else 0) + faults_at c (af
 
 -- the count of each disk rose by at least its faults in these events, or stands at its greatest value
 abbrev pub CountsFaults : Config Amounts → List TraceEvent → List DiskState → List DiskState → Type 0
-CountsFaults c es before after = (x : ℕ) (a b : DiskState) → slice_get before x ≡ Some a → slice_get after x ≡ Some b → min (a.faults + faults_at c start x es) (2 ^ 64 - 1) ≤ b.faults
+CountsFaults c es before after = (x : ℕ) (a b : DiskState) → slice_get before x ≡ Some a → slice_get after x ≡ Some b
+    → min (a.faults + faults_at c start x es) (2 ^ 64 - 1) ≤ b.faults
 
 -- no disk counted a fault
 abbrev pub NoneRose : List DiskState → List DiskState → Type 0

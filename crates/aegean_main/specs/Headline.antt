@@ -25,12 +25,20 @@ world_after u depth es = world (config u depth) es
 -- a node has learned. The history is legal on one server. Each reply, call and answer that was sent is one of this history,
 -- a reply goes to its own client, and so is each reply that a client took. What starts in it was submitted with that text.
 pub record Keeps (u depth : ℕ) (es : List TraceEvent) : Type 0 where
-  pub chosen : (t : Tier) (p : ℕ) (v : AnyValue) → Meets u (log_soup t (world_after u depth es).soup) p v → slice_get (chosen_log (world_after u depth es) t) p ≡ Some v
-  pub learned : (t : Tier) (x p : ℕ) (v : AnyValue) → x < 2 * u + 1 → HasLearned (config u depth) (world_after u depth es) t x p v → slice_get (chosen_log (world_after u depth es) t) p ≡ Some v
+  pub chosen : (t : Tier) (p : ℕ) (v : AnyValue) → Meets u (log_soup t (world_after u depth es).soup) p v
+      → slice_get (chosen_log (world_after u depth es) t) p ≡ Some v
+  pub learned : (t : Tier) (x p : ℕ) (v : AnyValue) → x < 2 * u + 1
+      → HasLearned (config u depth) (world_after u depth es) t x p v → slice_get (chosen_log (world_after u depth es) t) p ≡ Some v
   pub legal : Legal booking_meaning (world_after u depth es).hist
-  pub replies : (i : ℕ) (k : Packet) (who : ReqId) (text : List ℕ) → slice_get (world_after u depth es).soup i ≡ Some k → k.message ≡ messages.Reply who text → (k.to ≡ Client who.client) × HasReply (config u depth) (world_after u depth es) who text
-  pub calls : (i n : ℕ) (k : Packet) (text : List ℕ) → slice_get (world_after u depth es).soup i ≡ Some k → k.message ≡ messages.Call n text → HasCall (config u depth) (world_after u depth es) (tier_of k.to) n text
-  pub answers : (i n code : ℕ) (k : Packet) → slice_get (world_after u depth es).soup i ≡ Some k → k.message ≡ messages.Answer n code → HasAnswer (config u depth) (world_after u depth es) (tier_of k.from) n code
-  pub haves : (i n code : ℕ) (t : Tier) (k : Packet) → slice_get (world_after u depth es).soup i ≡ Some k → k.message ≡ messages.Have t n code → HasAnswer (config u depth) (world_after u depth es) t n code
-  pub starts : (i n : ℕ) (who : ReqId) (body : List ℕ) → slice_get (world_after u depth es).hist i ≡ Some (Start who n, body) → WasSubmitted (world_after u depth es) who body
+  pub replies : (i : ℕ) (k : Packet) (who : ReqId) (text : List ℕ) → slice_get (world_after u depth es).soup i ≡ Some k
+      → k.message ≡ messages.Reply who text → (k.to ≡ Client who.client)
+      × HasReply (config u depth) (world_after u depth es) who text
+  pub calls : (i n : ℕ) (k : Packet) (text : List ℕ) → slice_get (world_after u depth es).soup i ≡ Some k
+      → k.message ≡ messages.Call n text → HasCall (config u depth) (world_after u depth es) (tier_of k.to) n text
+  pub answers : (i n code : ℕ) (k : Packet) → slice_get (world_after u depth es).soup i ≡ Some k
+      → k.message ≡ messages.Answer n code → HasAnswer (config u depth) (world_after u depth es) (tier_of k.from) n code
+  pub haves : (i n code : ℕ) (t : Tier) (k : Packet) → slice_get (world_after u depth es).soup i ≡ Some k
+      → k.message ≡ messages.Have t n code → HasAnswer (config u depth) (world_after u depth es) t n code
+  pub starts : (i n : ℕ) (who : ReqId) (body : List ℕ) → slice_get (world_after u depth es).hist i
+      ≡ Some (Start who n, body) → WasSubmitted (world_after u depth es) who body
   pub told : (i : ℕ) (e : Entry) → slice_get (world_after u depth es).told i ≡ Some e → HasReply (config u depth) (world_after u depth es) (who_of e) e.body

@@ -21,9 +21,12 @@ use Rattle.aegean_main.specs.declared.playing.Halt.TheVariants as halts
 
 -- what is next for the line was done and what it prints was written, or a front of it where the write failed
 abbrev pub PlaysNext : Run → Run → Event → List DiskState → List DiskState → Option (List ℕ) → Option (List ℕ) → Result Bool Halt → Type 0
-PlaysNext old new line disks_before disks_after before now (Ok again) = (bytes : List ℕ) × Applies old new disks_before disks_after [] bytes line (Ok again) × Gains before now bytes
-PlaysNext old new line disks_before disks_after before now (Err halts.Limit) = (bytes : List ℕ) × Applies old new disks_before disks_after [] bytes line (Err stops.Limit) × (now ≡ before)
-PlaysNext old new line disks_before disks_after before now (Err halts.Write) = (bytes : List ℕ) × (again : Bool) × Applies old new disks_before disks_after [] bytes line (Ok again) × GainsFront before now bytes
+PlaysNext old new line disks_before disks_after before now (Ok again) = (bytes : List ℕ)
+    × Applies old new disks_before disks_after [] bytes line (Ok again) × Gains before now bytes
+PlaysNext old new line disks_before disks_after before now (Err halts.Limit) = (bytes : List ℕ)
+    × Applies old new disks_before disks_after [] bytes line (Err stops.Limit) × (now ≡ before)
+PlaysNext old new line disks_before disks_after before now (Err halts.Write) = (bytes : List ℕ) × (again : Bool)
+    × Applies old new disks_before disks_after [] bytes line (Ok again) × GainsFront before now bytes
 PlaysNext old new line disks_before disks_after before now (Err halts.Memory) = now ≡ before
 
 -- RUNS OF A SCRIPT
@@ -45,7 +48,8 @@ pub record Stands (script : Script) (r : Run) (left : List Numbered) (disks_befo
 
 -- Why the run goes no further. At the limit the text of its events was written, else a front of its text.
 abbrev pub Halts : Script → List DiskState → List DiskState → Option (List ℕ) → Option (List ℕ) → Halt → Type 0
-Halts script disks_before disks_now start now halts.Limit = (es : List TraceEvent) × Overflows script es × Leaves script es disks_before disks_now × Gains start now (events_text script es)
+Halts script disks_before disks_now start now halts.Limit = (es : List TraceEvent) × Overflows script es
+    × Leaves script es disks_before disks_now × Gains start now (events_text script es)
 Halts script disks_before disks_now start now halts.Write = (b : Breaks script start now) × Leaves script b.events disks_before disks_now
 Halts script disks_before disks_now start now halts.Memory = Breaks script start now
 
@@ -55,12 +59,14 @@ StandsOr script new left disks_before disks_now start now (Err halt) = Halts scr
 
 -- a line was played: in whatever script and before whatever lines it stands
 abbrev pub PlaysLine : Run → Run → Event → List DiskState → List DiskState → Option (List ℕ) → Option (List ℕ) → Result (Unit {0}) Halt → Type 0
-PlaysLine old new line disks_before disks_after before now result = (script : Script) (number : ℕ) (rest : List Numbered) (disks_first : List DiskState) (start : Option (List ℕ))
+PlaysLine old new line disks_before disks_after before now result = (script : Script) (number : ℕ)
+    (rest : List Numbered) (disks_first : List DiskState) (start : Option (List ℕ))
     → Stands script old ((number, line) ∷ rest) disks_first disks_before start before → StandsOr script new rest disks_first disks_after start now result
 
 -- the run came to its end and its whole text was written, or it halted
 abbrev pub EndsOr : Script → List DiskState → List DiskState → Option (List ℕ) → Option (List ℕ) → Result (Unit {0}) Halt → Type 0
-EndsOr script disks_before disks_now start now (Ok done) = (es : List TraceEvent) × Ends script es × Leaves script es disks_before disks_now × Gains start now (whole_text script es)
+EndsOr script disks_before disks_now start now (Ok done) = (es : List TraceEvent) × Ends script es
+    × Leaves script es disks_before disks_now × Gains start now (whole_text script es)
 EndsOr script disks_before disks_now start now (Err halt) = Halts script disks_before disks_now start now halt
 
 -- the closing lines were written, and the disks are as they were

@@ -64,7 +64,8 @@ pub record Overflows (script : Script) (es : List TraceEvent) : Type 0 where
 
 -- The run has made these events so far, within the limit, and this is their text; or they are all, and the closing lines are there too.
 abbrev pub IsTextOf : Script → List TraceEvent → List ℕ → Type 0
-IsTextOf script es bytes = ((t : Standing Amounts) × Reaches (tiers script) script es t × KeepsLimit script es × (bytes ≡ events_text script es)) ⊎ (Ends script es × (bytes ≡ whole_text script es))
+IsTextOf script es bytes = ((t : Standing Amounts) × Reaches (tiers script) script es t × KeepsLimit script es
+    × (bytes ≡ events_text script es)) ⊎ (Ends script es × (bytes ≡ whole_text script es))
 
 -- a front of the text of a run of the script was written
 pub record Breaks (script : Script) (old new : Option (List ℕ)) : Type 0 where
@@ -88,7 +89,8 @@ IsOnlyRun script es = AllSure es → (others : List TraceEvent) → Resolves (ti
 
 -- without a fault the run of the script begins with these events
 abbrev pub BeginsRun : Script → List TraceEvent → Type 0
-BeginsRun script es = AllSure es → (others : List TraceEvent) → Resolves (tiers script) script others → AllSure others → (rest : List TraceEvent) × (others ≡ es ++ rest)
+BeginsRun script es = AllSure es → (others : List TraceEvent) → Resolves (tiers script) script others → AllSure others
+    → (rest : List TraceEvent) × (others ≡ es ++ rest)
 
 -- HOW AN INPUT ENDS
 
@@ -165,4 +167,6 @@ IsItsOwn input before after status = ((bytes : List ℕ) × Comes input before a
 
 -- where no disk counted a fault, the status is the one that the input has on all such disks, or want of memory
 abbrev pub IsTheStatus : List ℕ → List DiskState → List DiskState → Status → Type 0
-IsTheStatus input before after status = NoneRose before after → (other : Status) (bytes : List ℕ) (later : List DiskState) → NoneRose before later → Comes input before later other bytes → (status ≡ other) ⊎ (status ≡ statuses.Memory)
+IsTheStatus input before after status = NoneRose before after
+    → (other : Status) (bytes : List ℕ) (later : List DiskState) → NoneRose before later
+    → Comes input before later other bytes → (status ≡ other) ⊎ (status ≡ statuses.Memory)

@@ -19,7 +19,10 @@ amount_at-amounts_of (e ∷ es) q =
     ∙ chosen (eq_by_cmp nat_cmp q e.0) e.1 (number_at (amounts_of es) q) (lookup (λ x. eq_by_cmp nat_cmp q x) es) (amount_at-amounts_of es q)
 
 -- entries that answer as others do but at one key are the others with that key's amount
-pub amounts_of-updated : (old new : List (ℕ × ℕ)) (k v : ℕ) → ((q : ℕ) → lookup (λ x. eq_by_cmp nat_cmp q x) new ≡ cond (eq_by_cmp nat_cmp k q) (Some v) (lookup (λ x. eq_by_cmp nat_cmp q x) old)) → amounts_of new ≡ with_number (amounts_of old) k v
+pub amounts_of-updated : (old new : List (ℕ × ℕ)) (k v : ℕ)
+    → ((q : ℕ) → lookup (λ x. eq_by_cmp nat_cmp q x) new
+    ≡ cond (eq_by_cmp nat_cmp k q) (Some v) (lookup (λ x. eq_by_cmp nat_cmp q x) old))
+    → amounts_of new ≡ with_number (amounts_of old) k v
 amounts_of-updated old new k v updates = same_numbers nat_cmp_total nat_cmp-IsAntisymmetric (amounts_of new) (with_number (amounts_of old) k v) (λ q.
     amount_at-amounts_of new q
     ∙ ap (λ o. unwrap_or o 0) (updates q)

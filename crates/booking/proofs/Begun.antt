@@ -99,9 +99,15 @@ pub read_ok : (r : Result Request ℕ) (request : Request) → Ok request ≡ an
 read_ok (Ok found) request e = cc
 read_ok (Err row) request e = cc
 
-pub begins : (who : ReqId) (body : List ℕ) (stage : ℕ) (request : Request) (p : BookProg) → request_of body ≡ Ok request → Some p.course ≡ first_course who request stage → p.lock_set ≡ declared_locks who request →
-    Begins (λ (q : BookProg) (last : Option ℕ). course_plan q.course (unwrap_or last 0)) (λ (q : BookProg). course_budget q.course) (λ (q : BookProg). q.lock_set) (booking_beginning who body stage) (Some p)
+pub begins : (who : ReqId) (body : List ℕ) (stage : ℕ) (request : Request) (p : BookProg) → request_of body ≡ Ok request
+    → Some p.course ≡ first_course who request stage → p.lock_set ≡ declared_locks who request →
+    Begins (λ (q : BookProg) (last : Option ℕ). course_plan q.course (unwrap_or last 0))
+    (λ (q : BookProg). course_budget q.course) (λ (q : BookProg). q.lock_set) (booking_beginning who body stage) (Some p)
 begins who body stage request p read first locks =
-    subst (λ (r : Result Request ℕ). Begins (λ (q : BookProg) (last : Option ℕ). course_plan q.course (unwrap_or last 0)) (λ (q : BookProg). course_budget q.course) (λ (q : BookProg). q.lock_set) (beginning_in who stage r) (Some p)) (sym read)
-    (subst (λ (o : Option Course). Begins (λ (q : BookProg) (last : Option ℕ). course_plan q.course (unwrap_or last 0)) (λ (q : BookProg). course_budget q.course) (λ (q : BookProg). q.lock_set) (begins_at (declared_locks who request) o) (Some p)) first
+    subst (λ (r : Result Request ℕ). Begins
+    (λ (q : BookProg) (last : Option ℕ). course_plan q.course (unwrap_or last 0))
+    (λ (q : BookProg). course_budget q.course) (λ (q : BookProg). q.lock_set) (beginning_in who stage r) (Some p)) (sym read)
+    (subst (λ (o : Option Course). Begins (λ (q : BookProg) (last : Option ℕ). course_plan q.course (unwrap_or last 0))
+    (λ (q : BookProg). course_budget q.course) (λ (q : BookProg). q.lock_set)
+    (begins_at (declared_locks who request) o) (Some p)) first
     ((λ answer. refl), (locks, budget_low p.course)))

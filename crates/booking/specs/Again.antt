@@ -1,5 +1,6 @@
 -- The next stage that a call names is one of its request's.
-use Rattle.std.specs.Prelude.{ℕ, ◌+◌, ◌*◌, ◌==◌, nat_lt, nat_le, not, ◌&&◌, Bool, true, false, List, ◌∷◌, [], ◌++◌, codes, if◌then◌else◌, Option, Some, None, unwrap_or, refl}
+use Rattle.std.specs.Prelude.{ℕ, ◌+◌, ◌*◌, ◌==◌, nat_lt, nat_le, not, ◌&&◌, Bool, true, false, List, ◌∷◌, [], ◌++◌}
+use Rattle.std.specs.Prelude.{codes, if◌then◌else◌, Option, Some, None, unwrap_or, refl}
 use Rattle.std.specs.declared.result.Result.{Result}
 use Rattle.std.specs.declared.result.Result.TheVariants.{Ok, Err}
 use Rattle.aeg_base.specs.Store.{Store, value_at}
@@ -17,7 +18,8 @@ use Rattle.server_model.specs.declared.request.Request.TheVariants.{Open, Book, 
 abbrev Stages : Type 0
 Stages = ℕ → Option (Option ℕ → Store → Segment)
 
-either : (stages : Stages) (b : Bool) (f g : Store → Segment) (s : Store) → HasStage stages (f s).ending → HasStage stages (g s).ending → HasStage stages ((if b then f else g) s).ending
+either : (stages : Stages) (b : Bool) (f g : Store → Segment) (s : Store) → HasStage stages (f s).ending
+    → HasStage stages (g s).ending → HasStage stages ((if b then f else g) s).ending
 either stages true f g s p q = p
 either stages false f g s p q = q
 
@@ -34,7 +36,8 @@ after_three stages s reads true b c v w x last h = tt
 after_three stages s reads false b c v w x last h = after_two stages s reads b c w x last h
 
 after_four : (stages : Stages) (s : Store) (reads : List Key) (a b c d : Bool) (v w x y : List ℕ) (last : Segment) → HasStage stages last.ending →
-    HasStage stages (if a then table.answers s reads v else if b then table.answers s reads w else if c then table.answers s reads x else if d then table.answers s reads y else last).ending
+    HasStage stages (if a then table.answers s reads v else if b then table.answers s reads
+    w else if c then table.answers s reads x else if d then table.answers s reads y else last).ending
 after_four stages s reads true b c d v w x y last h = tt
 after_four stages s reads false b c d v w x y last h = after_three stages s reads b c d w x y last h
 
@@ -56,7 +59,8 @@ book_again who trip qty s =
     after_four (table.book_stages who trip qty) s reads
     (cap == 0) (nat_lt cap (capped (count + qty))) (not (link == 0) && nat_lt link_cap (capped (link_count + qty))) (nat_le 4 live)
     table.no_trip table.is_full table.link_full table.too_many
-    (table.does s reads (table.booked_writes who.client (table.booking_of who) trip qty link count link_count live) (Call Inv 1 (table.reserve_text trip qty))) refl
+    (table.does s reads (table.booked_writes who.client (table.booking_of who) trip qty link count link_count live)
+    (Call Inv 1 (table.reserve_text trip qty))) refl
 
 cancel_again : (who : ReqId) (booking : ℕ) (s : Store) → HasStage (table.cancel_stages who booking) (table.cancel_row who booking s).ending
 cancel_again who booking s =
@@ -67,7 +71,8 @@ cancel_again who booking s =
     after_three (table.cancel_stages who booking) s reads
     (status == 0) (not (owner_of booking == who.client)) (not (status == 2))
     table.no_booking table.not_yours table.not_booked
-    (table.does s (reads ++ cell 1 trip ∷ []) ((cell 5 booking, 3) ∷ []) (Call Pay 1 (table.refund_text who.client (capped (value_at s (cell 1 trip) * qty))))) refl
+    (table.does s (reads ++ cell 1 trip ∷ []) ((cell 5 booking, 3) ∷ [])
+    (Call Pay 1 (table.refund_text who.client (capped (value_at s (cell 1 trip) * qty))))) refl
 
 look_again : (stages : Stages) (who : ReqId) (booking : ℕ) (s : Store) → HasStage stages (table.look_row who booking s).ending
 look_again stages who booking s =
@@ -83,8 +88,10 @@ book_goes_on : (who : ReqId) (trip qty : ℕ) (first second third fourth : Bool)
     else if fourth then Some (λ answer. table.book_declined who)
     else None) (table.book_stages who trip qty)
 book_goes_on who trip qty true second third fourth = λ answer s. book_again who trip qty s
-book_goes_on who trip qty false true third fourth = λ answer s. either (table.book_stages who trip qty) (unwrap_or answer 0 == 0) (table.book_charges who trip qty) (table.book_no_stock who trip qty) s refl tt
-book_goes_on who trip qty false false true fourth = λ answer s. either (table.book_stages who trip qty) (unwrap_or answer 0 == 0) (table.book_booked who) (table.book_releases who trip qty) s tt refl
+book_goes_on who trip qty false true third fourth = λ answer s. either (table.book_stages who trip qty)
+    (unwrap_or answer 0 == 0) (table.book_charges who trip qty) (table.book_no_stock who trip qty) s refl tt
+book_goes_on who trip qty false false true fourth = λ answer s. either (table.book_stages who trip qty)
+    (unwrap_or answer 0 == 0) (table.book_booked who) (table.book_releases who trip qty) s tt refl
 book_goes_on who trip qty false false false true = λ answer s. tt
 book_goes_on who trip qty false false false false = tt
 
@@ -98,16 +105,20 @@ cancel_goes_on who booking false true third = λ answer s. refl
 cancel_goes_on who booking false false true = λ answer s. tt
 cancel_goes_on who booking false false false = tt
 
-one_goes_on : (stages : Stages) (row : Store → Segment) → ((s : Store) → HasStage stages (row s).ending) → (first : Bool) → GoesOn (if first then Some (λ answer. row) else None) stages
+one_goes_on : (stages : Stages) (row : Store → Segment) → ((s : Store) → HasStage stages (row s).ending)
+    → (first : Bool) → GoesOn (if first then Some (λ answer. row) else None) stages
 one_goes_on stages row h true = λ answer s. h s
 one_goes_on stages row h false = tt
 
 again_in : (who : ReqId) (stage : ℕ) (read : Result Request ℕ) → GoesOn (table.stages_in who stage read) (λ next. table.stages_in who next read)
 again_in who stage (Err row) = tt
-again_in who stage (Ok (Open trip cap price link)) = one_goes_on (λ next. table.stages_of who (Open trip cap price link) next) (table.open_row trip cap price link) (open_again (λ next. table.stages_of who (Open trip cap price link) next) trip cap price link) (stage == 0)
+again_in who stage (Ok (Open trip cap price link)) = one_goes_on
+    (λ next. table.stages_of who (Open trip cap price link) next) (table.open_row trip cap price link)
+    (open_again (λ next. table.stages_of who (Open trip cap price link) next) trip cap price link) (stage == 0)
 again_in who stage (Ok (Book trip qty)) = book_goes_on who trip qty (stage == 0) (stage == 1) (stage == 2) (stage == 3)
 again_in who stage (Ok (Cancel booking)) = cancel_goes_on who booking (stage == 0) (stage == 1) (stage == 2)
-again_in who stage (Ok (Look booking)) = one_goes_on (λ next. table.stages_of who (Look booking) next) (table.look_row who booking) (look_again (λ next. table.stages_of who (Look booking) next) who booking) (stage == 0)
+again_in who stage (Ok (Look booking)) = one_goes_on (λ next. table.stages_of who (Look booking) next)
+    (table.look_row who booking) (look_again (λ next. table.stages_of who (Look booking) next) who booking) (stage == 0)
 
 pub booking_again : (who : ReqId) (body : List ℕ) (stage : ℕ) → GoesOn (table.booking_table who body stage) (table.booking_table who body)
 booking_again who body stage = again_in who stage (request_of body)

@@ -1,7 +1,13 @@
 -- What a program does from where it stands, how many actions it has left at most, and the stage after its call.
 use Rattle.std.specs.Prelude.{ℕ, ◌<◌, ◌⊎◌, unwrap_or}
 use Rattle.svc_api.specs.Plan.{Plan, Follows, IsEnd, NamesKey}
-use Rattle.booking.specs.Places.{opens, opens_with, puts_price, puts_link, is_opened, books, has_cap, has_count, has_link, has_live, has_link_cap, books_with, puts_link_count, puts_live, puts_status, puts_trip, puts_qty, reserves, clears, clears_trip, clears_qty, closes, releases, return_has_count, return_has_link, return_has_live, returns_with, returns_link_count, returns_live, charges_with, reply_booked, is_reserved, is_charged, refunds, cancels_with, view_has_qty, view_has_trip, view_has_status, views, recalls, recall_has_trip, recall_has_qty, recall_has_link, recall_has_count}
+use Rattle.booking.specs.Places.{opens, opens_with, puts_price, puts_link, is_opened, books, has_cap, has_count}
+use Rattle.booking.specs.Places.{has_link, has_live, has_link_cap, books_with, puts_link_count, puts_live, puts_status}
+use Rattle.booking.specs.Places.{puts_trip, puts_qty, reserves, clears, clears_trip, clears_qty, closes, releases}
+use Rattle.booking.specs.Places.{return_has_count, return_has_link, return_has_live, returns_with, returns_link_count}
+use Rattle.booking.specs.Places.{returns_live, charges_with, reply_booked, is_reserved, is_charged, refunds}
+use Rattle.booking.specs.Places.{cancels_with, view_has_qty, view_has_trip, view_has_status, views, recalls}
+use Rattle.booking.specs.Places.{recall_has_trip, recall_has_qty, recall_has_link, recall_has_count}
 use Rattle.booking.specs.declared.course.NewTrip.{NewTrip}
 use Rattle.booking.specs.declared.course.NewBooking.{NewBooking}
 use Rattle.booking.specs.declared.course.Return.{Return}

@@ -1,5 +1,6 @@
 -- Each segment is within the limits, and names keys of a store.
-use Rattle.std.proofs.Common.{ℕ, ◌+◌, ◌-◌, ◌*◌, ◌^◌, ◌<◌, ◌≤◌, ◌==◌, Bool, true, false, List, ◌++◌, length, Option, None, Some, if◌then◌else◌, unwrap_or, arith, lit<, lit≤, length-append}
+use Rattle.std.proofs.Common.{ℕ, ◌+◌, ◌-◌, ◌*◌, ◌^◌, ◌<◌, ◌≤◌, ◌==◌, Bool, true, false, List, ◌++◌, length, Option}
+use Rattle.std.proofs.Common.{None, Some, if◌then◌else◌, unwrap_or, arith, lit<, lit≤, length-append}
 use Rattle.std.specs.Prelude.{codes}
 use Rattle.std.proofs.lemmas.Fmt.{length-decimal-le}
 use Rattle.std.specs.declared.result.Result.{Result}
@@ -65,7 +66,14 @@ status_length booking status trip qty h =
     let s : length (shown (narrow status)) ≤ 11 = wide_length (narrow status) (narrow_below status) in
     let t : length (shown (narrow trip)) ≤ 11 = wide_length (narrow trip) (narrow_below trip) in
     let q : length (shown (narrow qty)) ≤ 11 = wide_length (narrow qty) (narrow_below qty) in
-    omega (arith, length-append (codes "status") (shown booking ++ (shown (narrow status) ++ (shown (narrow trip) ++ shown (narrow qty)))), length-append (shown booking) (shown (narrow status) ++ (shown (narrow trip) ++ shown (narrow qty))), length-append (shown (narrow status)) (shown (narrow trip) ++ shown (narrow qty)), length-append (shown (narrow trip)) (shown (narrow qty)))
+    omega (
+      arith,
+      length-append (codes "status")
+          (shown booking ++ (shown (narrow status) ++ (shown (narrow trip) ++ shown (narrow qty)))),
+      length-append (shown booking) (shown (narrow status) ++ (shown (narrow trip) ++ shown (narrow qty))),
+      length-append (shown (narrow status)) (shown (narrow trip) ++ shown (narrow qty)),
+      length-append (shown (narrow trip)) (shown (narrow qty)),
+    )
 
 short_if : (b : Bool) (x y : List ℕ) → length x ≤ 48 → length y ≤ 48 → length (if b then x else y) ≤ 48
 short_if true x y p q = p
@@ -92,7 +100,8 @@ closing_length booking NoStock h = lit≤ tt
 closing_length booking Declined h = lit≤ tt
 closing_length booking Cancelled h = one_part (codes "cancelled") (shown booking) 9 11 (lit≤ tt) (wide_length booking h) (lit≤ tt)
 
-clears_bounded : (booking : ℕ) (closing : Closing) (actions puts : ℕ) → booking < 2 ^ 32 → 3 < actions → 2 < puts → IsBounded actions puts (place.clears booking closing)
+clears_bounded : (booking : ℕ) (closing : Closing) (actions puts : ℕ) → booking < 2 ^ 32 → 3 < actions → 2 < puts
+    → IsBounded actions puts (place.clears booking closing)
 clears_bounded booking closing actions puts h a p = (
   omega arith,
   (
@@ -131,7 +140,8 @@ clears_bounded booking closing actions puts h a p = (
   ),
 )
 
-releases_bounded : (trip qty stage actions puts : ℕ) → trip < 2 ^ 32 → qty < 2 ^ 32 → 1 ≤ stage → stage ≤ 3 → 0 < actions → IsBounded actions puts (place.releases trip qty stage)
+releases_bounded : (trip qty stage actions puts : ℕ) → trip < 2 ^ 32 → qty < 2 ^ 32 → 1 ≤ stage → stage ≤ 3
+    → 0 < actions → IsBounded actions puts (place.releases trip qty stage)
 releases_bounded trip qty stage actions puts t q low high a =
     (a, (tt, (low, (high, two_parts (codes "release") (shown trip) (shown qty) 7 11 11 (lit≤ tt) (wide_length trip t) (wide_length qty q) (lit≤ tt)))))
 
@@ -140,15 +150,19 @@ abbrev IsReturn : Return → AfterReturn → Type 0
 IsReturn r Release = r.qty < 2 ^ 32
 IsReturn r (Clear booking closing) = booking < 2 ^ 32
 
-is_returned_bounded : (r : Return) (after : AfterReturn) (actions puts : ℕ) → r.trip < 2 ^ 32 → IsReturn r after → 3 < actions → 2 < puts → IsBounded actions puts (place.is_returned r after)
+is_returned_bounded : (r : Return) (after : AfterReturn) (actions puts : ℕ) → r.trip < 2 ^ 32 → IsReturn r after
+    → 3 < actions → 2 < puts → IsBounded actions puts (place.is_returned r after)
 is_returned_bounded r Release actions puts t h a p = releases_bounded r.trip r.qty 3 actions puts t h (lit≤ tt) (lit≤ tt) (omega arith)
 is_returned_bounded r (Clear booking closing) actions puts t h a p = clears_bounded booking closing actions puts h a p
 
-live_bounded : (r : Return) (live actions puts : ℕ) → r.client < 2 ^ 32 → r.trip < 2 ^ 32 → IsReturn r r.after → live < 2 ^ 64 → 4 < actions → 3 < puts → IsBounded actions puts (place.returns_live r live)
+live_bounded : (r : Return) (live actions puts : ℕ) → r.client < 2 ^ 32 → r.trip < 2 ^ 32 → IsReturn r r.after
+    → live < 2 ^ 64 → 4 < actions → 3 < puts → IsBounded actions puts (place.returns_live r live)
 live_bounded r live actions puts c t h l a p =
     (omega arith, (omega arith, ((lit< tt, c), (omega arith, is_returned_bounded r r.after (actions - 1) (puts - 1) t h (omega arith) (omega arith)))))
 
-returns_bounded : (r : Return) (count link live link_count actions : ℕ) → r.client < 2 ^ 32 → r.trip < 2 ^ 32 → IsReturn r r.after → count < 2 ^ 64 → live < 2 ^ 64 → link_count < 2 ^ 64 → 6 < actions → IsBounded actions 8 (place.returns_with r count link live link_count)
+returns_bounded : (r : Return) (count link live link_count actions : ℕ) → r.client < 2 ^ 32 → r.trip < 2 ^ 32
+    → IsReturn r r.after → count < 2 ^ 64 → live < 2 ^ 64 → link_count < 2 ^ 64 → 6 < actions
+    → IsBounded actions 8 (place.returns_with r count link live link_count)
 returns_bounded r count link live link_count actions c t h n l m a = (
   omega arith,
   (
@@ -165,7 +179,8 @@ returns_bounded r count link live link_count actions c t h n l m a = (
   ),
 )
 
-return_bounded : (r : Return) (count link actions : ℕ) → r.client < 2 ^ 32 → r.trip < 2 ^ 32 → IsReturn r r.after → count < 2 ^ 64 → 8 < actions → IsBounded actions 8 (place.return_has_link r count link)
+return_bounded : (r : Return) (count link actions : ℕ) → r.client < 2 ^ 32 → r.trip < 2 ^ 32 → IsReturn r r.after
+    → count < 2 ^ 64 → 8 < actions → IsBounded actions 8 (place.return_has_link r count link)
 return_bounded r count link actions c t h n a = (
   omega arith,
   (
@@ -275,7 +290,20 @@ puts_live_bounded b live actions puts h a p =
                                   (lit< tt, id),
                                   (
                                     omega arith,
-                                    (omega arith, (tt, (lit≤ tt, (lit≤ tt, two_parts (codes "reserve") (shown b.trip) (shown b.qty) 7 11 11 (lit≤ tt) (wide_length b.trip trip) (wide_length b.qty qty) (lit≤ tt))))),
+                                    (
+                                      omega arith,
+                                      (
+                                        tt,
+                                        (
+                                          lit≤ tt,
+                                          (
+                                            lit≤ tt,
+                                            two_parts (codes "reserve") (shown b.trip) (shown b.qty) 7 11 11
+                                                (lit≤ tt) (wide_length b.trip trip) (wide_length b.qty qty) (lit≤ tt),
+                                          ),
+                                        ),
+                                      ),
+                                    ),
                                   ),
                                 ),
                               ),
@@ -293,7 +321,8 @@ puts_live_bounded b live actions puts h a p =
       ),
     )
 
-books_with_bounded : (b : NewBooking) (t : TripState) (link_cap link_count actions : ℕ) → IsNewBooking b → 6 < actions → IsBounded actions 8 (place.books_with b t link_cap link_count)
+books_with_bounded : (b : NewBooking) (t : TripState) (link_cap link_count actions : ℕ) → IsNewBooking b → 6 < actions
+    → IsBounded actions 8 (place.books_with b t link_cap link_count)
 books_with_bounded b t link_cap link_count actions h a =
     let trip : b.trip < 2 ^ 32 = omega (arith, h.trip) in
     refused_bounded _ actions 8 (Writes (cell 3 b.trip) (capped (t.count + b.qty)) (place.after_count b t link_count)) (omega arith) (
@@ -305,8 +334,19 @@ books_with_bounded b t link_cap link_count actions h a =
           (
             capped_below (t.count + b.qty),
             bounded_if (t.link == 0) (actions - 1) 7 (place.puts_live b t.live) (place.puts_link_count b t link_count)
-                (puts_live_bounded b t.live (actions - 1) 7 h (omega arith) (lit< tt))
-                (omega arith, (lit< tt, ((lit< tt, narrow_below t.link), (capped_below (link_count + b.qty), puts_live_bounded b t.live (actions - 1 - 1) 6 h (omega arith) (lit< tt))))),
+                (puts_live_bounded b t.live (actions - 1) 7 h (omega arith) (lit< tt)) (
+                  omega arith,
+                  (
+                    lit< tt,
+                    (
+                      (lit< tt, narrow_below t.link),
+                      (
+                        capped_below (link_count + b.qty),
+                        puts_live_bounded b t.live (actions - 1 - 1) 6 h (omega arith) (lit< tt),
+                      ),
+                    ),
+                  ),
+                ),
           ),
         ),
       ),
@@ -334,8 +374,19 @@ books_bounded b h =
                     λ live i.
                         let t : TripState = record { cap = cap; count = count; link = link; live = live } in
                         bounded_if (link == 0) 28 8 (place.books_with b t 0 0) (Reads (cell 0 (narrow link)) (place.has_link_cap b t))
-                        (books_with_bounded b t 0 0 28 h (lit< tt))
-                        (lit< tt, ((lit< tt, narrow_below link), λ link_cap j. (lit< tt, ((lit< tt, narrow_below link), λ link_count k. books_with_bounded b t link_cap link_count 26 h (lit< tt))))),
+                        (books_with_bounded b t 0 0 28 h (lit< tt)) (
+                          lit< tt,
+                          (
+                            (lit< tt, narrow_below link),
+                            λ link_cap j. (
+                              lit< tt,
+                              (
+                                (lit< tt, narrow_below link),
+                                λ link_count k. books_with_bounded b t link_cap link_count 26 h (lit< tt),
+                              ),
+                            ),
+                          ),
+                        ),
                   ),
                 ),
               ),
@@ -350,8 +401,26 @@ is_reserved_bounded b code h =
     let client : b.client < 2 ^ 32 = omega (arith, h.client) in
     let id : b.booking < 2 ^ 32 = omega (arith, h.booking) in
     let trip : b.trip < 2 ^ 32 = omega (arith, h.trip) in
-    bounded_if (code == 0) 32 8 (Reads (cell 1 b.trip) (place.charges_with b)) (place.returns (place.return_of b (Clear b.booking NoStock)))
-    (lit< tt, ((lit< tt, trip), λ price n. (lit< tt, (tt, (lit≤ tt, (lit≤ tt, two_parts (codes "charge") (shown b.client) (shown (capped (price * b.qty))) 6 11 21 (lit≤ tt) (wide_length b.client client) (widest_length (capped (price * b.qty)) (capped_below (price * b.qty))) (lit≤ tt)))))))
+    bounded_if (code == 0) 32 8 (Reads (cell 1 b.trip) (place.charges_with b)) (place.returns (place.return_of b (Clear b.booking NoStock))) (
+      lit< tt,
+      (
+        (lit< tt, trip),
+        λ price n. (
+          lit< tt,
+          (
+            tt,
+            (
+              lit≤ tt,
+              (
+                lit≤ tt,
+                two_parts (codes "charge") (shown b.client) (shown (capped (price * b.qty))) 6 11 21 (lit≤ tt)
+                    (wide_length b.client client) (widest_length (capped (price * b.qty)) (capped_below (price * b.qty))) (lit≤ tt),
+              ),
+            ),
+          ),
+        ),
+      ),
+    )
     (returns_all_bounded (place.return_of b (Clear b.booking NoStock)) client trip id)
 
 is_charged_bounded : (b : NewBooking) (code : ℕ) → IsNewBooking b → IsBounded 32 8 (place.is_charged b code)
@@ -364,7 +433,8 @@ is_charged_bounded b code h =
     (lit< tt, (lit< tt, ((lit< tt, id), (lit< tt, (lit< tt, one_part (codes "booked") (shown b.booking) 6 11 (lit≤ tt) (wide_length b.booking id) (lit≤ tt))))))
     (returns_all_bounded (place.return_of b Release) client trip qty)
 
-viewed_bounded : (cancels : Bool) (v : View) (status trip qty : ℕ) → v.client ≤ 16 → v.booking ≤ 1048576 → IsBounded 29 8 (place.viewed cancels v status trip qty)
+viewed_bounded : (cancels : Bool) (v : View) (status trip qty : ℕ) → v.client ≤ 16 → v.booking ≤ 1048576
+    → IsBounded 29 8 (place.viewed cancels v status trip qty)
 viewed_bounded false v status trip qty c b = refused_bounded _ 29 8 (Ends _) (lit< tt) (lit< tt, status_length v.booking status trip qty b)
 viewed_bounded true v status trip qty c b =
     let client : v.client < 2 ^ 32 = omega arith in
@@ -381,7 +451,21 @@ viewed_bounded true v status trip qty c b =
               (lit< tt, id),
               (
                 lit< tt,
-                (lit< tt, (tt, (lit≤ tt, (lit≤ tt, two_parts (codes "refund") (shown v.client) (shown (capped (price * qty))) 6 11 21 (lit≤ tt) (wide_length v.client client) (widest_length (capped (price * qty)) (capped_below (price * qty))) (lit≤ tt))))),
+                (
+                  lit< tt,
+                  (
+                    tt,
+                    (
+                      lit≤ tt,
+                      (
+                        lit≤ tt,
+                        two_parts (codes "refund") (shown v.client) (shown (capped (price * qty))) 6 11 21
+                            (lit≤ tt) (wide_length v.client client)
+                            (widest_length (capped (price * qty)) (capped_below (price * qty))) (lit≤ tt),
+                      ),
+                    ),
+                  ),
+                ),
               ),
             ),
           ),
@@ -391,8 +475,16 @@ viewed_bounded true v status trip qty c b =
 
 views_bounded : (v : View) → v.client ≤ 16 → v.booking ≤ 1048576 → IsBounded 32 8 (place.views v)
 views_bounded v c b =
-    let id : v.booking < 2 ^ 32 = omega arith in
-    (lit< tt, ((lit< tt, id), λ status n. (lit< tt, ((lit< tt, id), λ trip m. (lit< tt, ((lit< tt, id), λ qty k. viewed_bounded v.cancels v status trip qty c b))))))
+    let id : v.booking < 2 ^ 32 = omega arith in (
+      lit< tt,
+      (
+        (lit< tt, id),
+        λ status n. (
+          lit< tt,
+          ((lit< tt, id), λ trip m. (lit< tt, ((lit< tt, id), λ qty k. viewed_bounded v.cancels v status trip qty c b))),
+        ),
+      ),
+    )
 
 recalled_bounded : (released : Bool) (c : Recall) (trip qty : ℕ) → c.client ≤ 16 → c.booking ≤ 1048576 → IsBounded 30 8 (place.recalled released c trip qty)
 recalled_bounded false c trip qty h k = releases_bounded (narrow trip) (narrow qty) 2 30 8 (narrow_below trip) (narrow_below qty) (lit≤ tt) (lit≤ tt) (lit< tt)
@@ -423,7 +515,9 @@ recalls_bounded c h k =
 booking_high : (who : ReqId) → IsRequest who → booking_of who ≤ 1048576
 booking_high who h = omega (arith, h.client_high, h.seq_low, h.seq_high)
 
-proper_if : (locks : List Bool) (b : Bool) (course : Course) (rest : Option Course) → ((told : ℕ) → IsBounded 32 8 (course_plan course told)) → IsProper (begins_at locks rest) → IsProper (begins_at locks (if b then Some course else rest))
+proper_if : (locks : List Bool) (b : Bool) (course : Course) (rest : Option Course)
+    → ((told : ℕ) → IsBounded 32 8 (course_plan course told)) → IsProper (begins_at locks rest)
+    → IsProper (begins_at locks (if b then Some course else rest))
 proper_if locks true course rest h k = λ answer. h (unwrap_or answer 0)
 proper_if locks false course rest h k = k
 
@@ -439,13 +533,18 @@ proper_in who stage (Ok (Book trip qty)) w h =
     proper_if _ (stage == 0) (Books b booking.Begins) _ (λ told. books_bounded b is_new)
     (proper_if _ (stage == 1) (Answers b Reserve) _ (λ told. is_reserved_bounded b told is_new)
     (proper_if _ (stage == 2) (Answers b Charge) _ (λ told. is_charged_bounded b told is_new)
-    (proper_if _ (stage == 3) (Clears (booking_of who) Declined clearing.Status) None (λ told. clears_bounded (booking_of who) Declined 32 8 id (lit< tt) (lit< tt)) tt)))
+    (proper_if _ (stage == 3) (Clears (booking_of who) Declined clearing.Status) None
+    (λ told. clears_bounded (booking_of who) Declined 32 8 id (lit< tt) (lit< tt)) tt)))
 proper_in who stage (Ok (Cancel number)) w h =
-    proper_if _ (stage == 0) (view_course who.client number true) _ (λ told. views_bounded (record { client = who.client; booking = number; cancels = true }) w.client_high h)
-    (proper_if _ (stage == 1) (recall_course who.client number false) _ (λ told. recalls_bounded (record { client = who.client; booking = number; released = false }) w.client_high h)
-    (proper_if _ (stage == 2) (recall_course who.client number true) None (λ told. recalls_bounded (record { client = who.client; booking = number; released = true }) w.client_high h) tt))
+    proper_if _ (stage == 0) (view_course who.client number true) _
+    (λ told. views_bounded (record { client = who.client; booking = number; cancels = true }) w.client_high h)
+    (proper_if _ (stage == 1) (recall_course who.client number false) _
+    (λ told. recalls_bounded (record { client = who.client; booking = number; released = false }) w.client_high h)
+    (proper_if _ (stage == 2) (recall_course who.client number true) None
+    (λ told. recalls_bounded (record { client = who.client; booking = number; released = true }) w.client_high h) tt))
 proper_in who stage (Ok (Look number)) w h =
-    proper_if _ (stage == 0) (view_course who.client number false) None (λ told. views_bounded (record { client = who.client; booking = number; cancels = false }) w.client_high h) tt
+    proper_if _ (stage == 0) (view_course who.client number false) None
+    (λ told. views_bounded (record { client = who.client; booking = number; cancels = false }) w.client_high h) tt
 
 pub booking_proper : (who : ReqId) (body : List ℕ) (stage : ℕ) → IsRequest who → IsProper (booking_beginning who body stage)
 booking_proper who body stage w = proper_in who stage (request_of body) w (request_in_range body)

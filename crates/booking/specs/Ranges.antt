@@ -39,7 +39,8 @@ has_map : {A B : Type 0} (P : A → Type 0) (Q : B → Type 0) (f : A → B) (o 
 has_map P Q f None h g = tt
 has_map P Q f (Some x) h g = g x h
 
-has_then : {A B : Type 0} (P : A → Type 0) (Q : B → Type 0) (f : A → Option B) (o : Option A) → Has P o → ((x : A) → P x → Has Q (f x)) → Has Q (option_and_then f o)
+has_then : {A B : Type 0} (P : A → Type 0) (Q : B → Type 0) (f : A → Option B) (o : Option A) → Has P o
+    → ((x : A) → P x → Has Q (f x)) → Has Q (option_and_then f o)
 has_then P Q f None h g = tt
 has_then P Q f (Some x) h g = g x h
 
@@ -50,7 +51,8 @@ chosen true false c v high h = tt
 chosen false b c v high h = tt
 
 number_high : (low high : ℕ) (word : List ℕ) → Has (λ n. n ≤ high) (number_in low high word)
-number_high low high word = chosen (is_numeral word) (nat_le low (value_of word)) (nat_le (value_of word) high) (value_of word) high (leb-true (value_of word) high)
+number_high low high word = chosen (is_numeral word) (nat_le low (value_of word)) (nat_le (value_of word) high)
+    (value_of word) high (leb-true (value_of word) high)
 
 ranged : (o : Option Request) → Has IsInRange o → HasRequest (in_range o)
 ranged None h = tt
@@ -81,12 +83,15 @@ book_has (trip ∷ qty ∷ []) = ranged _
 cancel_has : (further : List (List ℕ)) → HasRequest (cancel_of further)
 cancel_has [] = tt
 cancel_has (a ∷ b ∷ more) = tt
-cancel_has (booking ∷ []) = ranged _ (has_map (λ n. n ≤ 1048576) IsInRange (λ b. Cancel b) (number_in 1 1048576 booking) (number_high 1 1048576 booking) (λ b hb. hb))
+cancel_has (booking ∷ []) = ranged _
+    (has_map (λ n. n ≤ 1048576) IsInRange (λ b. Cancel b) (number_in 1 1048576 booking) (number_high 1 1048576 booking)
+    (λ b hb. hb))
 
 look_has : (further : List (List ℕ)) → HasRequest (look_of further)
 look_has [] = tt
 look_has (a ∷ b ∷ more) = tt
-look_has (booking ∷ []) = ranged _ (has_map (λ n. n ≤ 1048576) IsInRange (λ b. Look b) (number_in 1 1048576 booking) (number_high 1 1048576 booking) (λ b hb. hb))
+look_has (booking ∷ []) = ranged _
+    (has_map (λ n. n ≤ 1048576) IsInRange (λ b. Look b) (number_in 1 1048576 booking) (number_high 1 1048576 booking) (λ b hb. hb))
 
 has_if : (b : Bool) (x y : Result Request ℕ) → HasRequest x → HasRequest y → HasRequest (if b then x else y)
 has_if true x y h k = h

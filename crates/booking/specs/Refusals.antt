@@ -1,7 +1,8 @@
 -- Which rule refuses a request, over what was read, and its text.
 use Rattle.std.specs.Prelude.{ℕ, ◌+◌, ◌==◌, nat_lt, nat_le, not, ◌&&◌, List, [], ◌∷◌, Option, if◌then◌else◌}
 use Rattle.rule_table.specs.Rows.{first_row}
-use Rattle.server_model.specs.Booking.{capped, owner_of, already_open, bad_trip, no_trip, is_full, link_full, too_many, no_stock, declined, no_booking, not_yours, not_booked}
+use Rattle.server_model.specs.Booking.{capped, owner_of, already_open, bad_trip, no_trip, is_full, link_full, too_many}
+use Rattle.server_model.specs.Booking.{no_stock, declined, no_booking, not_yours, not_booked}
 
 -- the text of a rule
 abbrev pub refusal_text : ℕ → List ℕ

@@ -19,14 +19,16 @@ below_first f (suc n) =
     ∙ ap (λ xs. xs ++ f (suc n) ∷ []) (below_first f n)
     ∙ ap (λ xs. f 0 ∷ xs) (sym (map-append (λ i. f (suc i)) (below n) (n ∷ [])))
 
-pub ends_in_order : {P : Type 0} (plan : P → Option ℕ → Plan) (slots : List (Slot P)) → map (slot_end plan) slots ≡ map (λ i. unwrap_or (end_of (progress_of plan slots i)) said_nothing) (below (length slots))
+pub ends_in_order : {P : Type 0} (plan : P → Option ℕ → Plan) (slots : List (Slot P))
+    → map (slot_end plan) slots ≡ map (λ i. unwrap_or (end_of (progress_of plan slots i)) said_nothing) (below (length slots))
 ends_in_order plan [] = refl
 ends_in_order plan (x ∷ xs) =
     ap (λ es. slot_end plan x ∷ es) (ends_in_order plan xs)
     ∙ sym (below_first (λ i. unwrap_or (end_of (progress_of plan (x ∷ xs) i)) said_nothing) (length xs))
 
 -- one more end, and one fewer slot
-pub one_ended : {A B : Type 0} (f : A → B) (es es' : List B) (x : A) (xs ys : List A) (e : B) (all : List B) → xs ≡ x ∷ ys → es' ≡ es ++ e ∷ [] → e ≡ f x → es ++ map f xs ≡ all → es' ++ map f ys ≡ all
+pub one_ended : {A B : Type 0} (f : A → B) (es es' : List B) (x : A) (xs ys : List A) (e : B) (all : List B)
+    → xs ≡ x ∷ ys → es' ≡ es ++ e ∷ [] → e ≡ f x → es ++ map f xs ≡ all → es' ++ map f ys ≡ all
 one_ended f es es' x xs ys e all a b c h =
     ap (λ zs. zs ++ map f ys) b ∙ append_assoc es (e ∷ []) (map f ys)
     ∙ ap (λ z. es ++ z ∷ map f ys) c ∙ ap (λ zs. es ++ map f zs) (sym a) ∙ h

@@ -1,5 +1,6 @@
 -- A loop that finishes a group.
-use Rattle.std.proofs.Common.{◌≡◌, ◌≢◌, ℕ, suc, zero, ◌+◌, ◌<◌, ◌≤◌, ◌==◌, Bool, true, false, ◌||◌, List, [], ◌∷◌, ◌++◌, length, get_or, drop, refl, sym, ap, ◌∙◌, inl, inr, ◌⊎◌, arith}
+use Rattle.std.proofs.Common.{◌≡◌, ◌≢◌, ℕ, suc, zero, ◌+◌, ◌<◌, ◌≤◌, ◌==◌, Bool, true, false, ◌||◌, List, [], ◌∷◌, ◌++◌}
+use Rattle.std.proofs.Common.{length, get_or, drop, refl, sym, ap, ◌∙◌, inl, inr, ◌⊎◌, arith}
 use Rattle.std.proofs.lemmas.Bool.{or_right, or_from, or_parts}
 use Rattle.std.proofs.lemmas.Bool.Decides.{eqb_tells}
 use Rattle.std.proofs.lemmas.List.{drop_more, drop_all}
@@ -20,7 +21,8 @@ mem_at (x ∷ xs) zero h = mem-first x xs
 mem_at (x ∷ xs) (suc k) h = or_right (x == get_or xs k 0) (mem (get_or xs k 0) xs) (mem_at xs k (omega arith))
 
 -- one more step of the member at k
-one-more : (plans : ℕ → Plan) (g : List ℕ) (k i : ℕ) (r : List ℕ) (u v : State) → k < length g → i ≡ get_or g k 0 → u.group ≡ g → is_running (u.progress i) ≡ true → v ≡ turn plans u i
+one-more : (plans : ℕ → Plan) (g : List ℕ) (k i : ℕ) (r : List ℕ) (u v : State) → k < length g → i ≡ get_or g k 0
+    → u.group ≡ g → is_running (u.progress i) ≡ true → v ≡ turn plans u i
     → finish plans (drop k g ++ r) v ≡ finish plans (drop k g ++ r) u
 one-more plans g k i r u v h e eg run ev =
     let d : drop k g ≡ i ∷ drop (k + 1) g = drop_more g k 0 h ∙ ap (λ x. x ∷ drop (k + 1) g) (sym e) in
@@ -29,7 +31,8 @@ one-more plans g k i r u v h e eg run ev =
     ∙ sym (finish-turn plans i (drop (k + 1) g ++ r) u m run) ∙ sym (ap (λ xs. finish plans (xs ++ r) u) d)
 
 -- on to the next member
-skip-member : (plans : ℕ → Plan) (g : List ℕ) (k : ℕ) (r : List ℕ) (u : State) → k < length g → is_running (u.progress (get_or g k 0)) ≡ false → finish plans (drop (k + 1) g ++ r) u ≡ finish plans (drop k g ++ r) u
+skip-member : (plans : ℕ → Plan) (g : List ℕ) (k : ℕ) (r : List ℕ) (u : State) → k < length g
+    → is_running (u.progress (get_or g k 0)) ≡ false → finish plans (drop (k + 1) g ++ r) u ≡ finish plans (drop k g ++ r) u
 skip-member plans g k r u h n =
     sym (finish-ended plans (get_or g k 0 ∷ []) (drop (k + 1) g ++ r) u (λ j m. only j (get_or g k 0 == j) (eqb_tells (get_or g k 0) j) m))
     ∙ sym (ap (λ xs. finish plans (xs ++ r) u) (drop_more g k 0 h))
@@ -55,7 +58,8 @@ stays-ended plans u v i j e n = at (is_running (v.progress j)) refl
     at false r = refl
     at true r = let z : true ≡ false = sym (turn-less plans u i j (sym (ap (λ (x : State). is_running (x.progress j)) e) ∙ r)) ∙ n in cc
 
-going-progress : {P : Type 0} (plan : P → Option ℕ → Plan) (m : Machine P) (s b : Store) (over : Bool) (t : State) → (going plan m s b over t).progress ≡ progress_of plan m.slots.items
+going-progress : {P : Type 0} (plan : P → Option ℕ → Plan) (m : Machine P) (s b : Store) (over : Bool) (t : State)
+    → (going plan m s b over t).progress ≡ progress_of plan m.slots.items
 going-progress plan m s b true t = refl
 going-progress plan m s b false t = refl
 
@@ -65,15 +69,29 @@ true_or_false false = inr refl
 
 -- any state whose group is this
 abbrev pub some_state : List ℕ → State
-some_state g = record { store = empty; owner = λ l. 0; progress = λ j. Ended (Reply []); base = empty; past = []; group = g; done = []; later = []; redo = 0; steps = [] }
+some_state g = record {
+  store = empty;
+  owner = λ l. 0;
+  progress = λ j. Ended (Reply []);
+  base = empty;
+  past = [];
+  group = g;
+  done = [];
+  later = [];
+  redo = 0;
+  steps = [];
+}
 
 -- what a group comes to from member k on, and that none before it runs unless the group is over
-pub record Finishes {P : Type 0} (plan : P → Option ℕ → Plan) (plans : ℕ → Plan) (g : List ℕ) (k : ℕ) (m m' : Machine P) (s b s' b' : Store) (over : Bool) : Type 0 where
-  pub same : (t : State) → t.group ≡ g → finish plans (drop k g ++ concat t.later) (going plan m' s' b' over t) ≡ finish plans (g ++ concat t.later) (whole_of plan m s b t)
+pub record Finishes {P : Type 0} (plan : P → Option ℕ → Plan) (plans : ℕ → Plan) (g : List ℕ) (k : ℕ) (m m' : Machine P)
+    (s b s' b' : Store) (over : Bool) : Type 0 where
+  pub same : (t : State) → t.group ≡ g → finish plans (drop k g ++ concat t.later) (going plan m' s' b' over t)
+      ≡ finish plans (g ++ concat t.later) (whole_of plan m s b t)
   pub before : over ≡ false → (j : ℕ) → j < k → is_running (progress_of plan m'.slots.items (get_or g j 0)) ≡ false
 
 -- after one more turn of member k
-pub finishes_more : {P : Type 0} {plan : P → Option ℕ → Plan} {plans : ℕ → Plan} {g : List ℕ} {k : ℕ} {m m' : Machine P} {s b s' b' : Store} {over : Bool} (m'' : Machine P) (s'' b'' : Store) (over' : Bool)
+pub finishes_more : {P : Type 0} {plan : P → Option ℕ → Plan} {plans : ℕ → Plan} {g : List ℕ} {k : ℕ} {m m' : Machine P}
+    {s b s' b' : Store} {over : Bool} (m'' : Machine P) (s'' b'' : Store) (over' : Bool)
     → Finishes plan plans g k m m' s b s' b' over → over ≡ false → k < length g → is_running (progress_of plan m'.slots.items (get_or g k 0)) ≡ true
     → ((t : State) → t.group ≡ g → going plan m'' s'' b'' over' t ≡ turn plans (whole_of plan m' s' b' t) (get_or g k 0))
     → Finishes plan plans g k m m'' s b s'' b'' over'
@@ -90,10 +108,12 @@ finishes_more {plan = plan} {plans = plans} {g = g} {k = k} {m' = m'} {s' = s'} 
 
 -- once member k has stopped
 pub finishes_next : {P : Type 0} {plan : P → Option ℕ → Plan} {plans : ℕ → Plan} {g : List ℕ} {k : ℕ} {m m' : Machine P} {s b s' b' : Store} {over : Bool}
-    → Finishes plan plans g k m m' s b s' b' over → k < length g → is_running (progress_of plan m'.slots.items (get_or g k 0)) ≡ false → Finishes plan plans g (k + 1) m m' s b s' b' over
+    → Finishes plan plans g k m m' s b s' b' over → k < length g
+    → is_running (progress_of plan m'.slots.items (get_or g k 0)) ≡ false → Finishes plan plans g (k + 1) m m' s b s' b' over
 finishes_next {plan = plan} {plans = plans} {g = g} {k = k} {m' = m'} {s' = s'} {b' = b'} {over = over} h lt stopped = record {
   same = λ t e.
-      skip-member plans g k (concat t.later) (going plan m' s' b' over t) lt (ap (λ q. is_running (q (get_or g k 0))) (going-progress plan m' s' b' over t) ∙ stopped) ∙ h.same t e;
+      skip-member plans g k (concat t.later) (going plan m' s' b' over t) lt
+      (ap (λ q. is_running (q (get_or g k 0))) (going-progress plan m' s' b' over t) ∙ stopped) ∙ h.same t e;
   before = λ o j l. elim (two j k l) [ inl z ↦ h.before o j z | inr z ↦ ap (λ n. is_running (progress_of plan m'.slots.items (get_or g n 0))) z ∙ stopped ];
 }
   where

@@ -27,7 +27,8 @@ pub none_left : {P : Type 0} (plan : P → Option ℕ → Plan) (w : Work P) (i 
 none_left plan w i e = sym (ap (λ (t : State). can_step t i) (state_here plan w [] e))
 
 -- no member of a group that is over goes on, whichever group is at work then
-pub none_on : {P : Type 0} (plan : P → Option ℕ → Plan) (w w' : Work P) (xs : List ℕ) (i : ℕ) → mem i xs ≡ true → any_running (progress_of plan w.m.slots.items) xs ≡ false → w'.m.slots ≡ w.m.slots
+pub none_on : {P : Type 0} (plan : P → Option ℕ → Plan) (w w' : Work P) (xs : List ℕ) (i : ℕ) → mem i xs ≡ true
+    → any_running (progress_of plan w.m.slots.items) xs ≡ false → w'.m.slots ≡ w.m.slots
     → false ≡ can_step (state_at plan w') i
 none_on plan w w' xs i m over same =
     not_so (can_step (state_at plan w') i) (λ on.
@@ -36,7 +37,8 @@ none_on plan w w' xs i m over same =
     (and_parts _ _ on).1)
 
 -- a member of the group at work goes on if it runs
-pub on_here : {P : Type 0} (plan : P → Option ℕ → Plan) (w : Work P) (g : List ℕ) (rest : List (List ℕ)) (i : ℕ) (on : Bool) → drop w.at (lists_of w.groups.items) ≡ g ∷ rest → mem i g ≡ true
+pub on_here : {P : Type 0} (plan : P → Option ℕ → Plan) (w : Work P) (g : List ℕ) (rest : List (List ℕ)) (i : ℕ)
+    (on : Bool) → drop w.at (lists_of w.groups.items) ≡ g ∷ rest → mem i g ≡ true
     → on ≡ is_running (progress_of plan w.m.slots.items i) → on ≡ can_step (state_at plan w) i
 on_here plan w g rest i on at m e =
     let here : mem i (state_at plan w).group ≡ true = ap (λ (t : State). mem i t.group) (state_here plan w (g ∷ rest) at) ∙ m in
@@ -51,7 +53,8 @@ on_after plan begins begins' segs segs' s s' w i b j t r =
     sym (ap (λ (u : State). can_step u i) same)
 
 -- what ran this job by a schedule made the steps that the task's run by it has
-pub task_steps : {E : Type 0} (begins begins' : Beginnings) (segs segs' : List Seg) (s s' t : Store) (schedule : List ℕ) (r : Result Ran E) → begins ≡ begins' → segs ≡ segs' → s ≡ s'
+pub task_steps : {E : Type 0} (begins begins' : Beginnings) (segs segs' : List Seg) (s s' t : Store) (schedule : List ℕ)
+    (r : Result Ran E) → begins ≡ begins' → segs ≡ segs' → s ≡ s'
     → IfOk r (IsRan s t (run_job begins segs s schedule)) → IfOk r (λ ran. ran.steps ≡ (run_job begins' segs' s' schedule).steps)
 task_steps begins begins' segs segs' s s' t schedule (Ok ran) b j e made = made.steps ∙ (λ k. (run_job (b k) (j k) (e k) schedule).steps)
 task_steps begins begins' segs segs' s s' t schedule (Err x) b j e made = tt

@@ -1,5 +1,6 @@
 -- A loop over the groups.
-use Rattle.std.proofs.Common.{◌≡◌, ℕ, suc, zero, ◌+◌, ◌<◌, ◌≤◌, Bool, true, false, List, [], ◌∷◌, ◌++◌, length, get_or, drop, Option, refl, sym, ap, subst, ◌∙◌, cond, arith}
+use Rattle.std.proofs.Common.{◌≡◌, ℕ, suc, zero, ◌+◌, ◌<◌, ◌≤◌, Bool, true, false, List, [], ◌∷◌, ◌++◌, length, get_or}
+use Rattle.std.proofs.Common.{drop, Option, refl, sym, ap, subst, ◌∙◌, cond, arith}
 use Rattle.std.proofs.lemmas.Bool.{or_left, or_right}
 use Rattle.std.specs.List.{All}
 use Rattle.std.specs.declared.vec.Vec.{Vec}
@@ -17,7 +18,8 @@ use Rattle.key_mixer.specs.Lists.{lists_of}
 use Rattle.exec_core.specs.States.{AreMembers, whole_of, begun}
 use Rattle.exec_model.specs.Machine.{next}
 
-pub groups_at : (gs : List (Vec ℕ Global)) (k : ℕ) (v : Vec ℕ Global) → k < length gs → v ≡ get_or gs k v → drop k (lists_of gs) ≡ v.items ∷ drop (k + 1) (lists_of gs)
+pub groups_at : (gs : List (Vec ℕ Global)) (k : ℕ) (v : Vec ℕ Global) → k < length gs → v ≡ get_or gs k v
+    → drop k (lists_of gs) ≡ v.items ∷ drop (k + 1) (lists_of gs)
 groups_at [] k v h e = absurd (omega arith)
 groups_at (x ∷ xs) zero v h e = ap (λ (w : Vec ℕ Global). w.items ∷ lists_of xs) (sym e)
 groups_at (x ∷ xs) (suc k) v h e =
@@ -51,7 +53,9 @@ pub record At (n : ℕ) (q : ℕ → Progress) (all : List (List ℕ)) (k : ℕ)
   pub apart : (j : ℕ) → mem j (concat (drop (k + 1) all)) ≡ true → mem j g ≡ false
   pub later : (j : ℕ) → mem j (concat (drop (k + 1) all)) ≡ true → is_running (q j) ≡ true
 
-at_list : (n : ℕ) (q : ℕ → Progress) (all : List (List ℕ)) (k : ℕ) (g : List ℕ) → drop k all ≡ g ∷ drop (k + 1) all → AreMembers n all → AreFull all → ((j : ℕ) → times j (concat all) ≤ 1) → ((j : ℕ) → mem j (concat (drop k all)) ≡ true → is_running (q j) ≡ true) → At n q all k g
+at_list : (n : ℕ) (q : ℕ → Progress) (all : List (List ℕ)) (k : ℕ) (g : List ℕ) → drop k all ≡ g ∷ drop (k + 1) all
+    → AreMembers n all → AreFull all → ((j : ℕ) → times j (concat all) ≤ 1)
+    → ((j : ℕ) → mem j (concat (drop k all)) ≡ true → is_running (q j) ≡ true) → At n q all k g
 at_list n q all k g d m f one run =
     let m' = subst (AreMembers n) d (members_drop n all k m) in
     record {
@@ -82,21 +86,36 @@ at_list n q all k g d m f one run =
     by j false e h = refl
     by j true e h = let a = times-mem j g e in let b = times-mem j _ h in let c = once_both j in absurd (omega arith)
 
-pub at_group : (n : ℕ) (q : ℕ → Progress) (groups : List (Vec ℕ Global)) (k : ℕ) (v : Vec ℕ Global) (g : List ℕ) → k < length groups → v ≡ get_or groups k v → g ≡ v.items
-    → AreMembers n (lists_of groups) → AreFull (lists_of groups) → ((j : ℕ) → times j (concat (lists_of groups)) ≤ 1) → ((j : ℕ) → mem j (concat (drop k (lists_of groups))) ≡ true → is_running (q j) ≡ true)
+pub at_group : (n : ℕ) (q : ℕ → Progress) (groups : List (Vec ℕ Global)) (k : ℕ) (v : Vec ℕ Global) (g : List ℕ)
+    → k < length groups → v ≡ get_or groups k v → g ≡ v.items
+    → AreMembers n (lists_of groups) → AreFull (lists_of groups) → ((j : ℕ) → times j (concat (lists_of groups)) ≤ 1)
+    → ((j : ℕ) → mem j (concat (drop k (lists_of groups))) ≡ true → is_running (q j) ≡ true)
     → At n q (lists_of groups) k g
-at_group n q groups k v g lt is same = at_list n q (lists_of groups) k g (groups_at groups k v lt is ∙ ap (λ xs. xs ∷ drop (k + 1) (lists_of groups)) (sym same))
+at_group n q groups k v g lt is same = at_list n q (lists_of groups) k g (groups_at groups k v lt is
+    ∙ ap (λ xs. xs ∷ drop (k + 1) (lists_of groups)) (sym same))
 
 -- the run goes on with the next group
-pub run-more : {P : Type 0} (plan : P → Option ℕ → Plan) (plans : ℕ → Plan) (all : List (List ℕ)) (k : ℕ) (g : List ℕ) (m m1 m2 : Machine P) (s s1 b1 s2 b2 : Store) (o o2 : List ℕ) (rest rest2 : List ℕ) (t : State)
-    → drop k all ≡ g ∷ drop (k + 1) all → m1.slots ≡ m.slots → m1.owner ≡ m.owner → m1.done.items ≡ [] → m1.steps ≡ m.steps → m1.redo ≡ m.redo → s1 ≡ s → b1 ≡ s → o2 ≡ o ++ m2.done.items
-    → ((t : State) → t.group ≡ g → complete plans (turns plans (next (whole_of plan m2 s2 b2 t)) rest2) ≡ complete plans (turns plans (whole_of plan m1 s1 b1 t) rest))
+pub run-more : {P : Type 0} (plan : P → Option ℕ → Plan) (plans : ℕ → Plan) (all : List (List ℕ)) (k : ℕ) (g : List ℕ)
+    (m m1 m2 : Machine P) (s s1 b1 s2 b2 : Store) (o o2 : List ℕ) (rest rest2 : List ℕ) (t : State)
+    → drop k all ≡ g ∷ drop (k + 1) all → m1.slots ≡ m.slots → m1.owner ≡ m.owner → m1.done.items ≡ []
+    → m1.steps ≡ m.steps → m1.redo ≡ m.redo → s1 ≡ s → b1 ≡ s → o2 ≡ o ++ m2.done.items
+    → ((t : State) → t.group ≡ g → complete plans (turns plans (next (whole_of plan m2 s2 b2 t)) rest2)
+    ≡ complete plans (turns plans (whole_of plan m1 s1 b1 t) rest))
     → complete plans (turns plans (begun plan m2 s2 o2 (drop (k + 1) all) t) rest2) ≡ complete plans (turns plans (begun plan m s o (drop k all) t) rest)
 run-more plan plans all k g m m1 m2 s s1 b1 s2 b2 o o2 rest rest2 t d e1 e2 e3 e4 e5 e6 e7 eo h =
     let t1 = record t { past = o; group = g; later = drop (k + 1) all } in
     ap (λ p. complete plans (turns plans (begun plan m2 s2 p (drop (k + 1) all) t) rest2)) eo
     ∙ h t1 refl
-    ∙ (λ n. complete plans (turns plans (record t1 { store = e6 n; owner = (λ l. get_or (e2 n).items l 0); progress = (whole_of plan (record m { slots = e1 n }) s s t1).progress; base = e7 n; done = e3 n; redo = e5 n; steps = (e4 n).items }) rest))
+    ∙ (λ n. complete plans
+    (turns plans (record t1 {
+      store = e6 n;
+      owner = (λ l. get_or (e2 n).items l 0);
+      progress = (whole_of plan (record m { slots = e1 n }) s s t1).progress;
+      base = e7 n;
+      done = e3 n;
+      redo = e5 n;
+      steps = (e4 n).items;
+    }) rest))
     ∙ ap (λ x. complete plans (turns plans (begun plan m s o x t) rest)) (sym d)
 
 pub lists_all : (gs : List (Vec ℕ Global)) (k : ℕ) → length gs ≤ k → drop k (lists_of gs) ≡ []
@@ -108,4 +127,5 @@ lists_all (x ∷ xs) (suc k) h = lists_all xs k (omega arith)
 -- with no group left nothing happens
 pub run-over : (plans : ℕ → Plan) (t : State) (xs : List ℕ) → t.group ≡ [] → t.later ≡ [] → t ≡ complete plans (turns plans t xs)
 run-over plans t [] g l = sym (ap (λ xs. finish plans (xs ++ concat t.later) t) g ∙ ap (λ xs. finish plans (concat xs) t) l)
-run-over plans t (x ∷ xs) g l = run-over plans t xs g l ∙ sym (ap (λ u. complete plans (turns plans u xs)) (ap (λ c. cond c (act plans t x (t.progress x)) t) (ap (mem x) g)))
+run-over plans t (x ∷ xs) g l = run-over plans t xs g l
+    ∙ sym (ap (λ u. complete plans (turns plans u xs)) (ap (λ c. cond c (act plans t x (t.progress x)) t) (ap (mem x) g)))

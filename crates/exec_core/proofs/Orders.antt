@@ -1,5 +1,6 @@
 -- Orders of segments, each in a group of its own.
-use Rattle.std.proofs.Common.{◌≡◌, ℕ, zero, suc, ◌+◌, ◌≤◌, ◌==◌, Bool, true, false, cond, List, [], ◌∷◌, length, map, refl, ap, ◌∙◌, inl, inr, ◌⊎◌, ◌≢◌, length-append, arith}
+use Rattle.std.proofs.Common.{◌≡◌, ℕ, zero, suc, ◌+◌, ◌≤◌, ◌==◌, Bool, true, false, cond, List, [], ◌∷◌, length, map}
+use Rattle.std.proofs.Common.{refl, ap, ◌∙◌, inl, inr, ◌⊎◌, ◌≢◌, length-append, arith}
 use Rattle.std.specs.Prelude.{nat_lt, unwrap_or}
 use Rattle.std.proofs.lemmas.Bool.Decides.{nat_tests, eqb_tells}
 use Rattle.aeg_base.specs.Store.{Store}
@@ -20,7 +21,8 @@ length_without : (n : ℕ) (xs : List ℕ) → length xs ≡ length (without n x
 length_without n [] = refl
 length_without n (x ∷ xs) = at (x == n) (length_without n xs)
   where
-    at : (c : Bool) → length xs ≡ length (without n xs) + times n xs → length (x ∷ xs) ≡ length (cond c (without n xs) (x ∷ without n xs)) + (cond c 1 0 + times n xs)
+    at : (c : Bool) → length xs ≡ length (without n xs) + times n xs
+        → length (x ∷ xs) ≡ length (cond c (without n xs) (x ∷ without n xs)) + (cond c 1 0 + times n xs)
     at true h = omega arith
     at false h = omega arith
 
@@ -48,7 +50,8 @@ self_times x xs =
 -- a list of numbers below n, none twice, has at most n of them
 pub length_order : (n : ℕ) (xs : List ℕ) → ((i : ℕ) → times i xs ≤ cond (nat_lt i n) 1 0) → length xs ≤ n
 length_order zero [] h = omega arith
-length_order zero (x ∷ xs) h = let a = h x in let b = self_times x xs in let z : ◌≡◌ {A = ℕ} (cond (nat_lt x 0) 1 0) 0 = grind (arith, nat_tests) in absurd (omega arith)
+length_order zero (x ∷ xs) h = let a = h x in let b = self_times x xs in let z : ◌≡◌ {A = ℕ} (cond (nat_lt x 0) 1 0)
+    0 = grind (arith, nat_tests) in absurd (omega arith)
 length_order (suc n) xs h =
     let a = length_without n xs in
     let b = length_order n (without n xs) (λ i. at i (i == n) (eqb_tells i n)) in
@@ -89,7 +92,8 @@ singles_all [] = refl
 singles_all (i ∷ is) = ap (λ xs. i ∷ xs) (singles_all is)
 
 -- so they run one after another
-pub singles_run : (begins : Beginnings) (segs : List Seg) (s : Store) (order : List ℕ) → IsOrder (length segs) order → run_in_groups begins segs (singles order) s [] ≡ serial_run begins segs s order
+pub singles_run : (begins : Beginnings) (segs : List Seg) (s : Store) (order : List ℕ) → IsOrder (length segs) order
+    → run_in_groups begins segs (singles order) s [] ≡ serial_run begins segs s order
 unfolding serial_store serial_ends
 singles_run begins segs s order h =
     let plans = plan_at begins segs in
@@ -102,6 +106,9 @@ singles_run begins segs s order h =
     let past : t.past ≡ order = w.order_is ∙ all in
     let st : t.steps ≡ (serial_run begins segs s order).steps = w.steps ∙ ap (λ xs. (serial_run begins segs s xs).steps) all in
     let sr : t.store ≡ serial plans s order = z.store ∙ ap (serial plans s) past in
-    let es : map (λ i. unwrap_or (end_of (t.progress i)) said_nothing) (below (length segs)) ≡ map (λ i. unwrap_or (serial_end plans s order i) said_nothing) (below (length segs)) =
-    map-same (λ i. unwrap_or (end_of (t.progress i)) said_nothing) (λ i. unwrap_or (serial_end plans s order i) said_nothing) (below (length segs)) (λ i. ap (λ o. unwrap_or o said_nothing) (z.ends i ∙ ap (λ xs. serial_end plans s xs i) past)) in
+    let es : map (λ i. unwrap_or (end_of (t.progress i)) said_nothing) (below (length segs))
+    ≡ map (λ i. unwrap_or (serial_end plans s order i) said_nothing) (below (length segs)) =
+    map-same (λ i. unwrap_or (end_of (t.progress i)) said_nothing)
+    (λ i. unwrap_or (serial_end plans s order i) said_nothing) (below (length segs))
+    (λ i. ap (λ o. unwrap_or o said_nothing) (z.ends i ∙ ap (λ xs. serial_end plans s xs i) past)) in
     λ k. record { steps = st k; order = past k; redo = w.redo k; store = sr k; ends = es k }

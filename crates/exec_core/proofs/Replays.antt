@@ -8,7 +8,8 @@ use Rattle.exec_model.proofs.Outcome.{run_job-steps}
 use Rattle.exec_core.specs.declared.ran.Ran.{Ran}
 use Rattle.exec_core.specs.Jobs.{IsRan}
 
-pub replayed : (begins : Beginnings) (segs : List Seg) (s t : Store) (schedule : List ℕ) (ran : Ran) → IsRan s t (run_job begins segs s schedule) ran → IsRan s t (run_job begins segs s ran.steps) ran
+pub replayed : (begins : Beginnings) (segs : List Seg) (s t : Store) (schedule : List ℕ) (ran : Ran)
+    → IsRan s t (run_job begins segs s schedule) ran → IsRan s t (run_job begins segs s ran.steps) ran
 replayed begins segs s t schedule ran h =
     subst (λ (r : Run). IsRan s t r ran) (sym (run_job-steps begins segs s schedule) ∙ ap (run_job begins segs s) (sym h.steps)) h
 

@@ -1,5 +1,6 @@
 -- A machine between two turns is in the state that its steps lead to.
-use Rattle.std.proofs.Common.{◌≡◌, ℕ, zero, suc, ◌+◌, ◌<◌, ◌≤◌, true, false, List, [], ◌∷◌, ◌++◌, length, get_or, drop, Option, Result, Ok, Err, refl, sym, ap, subst, ◌∙◌, arith}
+use Rattle.std.proofs.Common.{◌≡◌, ℕ, zero, suc, ◌+◌, ◌<◌, ◌≤◌, true, false, List, [], ◌∷◌, ◌++◌, length, get_or, drop}
+use Rattle.std.proofs.Common.{Option, Result, Ok, Err, refl, sym, ap, subst, ◌∙◌, arith}
 use Rattle.std.specs.Prelude.{IfOk}
 use Rattle.std.specs.List.{All}
 use Rattle.std.proofs.lemmas.Bool.{and_parts, both_ways}
@@ -64,8 +65,10 @@ pub record CanTurn {P : Type 0} (begins : Beginnings) (segs : List Seg) (w : Wor
   pub small : i < 255
   pub at : drop w.at (lists_of w.groups.items) ≡ xs ∷ drop (w.at + 1) (lists_of w.groups.items)
 
-pub can_turn : {P : Type 0} (plan : P → Option ℕ → Plan) (begins : Beginnings) (segs : List Seg) (s : Store) (w : Work P) (v : Vec ℕ Global) (xs : List ℕ) (i : ℕ)
-    → All (BeginsWell begins) segs → length segs ≤ 32 → IsReached plan begins segs s w → w.at < length w.groups.items → v ≡ get_or w.groups.items w.at v → xs ≡ v.items → mem i xs ≡ true
+pub can_turn : {P : Type 0} (plan : P → Option ℕ → Plan) (begins : Beginnings) (segs : List Seg) (s : Store)
+    (w : Work P) (v : Vec ℕ Global) (xs : List ℕ) (i : ℕ)
+    → All (BeginsWell begins) segs → length segs ≤ 32 → IsReached plan begins segs s w → w.at < length w.groups.items
+    → v ≡ get_or w.groups.items w.at v → xs ≡ v.items → mem i xs ≡ true
     → CanTurn begins segs w xs i
 can_turn plan begins segs s w v xs i well few r lt is same m =
     let n = length segs in
@@ -92,16 +95,19 @@ state_with plan w gs = record (state_at plan w) {
   later = elim gs [ [] ↦ [] | g ∷ rest ↦ rest ];
 }
 
-pub state_here : {P : Type 0} (plan : P → Option ℕ → Plan) (w : Work P) (gs : List (List ℕ)) → drop w.at (lists_of w.groups.items) ≡ gs → state_at plan w ≡ state_with plan w gs
+pub state_here : {P : Type 0} (plan : P → Option ℕ → Plan) (w : Work P) (gs : List (List ℕ))
+    → drop w.at (lists_of w.groups.items) ≡ gs → state_at plan w ≡ state_with plan w gs
 state_here plan w gs e = ap (state_with plan w) e
 
 -- a segment that is not of the group at work makes no step
-pub apart : {P : Type 0} (plan : P → Option ℕ → Plan) (w : Work P) (g : List ℕ) (rest : List (List ℕ)) (i : ℕ) → drop w.at (lists_of w.groups.items) ≡ g ∷ rest → mem i g ≡ false → can_step (state_at plan w) i ≡ true → ⊥
+pub apart : {P : Type 0} (plan : P → Option ℕ → Plan) (w : Work P) (g : List ℕ) (rest : List (List ℕ)) (i : ℕ)
+    → drop w.at (lists_of w.groups.items) ≡ g ∷ rest → mem i g ≡ false → can_step (state_at plan w) i ≡ true → ⊥
 apart plan w g rest i e away can_go =
     both_ways (mem i g) away (sym (ap (λ (t : State). mem i t.group) (state_here plan w (g ∷ rest) e)) ∙ (and_parts _ _ can_go).0)
 
 -- the state after the steps so far tells who can step
-pub steps_on : {P : Type 0} (plan : P → Option ℕ → Plan) (begins begins' : Beginnings) (segs segs' : List Seg) (s s' : Store) (w : Work P) (steps : List ℕ) (i : ℕ)
+pub steps_on : {P : Type 0} (plan : P → Option ℕ → Plan) (begins begins' : Beginnings) (segs segs' : List Seg)
+    (s s' : Store) (w : Work P) (steps : List ℕ) (i : ℕ)
     → begins ≡ begins' → segs ≡ segs' → s ≡ s' → steps ≡ w.m.steps.items → IsReached plan begins segs s w
     → can_step (state_after begins' segs' s' steps) i ≡ true → can_step (state_at plan w) i ≡ true
 steps_on plan begins begins' segs segs' s s' w steps i b j t e r can_go =
@@ -117,18 +123,22 @@ abbrev pub around : List ℕ → List ℕ → List (List ℕ) → State → Stat
 around order g rest t = record t { past = order; group = g; later = rest }
 
 -- one turn of segment i, within the group
-pub turned : {P : Type 0} (plan : P → Option ℕ → Plan) (begins : Beginnings) (segs : List Seg) (s : Store) (w w' : Work P) (i : ℕ) (g : List ℕ) (rest : List (List ℕ))
+pub turned : {P : Type 0} (plan : P → Option ℕ → Plan) (begins : Beginnings) (segs : List Seg) (s : Store)
+    (w w' : Work P) (i : ℕ) (g : List ℕ) (rest : List (List ℕ))
     → IsReached plan begins segs s w → drop w.at (lists_of w.groups.items) ≡ g ∷ rest
     → w'.groups ≡ w.groups → w'.at ≡ w.at → w'.order ≡ w.order
     → length w'.m.slots.items ≡ length w.m.slots.items → length w'.m.owner.items ≡ 256 → w'.m.redo ≡ w.m.redo
-    → ((t : State) → t.group ≡ g → whole_of plan w'.m w'.cells.now w'.cells.base t ≡ turn (plan_at begins segs) (whole_of plan w.m w.cells.now w.cells.base t) i)
+    → ((t : State) → t.group ≡ g → whole_of plan w'.m w'.cells.now w'.cells.base t
+    ≡ turn (plan_at begins segs) (whole_of plan w.m w.cells.now w.cells.base t) i)
     → IsReached plan begins segs s w'
 turned plan begins segs s w w' i g rest r d eg ea eo slots locks redo goes =
     let t0 = begun_on begins segs s in
     let old : state_at plan w ≡ state_with plan w (g ∷ rest) = state_here plan w (g ∷ rest) d in
     let there : drop w'.at (lists_of w'.groups.items) ≡ g ∷ rest = (λ n. drop (ea n) (lists_of (eg n).items)) ∙ d in
     let new : state_at plan w' ≡ state_with plan w' (g ∷ rest) = state_here plan w' (g ∷ rest) there in
-    let order : state_with plan w' (g ∷ rest) ≡ record (state_with plan w' (g ∷ rest)) { past = w.order.items } = λ n. record (state_with plan w' (g ∷ rest)) { past = (eo n).items } in
+    let order : state_with plan w' (g ∷ rest)
+    ≡ record (state_with plan w' (g ∷ rest)) { past = w.order.items } = λ n. record (state_with plan w' (g ∷ rest))
+    { past = (eo n).items } in
     record {
       groups = ap (λ (v : Vec (Vec ℕ Global) Global). lists_of v.items) eg ∙ r.groups;
       slots = slots ∙ r.slots;
@@ -139,19 +149,24 @@ turned plan begins segs s w w' i g rest r d eg ea eo slots locks redo goes =
     }
 
 -- one turn of segment i, with which the group is over
-pub turned_over : {P : Type 0} (plan : P → Option ℕ → Plan) (begins : Beginnings) (segs : List Seg) (s : Store) (w v w' : Work P) (i : ℕ) (g : List ℕ) (rest : List (List ℕ))
+pub turned_over : {P : Type 0} (plan : P → Option ℕ → Plan) (begins : Beginnings) (segs : List Seg) (s : Store)
+    (w v w' : Work P) (i : ℕ) (g : List ℕ) (rest : List (List ℕ))
     → IsReached plan begins segs s w → drop w.at (lists_of w.groups.items) ≡ g ∷ rest
     → v.groups ≡ w.groups → v.at ≡ w.at → v.order ≡ w.order
     → length v.m.slots.items ≡ length w.m.slots.items → length v.m.owner.items ≡ 256 → v.m.redo ≤ w.m.redo + 1
-    → ((t : State) → t.group ≡ g → next (whole_of plan v.m v.cells.now v.cells.base t) ≡ turn (plan_at begins segs) (whole_of plan w.m w.cells.now w.cells.base t) i)
-    → state_at plan w' ≡ next (state_at plan v) → w'.at ≡ v.at + 1 → w'.m.slots ≡ v.m.slots → w'.m.owner ≡ v.m.owner → w'.m.redo ≡ v.m.redo → w'.groups ≡ v.groups
+    → ((t : State) → t.group ≡ g → next (whole_of plan v.m v.cells.now v.cells.base t)
+    ≡ turn (plan_at begins segs) (whole_of plan w.m w.cells.now w.cells.base t) i)
+    → state_at plan w' ≡ next (state_at plan v) → w'.at ≡ v.at + 1 → w'.m.slots ≡ v.m.slots → w'.m.owner ≡ v.m.owner
+    → w'.m.redo ≡ v.m.redo → w'.groups ≡ v.groups
     → IsReached plan begins segs s w'
 turned_over {P = P} plan begins segs s w v w' i g rest r d eg ea eo slots locks redo goes es ea' e1 e2 e3 eg' =
     let t0 = begun_on begins segs s in
     let old : state_at plan w ≡ state_with plan w (g ∷ rest) = state_here plan w (g ∷ rest) d in
     let there : drop v.at (lists_of v.groups.items) ≡ g ∷ rest = (λ n. drop (ea n) (lists_of (eg n).items)) ∙ d in
     let mid : state_at plan v ≡ state_with plan v (g ∷ rest) = state_here plan v (g ∷ rest) there in
-    let order : state_with plan v (g ∷ rest) ≡ record (state_with plan v (g ∷ rest)) { past = w.order.items } = λ n. record (state_with plan v (g ∷ rest)) { past = (eo n).items } in
+    let order : state_with plan v (g ∷ rest)
+    ≡ record (state_with plan v (g ∷ rest)) { past = w.order.items } = λ n. record (state_with plan v (g ∷ rest))
+    { past = (eo n).items } in
     record {
       groups = ap (λ (x : Vec (Vec ℕ Global) Global). lists_of x.items) (eg' ∙ eg) ∙ r.groups;
       slots = ap (λ (x : Vec _ Global). length x.items) e1 ∙ slots ∙ r.slots;
@@ -169,12 +184,14 @@ after_next (g ∷ gs) zero = refl
 after_next (g ∷ gs) (suc k) = after_next gs k
 
 -- with the next group begun the state is the machine's next
-pub next_state : {P : Type 0} (plan : P → Option ℕ → Plan) (w w' : Work P) → w'.groups ≡ w.groups → w'.at ≡ w.at + 1 → w'.order.items ≡ w.order.items ++ w.m.done.items → w'.m.done.items ≡ []
+pub next_state : {P : Type 0} (plan : P → Option ℕ → Plan) (w w' : Work P) → w'.groups ≡ w.groups → w'.at ≡ w.at + 1
+    → w'.order.items ≡ w.order.items ++ w.m.done.items → w'.m.done.items ≡ []
     → w'.m.slots ≡ w.m.slots → w'.m.owner ≡ w.m.owner → w'.m.redo ≡ w.m.redo → w'.m.steps ≡ w.m.steps → w'.cells.now ≡ w.cells.now → w'.cells.base ≡ w.cells.now
     → state_at plan w' ≡ next (state_at plan w)
 next_state {P = P} plan w w' eg ea eo ed e1 e2 e3 e4 now base =
     let one : w.at + 1 ≡ suc w.at = omega arith in
-    let rest : drop w'.at (lists_of w'.groups.items) ≡ (state_at plan w).later = (λ n. drop ((ea ∙ one) n) (lists_of (eg n).items)) ∙ after_next (lists_of w.groups.items) w.at in
+    let rest : drop w'.at (lists_of w'.groups.items) ≡ (state_at plan w).later = (λ n. drop ((ea ∙ one) n)
+    (lists_of (eg n).items)) ∙ after_next (lists_of w.groups.items) w.at in
     state_here plan w' (state_at plan w).later rest
     ∙ (λ n. record (state_with plan w' (state_at plan w).later) {
       store = now n;
@@ -189,7 +206,8 @@ next_state {P = P} plan w w' eg ea eo ed e1 e2 e3 e4 now base =
 
 -- a machine that has just begun is in its first state
 pub first_state : {P : Type 0} (plan : P → Option ℕ → Plan) (begins : Beginnings) (segs : List Seg) (s : Store) (w : Work P)
-    → IsFresh plan begins segs w.m → w.m.done.items ≡ [] → w.cells.now ≡ s → w.cells.base ≡ s → w.at ≡ 0 → w.order.items ≡ [] → lists_of w.groups.items ≡ groups_of begins segs
+    → IsFresh plan begins segs w.m → w.m.done.items ≡ [] → w.cells.now ≡ s → w.cells.base ≡ s → w.at ≡ 0
+    → w.order.items ≡ [] → lists_of w.groups.items ≡ groups_of begins segs
     → turns (plan_at begins segs) (begun_on begins segs s) w.m.steps.items ≡ state_at plan w
 first_state plan begins segs s w f done now base at order groups =
     let plans = plan_at begins segs in
@@ -197,7 +215,8 @@ first_state plan begins segs s w f done now base at order groups =
     let d : drop w.at (lists_of w.groups.items) ≡ groups_of begins segs = (λ n. drop (at n) (groups n)) in
     ap (turns plans (begun_on begins segs s)) f.steps
     ∙ sym b
-    ∙ sym (state_here plan w (groups_of begins segs) d ∙ (λ n. record (state_with plan w (groups_of begins segs)) { store = now n; base = base n; past = order n; done = done n }))
+    ∙ sym (state_here plan w (groups_of begins segs) d
+    ∙ (λ n. record (state_with plan w (groups_of begins segs)) { store = now n; base = base n; past = order n; done = done n }))
 
 -- where all groups are over, what is left is the run by the steps
 pub over_run : {P : Type 0} (plan : P → Option ℕ → Plan) (begins : Beginnings) (segs : List Seg) (s : Store) (w : Work P)
@@ -217,7 +236,9 @@ over_run plan begins segs s w r far =
     ∙ ap (complete plans) (sym r.state)
     ∙ complete_cut plans s (concat gs) n (order_once n (concat gs) once) once (start plans gs s) w.m.steps.items (start-ready plans gs s full) in
     left_is plan w.m w.order.items w.cells.now (run_job begins segs s w.m.steps.items) n r.slots
-    (subst (λ (x : Run). Comes x n w.cells.now w.order.items w.m.steps.items w.m.redo (progress_of plan w.m.slots.items)) (mixed_run begins segs s w.m.steps.items) (comes_cut begins segs s gs w.m.steps.items t end))
+    (subst (λ (x : Run). Comes x n w.cells.now w.order.items w.m.steps.items w.m.redo
+    (progress_of plan w.m.slots.items)) (mixed_run begins segs s w.m.steps.items)
+    (comes_cut begins segs s gs w.m.steps.items t end))
 
 -- a run of the same job is the task's
 pub of_task : (begins begins' : Beginnings) (segs segs' : List Seg) (s s' t : Store) (ran : Ran) → begins ≡ begins' → segs ≡ segs' → s ≡ s'
@@ -228,9 +249,11 @@ of_task begins begins' segs segs' s s' t ran eb es e h =
     (subst (λ (b : Beginnings). IsRan s t (run_job b segs s ran.steps) ran) eb h))
 
 -- what ran this job by any schedule ran the task's, by its own steps
-pub task_is_run : {E : Type 0} (begins begins' : Beginnings) (segs segs' : List Seg) (s s' t : Store) (schedule : List ℕ) (r : Result Ran E) → begins ≡ begins' → segs ≡ segs' → s ≡ s'
+pub task_is_run : {E : Type 0} (begins begins' : Beginnings) (segs segs' : List Seg) (s s' t : Store)
+    (schedule : List ℕ) (r : Result Ran E) → begins ≡ begins' → segs ≡ segs' → s ≡ s'
     → IfOk r (IsRan s t (run_job begins segs s schedule)) → IfOk r (λ ran. IsRan s' t (run_job begins' segs' s' ran.steps) ran)
-task_is_run begins begins' segs segs' s s' t schedule (Ok ran) eb es e h = of_task begins begins' segs segs' s s' t ran eb es e (replayed begins segs s t schedule ran h)
+task_is_run begins begins' segs segs' s s' t schedule (Ok ran) eb es e h = of_task begins begins' segs segs' s s' t ran
+    eb es e (replayed begins segs s t schedule ran h)
 task_is_run begins begins' segs segs' s s' t schedule (Err x) eb es e h = tt
 
 -- a group that is at work is left

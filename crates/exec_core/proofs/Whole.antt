@@ -1,5 +1,6 @@
 -- What the machine's vectors come to is the run of the job.
-use Rattle.std.proofs.Common.{◌≡◌, ℕ, zero, suc, ◌+◌, ◌<◌, ◌≤◌, Bool, true, false, cond, ◌==◌, List, [], ◌∷◌, length, map, unwrap_or, Option, refl, sym, ap, ◌∙◌, ◌*◌, arith}
+use Rattle.std.proofs.Common.{◌≡◌, ℕ, zero, suc, ◌+◌, ◌<◌, ◌≤◌, Bool, true, false, cond, ◌==◌, List, [], ◌∷◌, length}
+use Rattle.std.proofs.Common.{map, unwrap_or, Option, refl, sym, ap, ◌∙◌, ◌*◌, arith}
 use Rattle.std.specs.Prelude.{nat_lt}
 use Rattle.std.proofs.lemmas.Bool.{or_right}
 use Rattle.std.proofs.lemmas.Bool.Decides.{nat_tests}
@@ -37,7 +38,8 @@ no_segment begins (x ∷ xs) zero le = absurd (omega arith)
 no_segment begins (x ∷ xs) (suc j) le = no_segment begins xs j (omega arith)
 
 -- sets that are the segments' are so at every number
-pub same_sets : (begins : Beginnings) (segs : List Seg) (sets : List (List Bool)) → length sets ≡ length segs → ((j : ℕ) → j < length segs → set_at sets j ≡ locks_at begins segs j) → set_at sets ≡ locks_at begins segs
+pub same_sets : (begins : Beginnings) (segs : List Seg) (sets : List (List Bool)) → length sets ≡ length segs
+    → ((j : ℕ) → j < length segs → set_at sets j ≡ locks_at begins segs j) → set_at sets ≡ locks_at begins segs
 same_sets begins segs sets long h = λ k j. at j (nat_lt j (length segs)) refl k
   where
     at : (j : ℕ) (b : Bool) → nat_lt j (length segs) ≡ b → set_at sets j ≡ locks_at begins segs j
@@ -52,7 +54,8 @@ pub record IsFresh {P : Type 0} (plan : P → Option ℕ → Plan) (begins : Beg
   pub steps : m.steps.items ≡ []
   pub redo : m.redo ≡ 0
 
-pub fresh : {P : Type 0} (plan : P → Option ℕ → Plan) (begins : Beginnings) (segs : List Seg) (slots : List (Slot P)) (m : Machine P) → AreBegun plan begins segs slots
+pub fresh : {P : Type 0} (plan : P → Option ℕ → Plan) (begins : Beginnings) (segs : List Seg) (slots : List (Slot P))
+    (m : Machine P) → AreBegun plan begins segs slots
     → m.slots.items ≡ slots → ((l : ℕ) → owner_of m.owner.items l ≡ 0) → m.steps.items ≡ [] → m.redo ≡ 0 → IsFresh plan begins segs m
 fresh {P = P} plan begins segs slots m b same free steps redo = record {
   slots = ap length same ∙ b.each;
@@ -67,7 +70,8 @@ past_slots plan [] j le = refl
 past_slots plan (x ∷ xs) zero le = absurd (omega arith)
 past_slots plan (x ∷ xs) (suc j) le = past_slots plan xs j (omega arith)
 
-pub begun_is : {P : Type 0} (plan : P → Option ℕ → Plan) (begins : Beginnings) (segs : List Seg) (m : Machine P) (s : Store) (groups : List (List ℕ)) → IsFresh plan begins segs m
+pub begun_is : {P : Type 0} (plan : P → Option ℕ → Plan) (begins : Beginnings) (segs : List Seg) (m : Machine P)
+    (s : Store) (groups : List (List ℕ)) → IsFresh plan begins segs m
     → begun plan m s [] groups (start (plan_at begins segs) groups s) ≡ cut (length segs) (start (plan_at begins segs) groups s)
 begun_is plan begins segs m s groups f = λ k. record (start (plan_at begins segs) groups s) {
   owner = λ l. f.free l k;
@@ -76,8 +80,10 @@ begun_is plan begins segs m s groups f = λ k. record (start (plan_at begins seg
   steps = f.steps k;
 }
   where
-    at : (j : ℕ) (b : Bool) → nat_lt j (length segs) ≡ b → progress_of plan m.slots.items j ≡ cond (nat_lt j (length segs)) (Running (plan_at begins segs j)) (Ended said_nothing)
-    at j true e = f.programs j (let lt : j < length segs = grind (arith, nat_tests) in lt) ∙ sym (ap (λ b. cond b (Running (plan_at begins segs j)) (Ended said_nothing)) e)
+    at : (j : ℕ) (b : Bool) → nat_lt j (length segs) ≡ b → progress_of plan m.slots.items j
+        ≡ cond (nat_lt j (length segs)) (Running (plan_at begins segs j)) (Ended said_nothing)
+    at j true e = f.programs j (let lt : j < length segs = grind (arith, nat_tests) in lt)
+        ∙ sym (ap (λ b. cond b (Running (plan_at begins segs j)) (Ended said_nothing)) e)
     at j false e =
         let le : length segs ≤ j = grind (arith, nat_tests) in
         past_slots plan m.slots.items j (let s = f.slots in omega arith) ∙ sym (ap (λ b. cond b (Running (plan_at begins segs j)) (Ended said_nothing)) e)
@@ -101,10 +107,12 @@ comes_cut begins segs s groups schedule t end =
       order_is = ap (λ (t : State). t.past) end;
       redo_is = ap (λ (t : State). t.redo) end;
       store_is = ap (λ (t : State). t.store) end;
-      ends_are = ap (λ (t : State). map (λ i. unwrap_or (end_of (t.progress i)) said_nothing) (below n)) end ∙ ends_cut n n (run (plan_at begins segs) groups s schedule).progress (omega arith);
+      ends_are = ap (λ (t : State). map (λ i. unwrap_or (end_of (t.progress i)) said_nothing) (below n)) end
+          ∙ ends_cut n n (run (plan_at begins segs) groups s schedule).progress (omega arith);
     }
 
-pub comes : {P : Type 0} (plan : P → Option ℕ → Plan) (begins : Beginnings) (segs : List Seg) (m m' : Machine P) (s s' : Store) (order : List ℕ) (groups : List (List ℕ)) (schedule : List ℕ)
+pub comes : {P : Type 0} (plan : P → Option ℕ → Plan) (begins : Beginnings) (segs : List Seg) (m m' : Machine P)
+    (s s' : Store) (order : List ℕ) (groups : List (List ℕ)) (schedule : List ℕ)
     → IsFresh plan begins segs m → AreFull groups → IsOrder (length segs) (concat groups)
     → ((t : State) → begun plan m' s' order [] t ≡ complete (plan_at begins segs) (turns (plan_at begins segs) (begun plan m s [] groups t) schedule))
     → Comes (run_in_groups begins segs groups s schedule) (length segs) s' order m'.steps.items m'.redo (progress_of plan m'.slots.items)
@@ -163,7 +171,8 @@ are_ready plan begins segs m groups few f full order =
     let n = length segs in
     let gs = lists_of groups in
     record {
-      members = are_members (length m.slots.items) gs (let e = f.slots in omega arith) (λ j h. let lt = below_n j n (let e = order j in omega arith) in let e = f.slots in omega arith);
+      members = are_members (length m.slots.items) gs (let e = f.slots in omega arith)
+          (λ j h. let lt = below_n j n (let e = order j in omega arith) in let e = f.slots in omega arith);
       once = order_once n (concat gs) order;
       redo = (let a = length-lists groups in let b = order_groups n gs full order in let d = f.redo in omega arith);
       runs = λ j h. ap is_running (f.programs j (below_n j n (let a = order j in let b = times-mem j (concat gs) h in omega arith)));
@@ -177,6 +186,7 @@ mixed_groups begins segs declared sets mixed groups long same es h eg =
     ap lists_of eg ∙ h ∙ ap (λ (xs : List (List Bool)). mix (set_at xs) (length xs)) es
     ∙ ap (λ (f : ℕ → List Bool). mix f (length declared)) (same_sets begins segs declared long same) ∙ ap (mix (locks_at begins segs)) long
 
-pub mixed_run : (begins : Beginnings) (segs : List Seg) (s : Store) (schedule : List ℕ) → run_in_groups begins segs (mix (locks_at begins segs) (length segs)) s schedule ≡ run_job begins segs s schedule
+pub mixed_run : (begins : Beginnings) (segs : List Seg) (s : Store) (schedule : List ℕ)
+    → run_in_groups begins segs (mix (locks_at begins segs) (length segs)) s schedule ≡ run_job begins segs s schedule
 unfolding run_job
 mixed_run begins segs s schedule = refl

@@ -11,7 +11,8 @@ pub record BatchView : Type 0 where
   pub start : Store
 
 abbrev pub batch_code : Coded BatchView
-batch_code = code_by (Store × (Store × Store)) (coded× store_code (coded× store_code store_code)) (λ b. (b.now, (b.base, b.start))) (λ p. record { now = p.0; base = (p.1).0; start = (p.1).1 }) (λ _. refl)
+batch_code = code_by (Store × (Store × Store)) (coded× store_code (coded× store_code store_code))
+    (λ b. (b.now, (b.base, b.start))) (λ p. record { now = p.0; base = (p.1).0; start = (p.1).1 }) (λ _. refl)
 
 -- the list's puts are the store's, undoing them takes no room that is not there, and the mark is a place in the list
 pub record IsBatch (store : Holding) (undo : LoggedPuts) (mark : ℕ) : Type 0 where

@@ -25,4 +25,5 @@ LeavesOthers plan group m m' = (j : ℕ) → mem j group ≡ false → progress_
 
 -- unless the group is over, some member runs if some ran
 abbrev pub RunsOn : {P : Type 0} → (P → Option ℕ → Plan) → List ℕ → Machine P → Machine P → Bool → Type 0
-RunsOn plan group m m' over = over ≡ false → any_running (progress_of plan m.slots.items) group ≡ true → any_running (progress_of plan m'.slots.items) group ≡ true
+RunsOn plan group m m' over = over ≡ false → any_running (progress_of plan m.slots.items) group ≡ true
+    → any_running (progress_of plan m'.slots.items) group ≡ true

@@ -68,14 +68,17 @@ pub record RunView : Type 0 where
   pub short : Bool
 
 abbrev pub run_code : Coded RunView
-run_code = code_by (List ℕ × (List (List ℕ) × Bool)) (coded× (coded_list coded_ℕ) (coded× (coded_list (coded_list coded_ℕ)) coded_bool)) (λ r. (r.steps, (r.left, r.short))) (λ p. record { steps = p.0; left = (p.1).0; short = (p.1).1 }) (λ _. refl)
+run_code = code_by (List ℕ × (List (List ℕ) × Bool))
+    (coded× (coded_list coded_ℕ) (coded× (coded_list (coded_list coded_ℕ)) coded_bool))
+    (λ r. (r.steps, (r.left, r.short))) (λ p. record { steps = p.0; left = (p.1).0; short = (p.1).1 }) (λ _. refl)
 
 abbrev pub first_of : List (List ℕ) → List ℕ
 first_of [] = []
 first_of (g ∷ gs) = g
 
 -- what is made of this job is in reach unless memory was wanting, and it is the task's: its service, its job and its start
-pub record IsUnderway {P : Type 0} (plan : P → Option ℕ → Plan) (begins : Beginnings) (segs : List Seg) (w : Work P) (short : Bool) (begins' : Beginnings) (segs' : List Seg) (start' : Store) : Type 0 where
+pub record IsUnderway {P : Type 0} (plan : P → Option ℕ → Plan) (begins : Beginnings) (segs : List Seg) (w : Work P)
+    (short : Bool) (begins' : Beginnings) (segs' : List Seg) (start' : Store) : Type 0 where
   pub begin_well : All (BeginsWell begins) segs
   pub few : length segs ≤ 32
   pub reached : short ≡ false → IsReached plan begins segs w.cells.start w

@@ -21,7 +21,8 @@ or_else-if : (b : Bool) (e : Ending) (x y z : Option Ending) → z ≡ or_else x
 or_else-if true e x y z h = refl
 or_else-if false e x y z h = h
 
-pub serial_end-append : (plan : ℕ → Plan) (s : Store) (xs ys : List ℕ) (j : ℕ) → serial_end plan s (xs ++ ys) j ≡ or_else (serial_end plan s xs j) (serial_end plan (serial plan s xs) ys j)
+pub serial_end-append : (plan : ℕ → Plan) (s : Store) (xs ys : List ℕ) (j : ℕ)
+    → serial_end plan s (xs ++ ys) j ≡ or_else (serial_end plan s xs j) (serial_end plan (serial plan s xs) ys j)
 serial_end-append plan s [] ys j = refl
 serial_end-append plan s (x ∷ xs) ys j =
     or_else-if (x == j) (ending_of (plan x) s) _ _ _ (serial_end-append plan (store_after (plan x) s) xs ys j)
@@ -50,7 +51,8 @@ pub serial_end-none : (plan : ℕ → Plan) (s : Store) (xs : List ℕ) (j : ℕ
 serial_end-none plan s [] j h = refl
 serial_end-none plan s (x ∷ xs) j h = at (serial_end-none plan (store_after (plan x) s) xs j) (x == j) h
   where
-    at : (times j xs ≡ 0 → serial_end plan (store_after (plan x) s) xs j ≡ None) → (b : Bool) → cond b 1 0 + times j xs ≡ 0 → cond b (Some (ending_of (plan x) s)) (serial_end plan (store_after (plan x) s) xs j) ≡ None
+    at : (times j xs ≡ 0 → serial_end plan (store_after (plan x) s) xs j ≡ None) → (b : Bool)
+        → cond b 1 0 + times j xs ≡ 0 → cond b (Some (ending_of (plan x) s)) (serial_end plan (store_after (plan x) s) xs j) ≡ None
     at rec true h = absurd (omega arith)
     at rec false h = rec (omega arith)
 
@@ -58,6 +60,8 @@ pub serial_end-some : (plan : ℕ → Plan) (s : Store) (xs : List ℕ) (j : ℕ
 serial_end-some plan s [] j h = absurd (omega arith)
 serial_end-some plan s (x ∷ xs) j h = at (serial_end-some plan (store_after (plan x) s) xs j) (x == j) h
   where
-    at : (0 < times j xs → (e : Ending) × (serial_end plan (store_after (plan x) s) xs j ≡ Some e)) → (b : Bool) → 0 < cond b 1 0 + times j xs → (e : Ending) × (cond b (Some (ending_of (plan x) s)) (serial_end plan (store_after (plan x) s) xs j) ≡ Some e)
+    at : (0 < times j xs → (e : Ending) × (serial_end plan (store_after (plan x) s) xs j ≡ Some e)) → (b : Bool)
+        → 0 < cond b 1 0 + times j xs → (e : Ending)
+        × (cond b (Some (ending_of (plan x) s)) (serial_end plan (store_after (plan x) s) xs j) ≡ Some e)
     at rec true h = (ending_of (plan x) s, refl)
     at rec false h = rec (omega arith)

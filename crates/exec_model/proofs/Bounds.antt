@@ -5,7 +5,8 @@ use Rattle.aeg_base.specs.Store.{Store, value_at, written}
 use Rattle.aeg_base.specs.Locks.{lock_number}
 use Rattle.svc_api.specs.Plan.{Plan, Reads, Writes, Ends}
 use Rattle.exec_model.specs.Serial.{serial_end}
-use Rattle.exec_model.specs.Machine.{next, State, update, any_running, is_running, or_ended, concat, Progress, Running, Ended, settle, again, leave, act, turn, turns, start, run}
+use Rattle.exec_model.specs.Machine.{next, State, update, any_running, is_running, or_ended, concat, Progress, Running}
+use Rattle.exec_model.specs.Machine.{Ended, settle, again, leave, act, turn, turns, start, run}
 use Rattle.svc_api.specs.Orders.{mem}
 use Rattle.exec_model.proofs.Basics.{mem-first, serial_end-some, times-mem}
 use Rattle.exec_model.proofs.Inv.{head_of, tail_of}
@@ -65,7 +66,11 @@ act-redo : (n : ℕ) (plan : ℕ → Plan) (t : State) (i : ℕ) (x : Progress) 
 act-redo n plan t i (Running (Reads k f)) m h = at ((t.owner (lock_number k) == 0) || (t.owner (lock_number k) == i + 1))
   where
     u : State
-    u = record t { owner = update t.owner (lock_number k) (i + 1); progress = update t.progress i (Running (f (value_at t.store k))); steps = t.steps ++ i ∷ [] }
+    u = record t {
+      owner = update t.owner (lock_number k) (i + 1);
+      progress = update t.progress i (Running (f (value_at t.store k)));
+      steps = t.steps ++ i ∷ [];
+    }
 
     at : (c : Bool) → Redo n (settle (cond c u (again plan t i)))
     at true = settle-redo n u h
@@ -73,7 +78,12 @@ act-redo n plan t i (Running (Reads k f)) m h = at ((t.owner (lock_number k) == 
 act-redo n plan t i (Running (Writes k v p)) m h = at ((t.owner (lock_number k) == 0) || (t.owner (lock_number k) == i + 1))
   where
     u : State
-    u = record t { store = written t.store k v; owner = update t.owner (lock_number k) (i + 1); progress = update t.progress i (Running p); steps = t.steps ++ i ∷ [] }
+    u = record t {
+      store = written t.store k v;
+      owner = update t.owner (lock_number k) (i + 1);
+      progress = update t.progress i (Running p);
+      steps = t.steps ++ i ∷ [];
+    }
 
     at : (c : Bool) → Redo n (settle (cond c u (again plan t i)))
     at true = settle-redo n u h
@@ -94,5 +104,6 @@ run-redo plan groups s schedule =
     let step = λ (t : State) (i : ℕ) (h : Redo (length groups) t). turn-redo (length groups) plan t i h in
     let first : Redo (length groups) (start plan groups s) = (let a = next_count groups in omega arith) in
     let u = turns plan (start plan groups s) schedule in
-    let last : Redo (length groups) (run plan groups s schedule) = finish-keeps plan (Redo (length groups)) step (u.group ++ concat u.later) u (turns-keeps plan (Redo (length groups)) step schedule (start plan groups s) first) in
+    let last : Redo (length groups) (run plan groups s schedule) = finish-keeps plan (Redo (length groups)) step
+    (u.group ++ concat u.later) u (turns-keeps plan (Redo (length groups)) step schedule (start plan groups s) first) in
     omega arith

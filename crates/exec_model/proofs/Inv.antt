@@ -1,5 +1,6 @@
 -- The invariant of the machine, and that each turn keeps it.
-use Rattle.std.proofs.Common.{◌≡◌, ◌≢◌, ℕ, suc, zero, ◌+◌, ◌≤◌, ◌==◌, Bool, true, false, ◌||◌, List, [], ◌∷◌, ◌++◌, Option, Some, None, refl, sym, ap, ◌∙◌, subst, inl, inr, ◌⊎◌, cond, arith}
+use Rattle.std.proofs.Common.{◌≡◌, ◌≢◌, ℕ, suc, zero, ◌+◌, ◌≤◌, ◌==◌, Bool, true, false, ◌||◌, List, [], ◌∷◌, ◌++◌}
+use Rattle.std.proofs.Common.{Option, Some, None, refl, sym, ap, ◌∙◌, subst, inl, inr, ◌⊎◌, cond, arith}
 use Rattle.std.proofs.lemmas.Bool.Decides.{nat_tests, eqb_tells}
 use Rattle.aeg_base.specs.Store.{Store}
 use Rattle.svc_api.specs.declared.action.Ending.{Ending}
@@ -37,7 +38,8 @@ same_run q i x p j h = at (i == j) (eqb_tells i j)
     at true (inl z) = ap is_running (sym h ∙ ap q z.1)
     at true (inr z) = cc
 
-pub Inv-grab : (plan : ℕ → Plan) (s0 : Store) (all : List ℕ) (t : State) (i l : ℕ) (s : Store) (x p : Plan) → Inv plan s0 all t → mem i t.group ≡ true → t.progress i ≡ Running x
+pub Inv-grab : (plan : ℕ → Plan) (s0 : Store) (all : List ℕ) (t : State) (i l : ℕ) (s : Store) (x p : Plan)
+    → Inv plan s0 all t → mem i t.group ≡ true → t.progress i ≡ Running x
     → Safe plan (looks (serial plan t.base t.done)) (looks s) (update t.owner l (i + 1)) (update t.progress i (Running p))
     → Inv plan s0 all (record t { store = s; owner = update t.owner l (i + 1); progress = update t.progress i (Running p); steps = t.steps ++ i ∷ [] })
 Inv-grab plan s0 all t i l s x p h m r safe = record {
@@ -68,10 +70,14 @@ or_else-right (Some e) y = refl
 or_else-right None None = refl
 or_else-right None (Some e) = refl
 
-pub Inv-leave : (plan : ℕ → Plan) (s0 : Store) (all : List ℕ) (t : State) (i : ℕ) (e : Ending) → Inv plan s0 all t → mem i t.group ≡ true → t.progress i ≡ Running (Ends e) → Inv plan s0 all (leave t i e)
+pub Inv-leave : (plan : ℕ → Plan) (s0 : Store) (all : List ℕ) (t : State) (i : ℕ) (e : Ending) → Inv plan s0 all t
+    → mem i t.group ≡ true → t.progress i ≡ Running (Ends e) → Inv plan s0 all (leave t i e)
 Inv-leave plan s0 all t i e h m r = record {
   base_is = h.base_is;
-  safe = subst (λ (b : Lookup). Safe plan b (looks t.store) (λ l. cond (t.owner l == i + 1) 0 (t.owner l)) (update t.progress i (Ended e))) (sym (ap looks (serial-append plan t.base t.done (i ∷ [])) ∙ looks-after (plan i) b)) (Safe-leave plan (looks b) (looks t.store) t.owner t.progress i e h.safe r);
+  safe = subst (λ (b : Lookup). Safe plan b (looks t.store) (λ l. cond (t.owner l == i + 1) 0 (t.owner l))
+      (update t.progress i (Ended e)))
+      (sym (ap looks (serial-append plan t.base t.done (i ∷ [])) ∙ looks-after (plan i) b))
+      (Safe-leave plan (looks b) (looks t.store) t.owner t.progress i e h.safe r);
   held = λ l j o. holds l j o;
   ends = λ j. ends_at j (i == j) (eqb_tells i j) ∙ ap (or_else (serial_end plan s0 t.past j)) (sym (serial_end-append plan t.base t.done (i ∷ []) j));
   once = λ j. let a = times-append j t.done (i ∷ []) in let z = once_at j (i == j) (eqb_tells i j) in omega arith;
@@ -88,7 +94,8 @@ Inv-leave plan s0 all t i e h m r = record {
     running : is_running (t.progress i) ≡ true
     running = ap is_running r
 
-    other_runs : (j : ℕ) (c : Bool) → ((c ≡ true) × (i ≡ j)) ⊎ ((c ≡ false) × (i ≢ j)) → i ≢ j → is_running (cond c (Ended e) (t.progress j)) ≡ is_running (t.progress j)
+    other_runs : (j : ℕ) (c : Bool) → ((c ≡ true) × (i ≡ j)) ⊎ ((c ≡ false) × (i ≢ j)) → i ≢ j
+        → is_running (cond c (Ended e) (t.progress j)) ≡ is_running (t.progress j)
     other_runs j false z n = refl
     other_runs j true (inl z) n = absurd (n z.1)
     other_runs j true (inr z) n = cc
@@ -99,16 +106,21 @@ Inv-leave plan s0 all t i e h m r = record {
         let ne : i ≢ j = λ ij. grind (arith, nat_tests) in
         let z = h.held l j own in (z.0, other_runs j (i == j) (eqb_tells i j) ne ∙ z.1)
 
-    ends_at : (j : ℕ) (c : Bool) → ((c ≡ true) × (i ≡ j)) ⊎ ((c ≡ false) × (i ≢ j)) → end_of (cond c (Ended e) (t.progress j)) ≡ or_else (serial_end plan s0 t.past j) (or_else (serial_end plan t.base t.done j) (cond c (Some (ending_of (plan i) b)) None))
+    ends_at : (j : ℕ) (c : Bool) → ((c ≡ true) × (i ≡ j)) ⊎ ((c ≡ false) × (i ≢ j))
+        → end_of (cond c (Ended e) (t.progress j))
+        ≡ or_else (serial_end plan s0 t.past j)
+        (or_else (serial_end plan t.base t.done j) (cond c (Some (ending_of (plan i) b)) None))
     ends_at j false z = h.ends j ∙ sym (or_else-right _ _)
     ends_at j true (inr z) = cc
     ends_at j true (inl z) =
         ap Some (sym gives) ∙ sym (or_else-none _ _ _ (ap end_of (sym r ∙ ap t.progress z.1) ∙ h.ends j))
 
-    once_at : (j : ℕ) (c : Bool) → ((c ≡ true) × (i ≡ j)) ⊎ ((c ≡ false) × (i ≢ j)) → times j t.past + times j t.done + cond c 1 0 ≡ cond (is_running (cond c (Ended e) (t.progress j))) 0 1
+    once_at : (j : ℕ) (c : Bool) → ((c ≡ true) × (i ≡ j)) ⊎ ((c ≡ false) × (i ≢ j))
+        → times j t.past + times j t.done + cond c 1 0 ≡ cond (is_running (cond c (Ended e) (t.progress j))) 0 1
     once_at j false z = let o = h.once j in omega arith
     once_at j true (inr z) = cc
-    once_at j true (inl z) = let o : times j t.past + times j t.done ≡ 0 = h.once j ∙ ap (λ n. cond (is_running (t.progress n)) 0 1) (sym z.1) ∙ ap (λ b. cond b 0 1) running in omega arith
+    once_at j true (inl z) = let o : times j t.past + times j t.done ≡ 0 = h.once j
+        ∙ ap (λ n. cond (is_running (t.progress n)) 0 1) (sym z.1) ∙ ap (λ b. cond b 0 1) running in omega arith
 
     inside_at : (j : ℕ) → times j (t.done ++ i ∷ []) ≤ times j t.group
     inside_at j =
@@ -127,15 +139,18 @@ or_ended-running None x p h = (h, refl)
 or_ended-running (Some e) x p h = cc
 
 -- in the group: not in the groups before, and once in the group
-in_group : (plan : ℕ → Plan) (s0 : Store) (all : List ℕ) (t : State) → Inv plan s0 all t → ((i : ℕ) → times i all ≤ 1) → (j : ℕ) → mem j t.group ≡ true → (times j t.past ≡ 0) × (times j t.group ≡ 1) × (times j (concat t.later) ≡ 0)
+in_group : (plan : ℕ → Plan) (s0 : Store) (all : List ℕ) (t : State) → Inv plan s0 all t → ((i : ℕ) → times i all ≤ 1)
+    → (j : ℕ) → mem j t.group ≡ true → (times j t.past ≡ 0) × (times j t.group ≡ 1) × (times j (concat t.later) ≡ 0)
 in_group plan s0 all t h one j m =
     let a = h.parts j in let b = one j in let c = times-mem j t.group m in (omega arith, omega arith, omega arith)
 
-out_of_group : (plan : ℕ → Plan) (s0 : Store) (all : List ℕ) (t : State) → Inv plan s0 all t → (j : ℕ) → mem j t.group ≡ false → (times j t.group ≡ 0) × (times j t.done ≡ 0)
+out_of_group : (plan : ℕ → Plan) (s0 : Store) (all : List ℕ) (t : State) → Inv plan s0 all t → (j : ℕ)
+    → mem j t.group ≡ false → (times j t.group ≡ 0) × (times j t.done ≡ 0)
 out_of_group plan s0 all t h j m =
     let a = times-not_mem j t.group m in let b = h.inside j in (omega arith, omega arith)
 
-pub Inv-again : (plan : ℕ → Plan) (s0 : Store) (all : List ℕ) (t : State) (i : ℕ) → Inv plan s0 all t → ((i : ℕ) → times i all ≤ 1) → Inv plan s0 all (again plan t i)
+pub Inv-again : (plan : ℕ → Plan) (s0 : Store) (all : List ℕ) (t : State) (i : ℕ) → Inv plan s0 all t
+    → ((i : ℕ) → times i all ≤ 1) → Inv plan s0 all (again plan t i)
 Inv-again plan s0 all t i h one = record {
   base_is = h.base_is;
   safe = Safe-again plan (looks (serial plan t.base t.done)) (looks (serial plan t.base t.group)) (looks t.store) t.owner t.progress _ h.safe
@@ -155,7 +170,9 @@ Inv-again plan s0 all t i h one = record {
         let b = (or_ended-running (serial_end plan t.base t.group j) (t.progress j) p e).1 in
         let c : Some a.0 ≡ None = sym a.1 ∙ b in cc
 
-    ends_at : (j : ℕ) (c : Bool) → mem j t.group ≡ c → end_of (or_ended (serial_end plan t.base t.group j) (t.progress j)) ≡ or_else (serial_end plan s0 t.past j) (serial_end plan t.base t.group j)
+    ends_at : (j : ℕ) (c : Bool) → mem j t.group ≡ c
+        → end_of (or_ended (serial_end plan t.base t.group j) (t.progress j))
+        ≡ or_else (serial_end plan s0 t.past j) (serial_end plan t.base t.group j)
     ends_at j true m =
         let a = serial_end-some plan t.base t.group j (times-mem j t.group m) in
         let b = serial_end-none plan s0 t.past j (in_group plan s0 all t h one j m).0 in
@@ -166,7 +183,8 @@ Inv-again plan s0 all t i h one = record {
         let b = serial_end-none plan t.base t.done j z.1 in
         ap (λ o. end_of (or_ended o (t.progress j))) a ∙ h.ends j ∙ ap (or_else (serial_end plan s0 t.past j)) (b ∙ sym a)
 
-    once_at : (j : ℕ) (c : Bool) → mem j t.group ≡ c → times j t.past + times j t.group ≡ cond (is_running (or_ended (serial_end plan t.base t.group j) (t.progress j))) 0 1
+    once_at : (j : ℕ) (c : Bool) → mem j t.group ≡ c → times j t.past + times j t.group
+        ≡ cond (is_running (or_ended (serial_end plan t.base t.group j) (t.progress j))) 0 1
     once_at j true m =
         let a = serial_end-some plan t.base t.group j (times-mem j t.group m) in
         let z = in_group plan s0 all t h one j m in
@@ -183,7 +201,9 @@ pub any_running-false : (q : ℕ → Progress) (xs : List ℕ) → any_running q
 any_running-false q [] h j m = cc
 any_running-false q (x ∷ xs) h j m = at (any_running-false q xs) (is_running (q x)) refl h (x == j) (eqb_tells x j) m
   where
-    at : (any_running q xs ≡ false → (j : ℕ) → mem j xs ≡ true → is_running (q j) ≡ false) → (r : Bool) → is_running (q x) ≡ r → (r || any_running q xs) ≡ false → (c : Bool) → ((c ≡ true) × (x ≡ j)) ⊎ ((c ≡ false) × (x ≢ j)) → (c || mem j xs) ≡ true → is_running (q j) ≡ false
+    at : (any_running q xs ≡ false → (j : ℕ) → mem j xs ≡ true → is_running (q j) ≡ false) → (r : Bool)
+        → is_running (q x) ≡ r → (r || any_running q xs) ≡ false → (c : Bool) → ((c ≡ true) × (x ≡ j))
+        ⊎ ((c ≡ false) × (x ≢ j)) → (c || mem j xs) ≡ true → is_running (q j) ≡ false
     at rec true e h c z m = cc
     at rec false e h true (inl z) m = ap (λ n. is_running (q n)) (sym z.1) ∙ e
     at rec false e h true (inr z) m = cc
@@ -215,14 +235,16 @@ split_later j [] = refl
 split_later j (g ∷ gs) = sym (times-append j g (concat gs))
 
 -- the next group begins
-pub Inv-next : (plan : ℕ → Plan) (s0 : Store) (all : List ℕ) (t : State) → Inv plan s0 all t → ((i : ℕ) → times i all ≤ 1) → any_running t.progress t.group ≡ false → Inv plan s0 all (next t)
+pub Inv-next : (plan : ℕ → Plan) (s0 : Store) (all : List ℕ) (t : State) → Inv plan s0 all t
+    → ((i : ℕ) → times i all ≤ 1) → any_running t.progress t.group ≡ false → Inv plan s0 all (next t)
 Inv-next plan s0 all t h one none = record {
   base_is = here ∙ ap (λ b. serial plan b t.done) h.base_is ∙ sym (serial-append plan s0 t.past t.done);
   safe = subst (λ (b : Store). Safe plan (looks b) (looks t.store) t.owner t.progress) (sym here) h.safe;
   held = λ l j o. absurd (nobody l j o);
   ends = λ j. h.ends j ∙ ends_at j;
   once = λ j. let a = times-append j t.past t.done in let o = h.once j in omega arith;
-  parts = λ j. let a = times-append j t.past t.done in let b = split_later j t.later in let c = h.parts j in let d = all_done j (mem j t.group) refl in omega arith;
+  parts = λ j. let a = times-append j t.past t.done in let b = split_later j t.later in let c = h.parts
+      j in let d = all_done j (mem j t.group) refl in omega arith;
   inside = λ j. omega arith;
 }
   where
@@ -240,7 +262,8 @@ Inv-next plan s0 all t h one none = record {
     or_none (Some e) = refl
 
     ends_at : (j : ℕ) → or_else (serial_end plan s0 t.past j) (serial_end plan t.base t.done j) ≡ or_else (serial_end plan s0 (t.past ++ t.done) j) None
-    ends_at j = ap (λ b. or_else (serial_end plan s0 t.past j) (serial_end plan b t.done j)) h.base_is ∙ sym (serial_end-append plan s0 t.past t.done j) ∙ or_none _
+    ends_at j = ap (λ b. or_else (serial_end plan s0 t.past j) (serial_end plan b t.done j)) h.base_is
+        ∙ sym (serial_end-append plan s0 t.past t.done j) ∙ or_none _
 
     all_done : (j : ℕ) (c : Bool) → mem j t.group ≡ c → times j t.done ≡ times j t.group
     all_done j false m = let z = out_of_group plan s0 all t h j m in omega arith

@@ -29,7 +29,8 @@ times-place : (sets : ℕ → List Bool) (i : ℕ) (gs : List (List ℕ)) (j : �
 times-place sets i [] j = omega arith
 times-place sets i (g ∷ gs) j = at (fits sets (sets i) g) (times-place sets i gs j)
   where
-    at : (c : Bool) → times j (concat (place sets i gs)) ≡ times j (concat gs) + cond (i == j) 1 0 → times j (concat (cond c ((g ++ i ∷ []) ∷ gs) (g ∷ place sets i gs))) ≡ times j (g ++ concat gs) + cond (i == j) 1 0
+    at : (c : Bool) → times j (concat (place sets i gs)) ≡ times j (concat gs) + cond (i == j) 1 0
+        → times j (concat (cond c ((g ++ i ∷ []) ∷ gs) (g ∷ place sets i gs))) ≡ times j (g ++ concat gs) + cond (i == j) 1 0
     at true r =
         let a = times-append j (g ++ i ∷ []) (concat gs) in let b = times-append j g (i ∷ []) in let c = times-append j g (concat gs) in omega arith
     at false r =

@@ -28,10 +28,12 @@ pub record Safe (plan : ℕ → Plan) (b s : Lookup) (w : ℕ → ℕ) (q : ℕ 
 pub Same-at : (p q : Plan) (s t u : Lookup) → Same p s q t → ((k : Key) → t k ≡ u k) → Same p s q u
 Same-at p q s t u h e = let e' : t ≡ u = λ i k. e k i in subst (λ x. Same p s q x) e' h
 
-view_take : (l k wk i j : ℕ) (sk tk : ℕ) → (l ≡ k → (wk ≡ 0) ⊎ (wk ≡ i + 1)) → (l ≡ k → wk ≡ 0 → i ≡ j → sk ≡ tk) → cond (wk == j + 1) sk tk ≡ cond (cond (l == k) (i + 1) wk == j + 1) sk tk
+view_take : (l k wk i j : ℕ) (sk tk : ℕ) → (l ≡ k → (wk ≡ 0) ⊎ (wk ≡ i + 1)) → (l ≡ k → wk ≡ 0 → i ≡ j → sk ≡ tk)
+    → cond (wk == j + 1) sk tk ≡ cond (cond (l == k) (i + 1) wk == j + 1) sk tk
 view_take l k wk i j sk tk g h = grind (arith, nat_tests)
 
-pub Safe-take : (plan : ℕ → Plan) (b s : Lookup) (w : ℕ → ℕ) (q : ℕ → Progress) (i l : ℕ) → Safe plan b s w q → (w l ≡ 0) ⊎ (w l ≡ i + 1) → Safe plan b s (update w l (i + 1)) q
+pub Safe-take : (plan : ℕ → Plan) (b s : Lookup) (w : ℕ → ℕ) (q : ℕ → Progress) (i l : ℕ) → Safe plan b s w q
+    → (w l ≡ 0) ⊎ (w l ≡ i + 1) → Safe plan b s (update w l (i + 1)) q
 Safe-take plan b s w q i l h g = record {
   free = λ k e. h.free k (free_at k e);
   runs = λ j p e t agree.
@@ -51,7 +53,8 @@ Safe-take plan b s w q i l h g = record {
     taken_at j k e ij = grind (arith, nat_tests)
 
 -- a segment that holds the key's lock reads it
-pub Safe-read : (plan : ℕ → Plan) (b s : Lookup) (w : ℕ → ℕ) (q : ℕ → Progress) (i : ℕ) (k : Key) (f : ℕ → Plan) → Safe plan b s w q → w (lock_number k) ≡ i + 1 → q i ≡ Running (Reads k f) → Safe plan b s w (update q i (Running (f (s k))))
+pub Safe-read : (plan : ℕ → Plan) (b s : Lookup) (w : ℕ → ℕ) (q : ℕ → Progress) (i : ℕ) (k : Key) (f : ℕ → Plan)
+    → Safe plan b s w q → w (lock_number k) ≡ i + 1 → q i ≡ Running (Reads k f) → Safe plan b s w (update q i (Running (f (s k))))
 Safe-read plan b s w q i k f h own r = record {
   free = h.free;
   runs = λ j p e t agree. at j p t agree (i == j) (eqb_tells i j) e;
@@ -60,7 +63,9 @@ Safe-read plan b s w q i k f h own r = record {
     sees : (t : Lookup) → view w i s t k ≡ s k
     sees t = grind (arith, nat_tests)
 
-    at : (j : ℕ) (p : Plan) (t : Lookup) → ((k : Key) → w (lock_number k) ≡ j + 1 → t k ≡ b k) → (c : Bool) → ((c ≡ true) × (i ≡ j)) ⊎ ((c ≡ false) × (i ≢ j)) → cond c (Running (f (s k))) (q j) ≡ Running p → Same (plan j) t p (view w j s t)
+    at : (j : ℕ) (p : Plan) (t : Lookup) → ((k : Key) → w (lock_number k) ≡ j + 1 → t k ≡ b k) → (c : Bool)
+        → ((c ≡ true) × (i ≡ j)) ⊎ ((c ≡ false) × (i ≢ j)) → cond c (Running (f (s k))) (q j) ≡ Running p
+        → Same (plan j) t p (view w j s t)
     at j p t agree false z e = h.runs j p e t agree
     at j p t agree true (inr z) e = cc
     at j p t agree true (inl z) e =
@@ -78,7 +83,9 @@ view_put true false v sk tk h = let z : false ≡ true = h refl in cc
 view_put false o v sk tk h = refl
 
 -- a segment that holds the key's lock writes it
-pub Safe-write : (plan : ℕ → Plan) (b s : Lookup) (w : ℕ → ℕ) (q : ℕ → Progress) (i : ℕ) (k : Key) (v : ℕ) (p : Plan) → Safe plan b s w q → w (lock_number k) ≡ i + 1 → q i ≡ Running (Writes k v p) → Safe plan b (put s k v) w (update q i (Running p))
+pub Safe-write : (plan : ℕ → Plan) (b s : Lookup) (w : ℕ → ℕ) (q : ℕ → Progress) (i : ℕ) (k : Key) (v : ℕ) (p : Plan)
+    → Safe plan b s w q → w (lock_number k) ≡ i + 1 → q i ≡ Running (Writes k v p)
+    → Safe plan b (put s k v) w (update q i (Running p))
 Safe-write plan b s w q i k v p h own r = record {
   free = λ j e. other j (λ z. let o = owned j z in absurd (omega arith)) ∙ h.free j e;
   runs = λ j x e t agree. at j x t agree (i == j) (eqb_tells i j) e;
@@ -105,9 +112,12 @@ Safe-write plan b s w q i k v p h own r = record {
     keeps true false a y h = refl
     keeps false o a y h = refl
 
-    at : (j : ℕ) (x : Plan) (t : Lookup) → ((k : Key) → w (lock_number k) ≡ j + 1 → t k ≡ b k) → (c : Bool) → ((c ≡ true) × (i ≡ j)) ⊎ ((c ≡ false) × (i ≢ j)) → cond c (Running p) (q j) ≡ Running x → Same (plan j) t x (view w j (put s k v) t)
+    at : (j : ℕ) (x : Plan) (t : Lookup) → ((k : Key) → w (lock_number k) ≡ j + 1 → t k ≡ b k) → (c : Bool)
+        → ((c ≡ true) × (i ≡ j)) ⊎ ((c ≡ false) × (i ≢ j)) → cond c (Running p) (q j) ≡ Running x
+        → Same (plan j) t x (view w j (put s k v) t)
     at j x t agree false (inl z) e = cc
-    at j x t agree false (inr z) e = Same-at (plan j) x t (view w j s t) (view w j (put s k v) t) (h.runs j x e t agree) (λ y. keeps (same_key k y) (w (lock_number y) == j + 1) (t y) (s y) (others j z.1 y))
+    at j x t agree false (inr z) e = Same-at (plan j) x t (view w j s t) (view w j (put s k v) t) (h.runs j x e t agree)
+        (λ y. keeps (same_key k y) (w (lock_number y) == j + 1) (t y) (s y) (others j z.1 y))
     at j x t agree true (inr z) e = cc
     at j x t agree true (inl z) e =
         let same : p ≡ x = cc in
@@ -123,10 +133,13 @@ view_release : (wk i j : ℕ) (sk tk : ℕ) → (i ≢ j) → cond (wk == j + 1)
 view_release wk i j sk tk h = grind (arith, nat_tests)
 
 -- what a segment that ends has made is what its plan makes of the store after the others
-pub Safe-left : (plan : ℕ → Plan) (b s : Lookup) (w : ℕ → ℕ) (q : ℕ → Progress) (i : ℕ) (e : Ending) → Safe plan b s w q → q i ≡ Running (Ends e) → Same (plan i) b (Ends e) (view w i s b)
+pub Safe-left : (plan : ℕ → Plan) (b s : Lookup) (w : ℕ → ℕ) (q : ℕ → Progress) (i : ℕ) (e : Ending) → Safe plan b s w q
+    → q i ≡ Running (Ends e) → Same (plan i) b (Ends e) (view w i s b)
 Safe-left plan b s w q i e h r = h.runs i (Ends e) r b (λ k o. refl)
 
-pub Safe-leave : (plan : ℕ → Plan) (b s : Lookup) (w : ℕ → ℕ) (q : ℕ → Progress) (i : ℕ) (e : Ending) → Safe plan b s w q → q i ≡ Running (Ends e) → Safe plan (after (plan i) b) s (λ l. cond (w l == i + 1) 0 (w l)) (update q i (Ended e))
+pub Safe-leave : (plan : ℕ → Plan) (b s : Lookup) (w : ℕ → ℕ) (q : ℕ → Progress) (i : ℕ) (e : Ending)
+    → Safe plan b s w q → q i ≡ Running (Ends e)
+    → Safe plan (after (plan i) b) s (λ l. cond (w l == i + 1) 0 (w l)) (update q i (Ended e))
 Safe-leave plan b s w q i e h r =
     subst (λ (x : Lookup). Safe plan x s (λ l. cond (w l == i + 1) 0 (w l)) (update q i (Ended e))) (sym (Safe-left plan b s w q i e h r).stores) there
   where
@@ -140,7 +153,10 @@ Safe-leave plan b s w q i e h r =
     seen : (j : ℕ) → i ≢ j → (k : Key) → w (lock_number k) ≡ j + 1 → view w i s b k ≡ b k
     seen j ne k o = grind (arith, nat_tests)
 
-    at : (j : ℕ) (x : Plan) (t : Lookup) → ((k : Key) → cond (w (lock_number k) == i + 1) 0 (w (lock_number k)) ≡ j + 1 → t k ≡ view w i s b k) → (c : Bool) → ((c ≡ true) × (i ≡ j)) ⊎ ((c ≡ false) × (i ≢ j)) → cond c (Ended e) (q j) ≡ Running x → Same (plan j) t x (view (λ l. cond (w l == i + 1) 0 (w l)) j s t)
+    at : (j : ℕ) (x : Plan) (t : Lookup)
+        → ((k : Key) → cond (w (lock_number k) == i + 1) 0 (w (lock_number k)) ≡ j + 1 → t k ≡ view w i s b k)
+        → (c : Bool) → ((c ≡ true) × (i ≡ j)) ⊎ ((c ≡ false) × (i ≢ j)) → cond c (Ended e) (q j) ≡ Running x
+        → Same (plan j) t x (view (λ l. cond (w l == i + 1) 0 (w l)) j s t)
     at j x t agree true z e = cc
     at j x t agree false (inl z) e = cc
     at j x t agree false (inr z) e =
@@ -154,7 +170,9 @@ Safe-leave plan b s w q i e h r =
     }
 
 -- where no lock is held: each running segment has done nothing
-pub Safe-again : (plan : ℕ → Plan) (b b' s : Lookup) (w : ℕ → ℕ) (q q' : ℕ → Progress) → Safe plan b s w q → ((i : ℕ) (p : Plan) → q' i ≡ Running p → q i ≡ Running p) → ((i : ℕ) (p : Plan) → q' i ≡ Running p → (l : ℕ) → w l ≢ i + 1) → Safe plan b' b' (λ l. 0) q'
+pub Safe-again : (plan : ℕ → Plan) (b b' s : Lookup) (w : ℕ → ℕ) (q q' : ℕ → Progress) → Safe plan b s w q
+    → ((i : ℕ) (p : Plan) → q' i ≡ Running p → q i ≡ Running p)
+    → ((i : ℕ) (p : Plan) → q' i ≡ Running p → (l : ℕ) → w l ≢ i + 1) → Safe plan b' b' (λ l. 0) q'
 Safe-again plan b b' s w q q' h same none = record {
   free = λ k z. refl;
   runs = λ i p e t agree. Same-at (plan i) p t (view w i s t) _ (h.runs i p (same i p e) t (λ k o. absurd (none i p e (lock_number k) o)))

@@ -1,5 +1,6 @@
 -- The schedule that spells an order of whole segments meets no lock, and gives that order.
-use Rattle.std.proofs.Common.{◌≡◌, ◌≢◌, ℕ, suc, ◌+◌, ◌≤◌, ◌==◌, Bool, true, false, ◌||◌, List, [], ◌∷◌, ◌++◌, refl, sym, ap, ◌∙◌, subst, inl, inr, ◌⊎◌, cond, arith, append_assoc, append-nil}
+use Rattle.std.proofs.Common.{◌≡◌, ◌≢◌, ℕ, suc, ◌+◌, ◌≤◌, ◌==◌, Bool, true, false, ◌||◌, List, [], ◌∷◌, ◌++◌, refl, sym}
+use Rattle.std.proofs.Common.{ap, ◌∙◌, subst, inl, inr, ◌⊎◌, cond, arith, append_assoc, append-nil}
 use Rattle.std.proofs.lemmas.Bool.Decides.{nat_tests, eqb_tells}
 use Rattle.aeg_base.specs.declared.names.Key.{Key}
 use Rattle.aeg_base.specs.Store.{Store, value_at, written}
@@ -49,10 +50,12 @@ own_lock w i h = grind (arith, nat_tests)
 settle-on : (t : State) → any_running t.progress t.group ≡ true → settle t ≡ t
 settle-on t e = ap (λ c. cond c t (next t)) e
 
-touches : (plan : ℕ → Plan) (i : ℕ) (u : State) (k : Key) (s : Store) (p : Plan) → Alone plan i u → mem i u.group ≡ true → settle (touch plan u i k s p) ≡ grabbed u i (lock_number k) s p
+touches : (plan : ℕ → Plan) (i : ℕ) (u : State) (k : Key) (s : Store) (p : Plan) → Alone plan i u → mem i u.group ≡ true
+    → settle (touch plan u i k s p) ≡ grabbed u i (lock_number k) s p
 touches plan i u k s p a m =
     ap (λ c. settle (cond c (grabbed u i (lock_number k) s p) (again plan u i))) (own_lock (u.owner (lock_number k)) i (a.owners (lock_number k)))
-    ∙ settle-on (grabbed u i (lock_number k) s p) (any_running-true (update u.progress i (Running p)) u.group i m (ap is_running (update-own u.progress i (Running p))))
+    ∙ settle-on (grabbed u i (lock_number k) s p)
+    (any_running-true (update u.progress i (Running p)) u.group i m (ap is_running (update-own u.progress i (Running p))))
 
 Alone-grabbed : (plan : ℕ → Plan) (i : ℕ) (u : State) (l : ℕ) (s : Store) (p : Plan) → Alone plan i u → Alone plan i (grabbed u i l s p)
 Alone-grabbed plan i u l s p a = record {
@@ -64,7 +67,8 @@ Alone-grabbed plan i u l s p a = record {
     at k true z = inr refl
     at k false z = z
 
-Came-grabbed : (plan : ℕ → Plan) (i : ℕ) (u v : State) (l : ℕ) (s s' : Store) (p : Plan) (n : ℕ) → Came plan i (grabbed u i l s p) v s' n → Came plan i u v s' (suc n)
+Came-grabbed : (plan : ℕ → Plan) (i : ℕ) (u v : State) (l : ℕ) (s s' : Store) (p : Plan) (n : ℕ)
+    → Came plan i (grabbed u i l s p) v s' n → Came plan i u v s' (suc n)
 Came-grabbed plan i u v l s s' p n c = record {
   free = c.free;
   whole = c.whole;
@@ -85,7 +89,8 @@ Came-left plan i u e a = at (any_running q u.group) refl
     free : (l : ℕ) → cond (u.owner l == i + 1) 0 (u.owner l) ≡ 0
     free l = let z = a.owners l in grind (arith, nat_tests)
 
-    whole : (j : ℕ) (c : Bool) → ((c ≡ true) × (i ≡ j)) ⊎ ((c ≡ false) × (i ≢ j)) → is_running (cond c (Ended e) (u.progress j)) ≡ true → cond c (Ended e) (u.progress j) ≡ Running (plan j)
+    whole : (j : ℕ) (c : Bool) → ((c ≡ true) × (i ≡ j)) ⊎ ((c ≡ false) × (i ≢ j))
+        → is_running (cond c (Ended e) (u.progress j)) ≡ true → cond c (Ended e) (u.progress j) ≡ Running (plan j)
     whole j true z r = cc
     whole j false (inl z) r = cc
     whole j false (inr z) r = a.others j z.1 r
@@ -112,13 +117,17 @@ Came-left plan i u e a = at (any_running q u.group) refl
       ended = ap is_running (update-own u.progress i (Ended e));
     }
 
-pub came : (plan : ℕ → Plan) (i : ℕ) (p : Plan) (u : State) → Alone plan i u → mem i u.group ≡ true → u.progress i ≡ Running p → Came plan i u (turns plan u (repeat (steps_of p u.store) i)) (store_after p u.store) (steps_of p u.store)
+pub came : (plan : ℕ → Plan) (i : ℕ) (p : Plan) (u : State) → Alone plan i u → mem i u.group ≡ true
+    → u.progress i ≡ Running p
+    → Came plan i u (turns plan u (repeat (steps_of p u.store) i)) (store_after p u.store) (steps_of p u.store)
 came plan i (Reads k f) u a m r =
     let x = f (value_at u.store k) in
     let u' = grabbed u i (lock_number k) u.store x in
     let e : turn plan u i ≡ u' = turn_is plan u i (Running (Reads k f)) m r ∙ touches plan i u k u.store x a m in
     subst (λ (w : State). Came plan i u (turns plan w (repeat (steps_of x u.store) i)) (store_after x u.store) (suc (steps_of x u.store))) (sym e)
-    (Came-grabbed plan i u _ (lock_number k) u.store _ x _ (came plan i (f (value_at u.store k)) u' (Alone-grabbed plan i u (lock_number k) u.store x a) m (update-own u.progress i (Running x))))
+    (Came-grabbed plan i u _ (lock_number k) u.store _ x _
+    (came plan i (f (value_at u.store k)) u' (Alone-grabbed plan i u (lock_number k) u.store x a) m
+    (update-own u.progress i (Running x))))
 came plan i (Writes k v x) u a m r =
     let s = written u.store k v in
     let u' = grabbed u i (lock_number k) s x in
@@ -142,21 +151,34 @@ pub spelled : (plan : ℕ → Plan) (s0 : Store) (all : List ℕ) (xs : List ℕ
     → ((l : ℕ) → u.owner l ≡ 0) → ((j : ℕ) → is_running (u.progress j) ≡ true → u.progress j ≡ Running (plan j))
     → ((j : ℕ) → times j xs ≤ cond (is_running (u.progress j)) 1 0)
     → Spelled plan u (turns plan u (spell plan u.store xs)) xs
-spelled plan s0 all [] u one h c free whole runs = record { order = sym (append-nil _); redo = refl; store = refl; steps = sym (append-nil _); done = c; ended = λ j r. r; finishes = refl }
+spelled plan s0 all [] u one h c free whole runs = record {
+  order = sym (append-nil _);
+  redo = refl;
+  store = refl;
+  steps = sym (append-nil _);
+  done = c;
+  ended = λ j r. r;
+  finishes = refl;
+}
 spelled plan s0 all (i ∷ xs) u one h c free whole runs =
     let n = steps_of (plan i) u.store in
     let v = turns plan u (repeat n i) in
     let s = store_after (plan i) u.store in
     let m = Covers-head i xs u.progress u.group u.later c h.settled running in
     let z = came plan i (plan i) u alone m (whole i running) in
-    let c' = Covers-drop i xs v.progress v.group v.later (turns-keeps plan (CoversAt (i ∷ xs)) (λ t j k. turn-covers plan (i ∷ xs) t j k) (repeat n i) u c) (turns-ready plan s0 all u (repeat n i) h one).settled z.ended in
-    let rec = spelled plan s0 all xs v one (turns-ready plan s0 all u (repeat n i) h one) c' z.free z.whole (λ j. left v z.still z.ended j (i == j) (eqb_tells i j)) in
-    subst (λ (w : State). Spelled plan u w (i ∷ xs)) (ap (λ s. turns plan v (spell plan s xs)) z.store ∙ sym (turns-append plan u (repeat n i) (spell plan s xs)))
+    let c' = Covers-drop i xs v.progress v.group v.later
+    (turns-keeps plan (CoversAt (i ∷ xs)) (λ t j k. turn-covers plan (i ∷ xs) t j k) (repeat n i) u c)
+    (turns-ready plan s0 all u (repeat n i) h one).settled z.ended in
+    let rec = spelled plan s0 all xs v one (turns-ready plan s0 all u (repeat n i) h one) c' z.free z.whole
+    (λ j. left v z.still z.ended j (i == j) (eqb_tells i j)) in
+    subst (λ (w : State). Spelled plan u w (i ∷ xs)) (ap (λ s. turns plan v (spell plan s xs)) z.store
+    ∙ sym (turns-append plan u (repeat n i) (spell plan s xs)))
     (record {
       order = rec.order ∙ ap (λ x. x ++ xs) z.order ∙ append_assoc (u.past ++ u.done) (i ∷ []) xs;
       redo = rec.redo ∙ z.redo;
       store = rec.store ∙ ap (λ s. serial plan s xs) z.store;
-      steps = rec.steps ∙ ap (λ s. v.steps ++ spell plan s xs) z.store ∙ ap (λ x. x ++ spell plan s xs) z.steps ∙ append_assoc u.steps (repeat n i) (spell plan s xs);
+      steps = rec.steps ∙ ap (λ s. v.steps ++ spell plan s xs) z.store ∙ ap (λ x. x ++ spell plan s xs) z.steps
+          ∙ append_assoc u.steps (repeat n i) (spell plan s xs);
       done = rec.done;
       ended = λ j r. before v z.still z.ended j (i == j) (eqb_tells i j) (rec.ended j r);
       finishes = finish-entries plan i xs n u ∙ ap (finish plan xs) (ended-stays plan i (v.progress i) v z.ended) ∙ rec.finishes;
@@ -175,7 +197,9 @@ spelled plan s0 all (i ∷ xs) u one h c free whole runs =
     alone : Alone plan i u
     alone = record { owners = λ l. inl (free l); others = λ j ne r. whole j r }
 
-    left : (v : State) → ((j : ℕ) → i ≢ j → is_running (v.progress j) ≡ is_running (u.progress j)) → is_running (v.progress i) ≡ false → (j : ℕ) (c : Bool) → ((c ≡ true) × (i ≡ j)) ⊎ ((c ≡ false) × (i ≢ j)) → times j xs ≤ cond (is_running (v.progress j)) 1 0
+    left : (v : State) → ((j : ℕ) → i ≢ j → is_running (v.progress j) ≡ is_running (u.progress j))
+        → is_running (v.progress i) ≡ false → (j : ℕ) (c : Bool) → ((c ≡ true) × (i ≡ j)) ⊎ ((c ≡ false) × (i ≢ j))
+        → times j xs ≤ cond (is_running (v.progress j)) 1 0
     left v still ended j true (inl z) =
         let a : times i xs ≡ 0 = none (runs i) in
         let b : times j xs ≡ 0 = ap (λ n. times n xs) (sym z.1) ∙ a in omega arith
@@ -188,7 +212,9 @@ spelled plan s0 all (i ∷ xs) u one h c free whole runs =
         let a : ◌≡◌ {A = ℕ} (cond (is_running (v.progress j)) 1 0) (cond (is_running (u.progress j)) 1 0) = ap {B = ℕ} (λ b. cond b 1 0) (still j z.1) in
         let b = runs j in omega arith
 
-    before : (v : State) → ((j : ℕ) → i ≢ j → is_running (v.progress j) ≡ is_running (u.progress j)) → is_running (v.progress i) ≡ false → (j : ℕ) (c : Bool) → ((c ≡ true) × (i ≡ j)) ⊎ ((c ≡ false) × (i ≢ j)) → is_running (v.progress j) ≡ true → is_running (u.progress j) ≡ true
+    before : (v : State) → ((j : ℕ) → i ≢ j → is_running (v.progress j) ≡ is_running (u.progress j))
+        → is_running (v.progress i) ≡ false → (j : ℕ) (c : Bool) → ((c ≡ true) × (i ≡ j)) ⊎ ((c ≡ false) × (i ≢ j))
+        → is_running (v.progress j) ≡ true → is_running (u.progress j) ≡ true
     before v still ended j true (inl z) r = let e : true ≡ false = sym r ∙ ap (λ n. is_running (v.progress n)) (sym z.1) ∙ ended in cc
     before v still ended j true (inr z) r = cc
     before v still ended j false (inl z) r = cc

@@ -1,5 +1,6 @@
 -- What an append of a record leaves.
-use Rattle.std.proofs.Common.{◌≡◌, inl, inr, ℕ, ◌+◌, ◌<◌, List, [], ◌∷◌, ◌++◌, length, Bool, true, false, cond, ◌==◌, ◌-◌, ◌^◌, min, Result, Ok, Err, refl, sym, ap, ◌∙◌, subst, arith}
+use Rattle.std.proofs.Common.{◌≡◌, inl, inr, ℕ, ◌+◌, ◌<◌, List, [], ◌∷◌, ◌++◌, length, Bool, true, false, cond, ◌==◌}
+use Rattle.std.proofs.Common.{◌-◌, ◌^◌, min, Result, Ok, Err, refl, sym, ap, ◌∙◌, subst, arith}
 use Rattle.aeg_disk.specs.Disk.{DiskState, Image, Moment, Later}
 use Rattle.node_journal.specs.Journal.{records, size_of}
 use Rattle.node_journal.specs.declared.journal.AppendErr.{AppendErr}
@@ -39,7 +40,8 @@ filled facts body some spelled = omega (arith, some, no_more facts, ap length sp
 
 -- ---- where the journal is full
 
-pub full_at : (facts : List Fact) (body : List ℕ) (at inner n : ℕ) → 0 < length facts → body ≡ record_text facts → at ≡ inner → (JOURNAL_BYTES < inner + 6 + length body) × (n ≡ min (inner + 6 + length body) (2 ^ 64 - 1))
+pub full_at : (facts : List Fact) (body : List ℕ) (at inner n : ℕ) → 0 < length facts → body ≡ record_text facts
+    → at ≡ inner → (JOURNAL_BYTES < inner + 6 + length body) × (n ≡ min (inner + 6 + length body) (2 ^ 64 - 1))
     → (is_past (at + 1) facts ≡ true) × (n ≡ min (length_with (at + 1) facts) (2 ^ 64 - 1))
 full_at [] body at inner n some spelled e h = absurd (omega arith)
 full_at (f ∷ fs) body at inner n some spelled e h =
@@ -67,10 +69,12 @@ leaves_weaker a b P Q h left = record {
   here = λ c i. h c (left.here c i);
 }
 
-module _ (rs : List (List Fact)) (facts : List Fact) (some : 0 < length facts) (body : List ℕ) (spelled : body ≡ record_text facts) (a b : DiskState) (at : ℕ) (has : HasFacts rs a at) where
+module _ (rs : List (List Fact)) (facts : List Fact) (some : 0 < length facts) (body : List ℕ)
+    (spelled : body ≡ record_text facts) (a b : DiskState) (at : ℕ) (has : HasFacts rs a at) where
   now_texts : records a.bytes ++ body ∷ [] ≡ texts (recorded rs facts)
   now_texts =
-      ap (λ (l : List (List ℕ)). l ++ body ∷ []) has.read ∙ ap (λ (x : List ℕ). texts rs ++ x ∷ []) spelled ∙ sym (texts_more rs facts) ∙ ap texts (sym (recorded_some rs facts some))
+      ap (λ (l : List (List ℕ)). l ++ body ∷ []) has.read ∙ ap (λ (x : List ℕ). texts rs ++ x ∷ []) spelled
+      ∙ sym (texts_more rs facts) ∙ ap texts (sym (recorded_some rs facts some))
 
   pub appended : (place : ℕ) → place ≡ at + 5 + length body → HasList (records a.bytes ++ body ∷ []) b place → HasFacts (recorded rs facts) b place
   appended place e h =
@@ -103,7 +107,9 @@ module _ (rs : List (List Fact)) (facts : List Fact) (some : 0 < length facts) (
             (subst (λ (l : List (List ℕ)). Holds l (cond k (at + 5 + length body) at) b) (left_texts k) (met.left t));
       }
 
-  pub leaves : (r : Result (Unit {0}) AppendErr) (place : ℕ) → a.tells ≡ true → Later a b → OnOk r (place ≡ at + 5 + length body) → OnErr r (place ≡ at) → OnOk r (a.tells ≡ true → HasList (records a.bytes ++ body ∷ []) b place)
+  pub leaves : (r : Result (Unit {0}) AppendErr) (place : ℕ) → a.tells ≡ true → Later a b
+      → OnOk r (place ≡ at + 5 + length body) → OnErr r (place ≡ at)
+      → OnOk r (a.tells ≡ true → HasList (records a.bytes ++ body ∷ []) b place)
       → (a.tells ≡ true → LeavesOnly a b (OldOrNew (records a.bytes) at body)) → ((n : ℕ) → r ≡ Err (Full n) → b ≡ a) → Appended rs facts b place r
   leaves (Ok u) place t later here kept h moment same = appended place here (h t)
   leaves (Err (Full n)) place t later here kept h moment same =
@@ -118,7 +124,8 @@ module _ (rs : List (List Fact)) (facts : List Fact) (s : DiskState) (at : ℕ) 
   is_old c i = ((0, rs, refl, (has.images c i).list), ended_sound (texts rs) at c (has.images c i))
 
   pub not_begun : (place : ℕ) (r : Result (Unit {0}) AppendErr) → s.tells ≡ true → r ≡ Err Memory → Appended rs facts s place r
-  not_begun place r t e = subst (λ (z : Result (Unit {0}) AppendErr). Appended rs facts s place z) (sym e) (record { tells = t; images = λ c i. (is_old c i).0; sound = λ c i. (is_old c i).1 })
+  not_begun place r t e = subst (λ (z : Result (Unit {0}) AppendErr). Appended rs facts s place z) (sym e)
+      (record { tells = t; images = λ c i. (is_old c i).0; sound = λ c i. (is_old c i).1 })
 
   pub leaves_old : LeavesOnly s s (IsJournalOf (old_or_new rs facts))
   leaves_old = record { since = ([], refl, tt); here = is_old }

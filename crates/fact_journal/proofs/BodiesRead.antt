@@ -1,5 +1,6 @@
 -- Facts and the bodies of a journal, looked at one after another.
-use Rattle.std.proofs.Common.{◌≡◌, ℕ, ◌+◌, ◌-◌, ◌<◌, ◌≤◌, ◌^◌, suc, min, List, [], ◌∷◌, ◌++◌, length, get_or, drop, true, false, refl, sym, ap, ◌∙◌, subst, arith, add-one, drop-cons, append_assoc}
+use Rattle.std.proofs.Common.{◌≡◌, ℕ, ◌+◌, ◌-◌, ◌<◌, ◌≤◌, ◌^◌, suc, min, List, [], ◌∷◌, ◌++◌, length, get_or, drop}
+use Rattle.std.proofs.Common.{true, false, refl, sym, ap, ◌∙◌, subst, arith, add-one, drop-cons, append_assoc}
 use Rattle.std.proofs.lemmas.List.{map-append, drop_all, append-nil}
 use Rattle.aeg_base.specs.declared.names.Tier.{Tier}
 use Rattle.node_journal.specs.Journal.{size_of}
@@ -24,7 +25,8 @@ pub record StandSo (tier : Tier) (start : ℕ) (facts : List Fact) (i next : ℕ
 pub stand_first : (tier : Tier) (start : ℕ) (facts : List Fact) → StandSo tier start facts 0 start
 stand_first tier start facts = record { back = λ k. k; forth = λ k. k; place = refl }
 
-pub stand_next : (tier : Tier) (start : ℕ) (facts : List Fact) (i next after : ℕ) (f : Fact) → i < length facts → f ≡ get_or facts i f → FitsFact f → is_placed tier next f ≡ true → after ≡ open_after next f → StandSo tier start facts i next
+pub stand_next : (tier : Tier) (start : ℕ) (facts : List Fact) (i next after : ℕ) (f : Fact) → i < length facts
+    → f ≡ get_or facts i f → FitsFact f → is_placed tier next f ≡ true → after ≡ open_after next f → StandSo tier start facts i next
     → StandSo tier start facts (i + 1) after
 stand_next tier start facts i next after f inside is fits placed e so =
     let rest : drop i facts ≡ f ∷ drop (i + 1) facts = rest_at facts i f inside is in
@@ -34,13 +36,15 @@ stand_next tier start facts i next after f inside is fits placed e so =
       place = so.place ∙ ap (open_after_all next) rest;
     })
 
-pub stand_none : (tier : Tier) (start : ℕ) (facts : List Fact) (i next : ℕ) (f : Fact) → i < length facts → f ≡ get_or facts i f → is_placed tier next f ≡ false → StandSo tier start facts i next → FactsFit tier start facts → ⊥
+pub stand_none : (tier : Tier) (start : ℕ) (facts : List Fact) (i next : ℕ) (f : Fact) → i < length facts
+    → f ≡ get_or facts i f → is_placed tier next f ≡ false → StandSo tier start facts i next → FactsFit tier start facts → ⊥
 stand_none tier start facts i next f inside is not so k =
     let all = subst (λ (l : List Fact). FactsFit tier next l) (rest_at facts i f inside is) (so.forth k) in
     let yes : is_placed tier next f ≡ true = all.0.1 in
     cc
 
-pub stand_all : (tier : Tier) (start : ℕ) (facts : List Fact) (i next : ℕ) → length facts ≤ i → StandSo tier start facts i next → FactsFit tier start facts × (next ≡ open_after_all start facts)
+pub stand_all : (tier : Tier) (start : ℕ) (facts : List Fact) (i next : ℕ) → length facts ≤ i
+    → StandSo tier start facts i next → FactsFit tier start facts × (next ≡ open_after_all start facts)
 stand_all tier start facts i next past so =
     let none : drop i facts ≡ [] = drop_all i facts past in
     (so.back (subst (λ (l : List Fact). FactsFit tier next l) (sym none) tt), sym (so.place ∙ ap (open_after_all next) none))
@@ -74,10 +78,12 @@ pub record ReadSo (tier : Tier) (bodies : List (List ℕ)) (i : ℕ) (facts : Li
 pub read_first : (tier : Tier) (bodies : List (List ℕ)) → ReadSo tier bodies 0 [] 0 0
 read_first tier bodies = record { rs = []; parts = refl; fit = tt; are = refl; place = refl; gate = omega arith }
 
-gate_more : (s n b at after : ℕ) → 1 ≤ s → at ≡ min (s - 1) (2 ^ 64 - 1) → after ≡ min (at + (5 + b)) (2 ^ 64 - 1) → n ≡ s + (5 + b) → after ≡ min (n - 1) (2 ^ 64 - 1)
+gate_more : (s n b at after : ℕ) → 1 ≤ s → at ≡ min (s - 1) (2 ^ 64 - 1) → after ≡ min (at + (5 + b)) (2 ^ 64 - 1)
+    → n ≡ s + (5 + b) → after ≡ min (n - 1) (2 ^ 64 - 1)
 gate_more s n b at after some p q r = omega arith
 
-pub read_next : (tier : Tier) (bodies : List (List ℕ)) (i : ℕ) (facts more : List Fact) (first next at after : ℕ) (body : List ℕ) → i < length bodies → body ≡ get_or bodies i body → TakesRecord tier first body facts more next
+pub read_next : (tier : Tier) (bodies : List (List ℕ)) (i : ℕ) (facts more : List Fact) (first next at after : ℕ)
+    (body : List ℕ) → i < length bodies → body ≡ get_or bodies i body → TakesRecord tier first body facts more next
     → after ≡ min (at + (5 + length body)) (2 ^ 64 - 1) → ReadSo tier bodies i facts first at → ReadSo tier bodies (i + 1) more next after
 read_next tier bodies i facts more first next at after body inside is t step so =
     let rest : drop i bodies ≡ body ∷ drop (i + 1) bodies = rest_at bodies i body inside is in
@@ -94,7 +100,8 @@ read_next tier bodies i facts more first next at after body inside is t step so 
           (size_texts so.rs t.taken ∙ ap (λ (b : List ℕ). size_of (texts so.rs) + (5 + length b)) (sym t.spelled));
     }
 
-pub read_none : (tier : Tier) (bodies : List (List ℕ)) (i : ℕ) (facts : List Fact) (first at : ℕ) (body : List ℕ) → i < length bodies → body ≡ get_or bodies i body → NoneFits tier first body → size_of bodies ≤ 2 ^ 64
+pub read_none : (tier : Tier) (bodies : List (List ℕ)) (i : ℕ) (facts : List Fact) (first at : ℕ) (body : List ℕ)
+    → i < length bodies → body ≡ get_or bodies i body → NoneFits tier first body → size_of bodies ≤ 2 ^ 64
     → ReadSo tier bodies i facts first at → IsMisfitAt tier at bodies
 read_none tier bodies i facts first at body inside is none short so =
     let rest : drop i bodies ≡ body ∷ drop (i + 1) bodies = rest_at bodies i body inside is in
@@ -108,5 +115,12 @@ read_none tier bodies i facts first at body inside is none short so =
       misfit = λ r e fit. let q = fit_last tier 0 so.rs r fit in none r e q.0 (subst (λ (n : ℕ). FactsFit tier n r) (sym so.place) q.1);
     }
 
-pub read_all : (tier : Tier) (bodies : List (List ℕ)) (i : ℕ) (facts : List Fact) (first at : ℕ) → length bodies ≤ i → ReadSo tier bodies i facts first at → IsRead tier bodies facts
-read_all tier bodies i facts first at past so = (so.rs, so.parts ∙ ap (λ (l : List (List ℕ)). texts so.rs ++ l) (drop_all i bodies past) ∙ append-nil (texts so.rs), so.fit, so.are)
+pub read_all : (tier : Tier) (bodies : List (List ℕ)) (i : ℕ) (facts : List Fact) (first at : ℕ) → length bodies ≤ i
+    → ReadSo tier bodies i facts first at → IsRead tier bodies facts
+read_all tier bodies i facts first at past so = (
+  so.rs,
+  so.parts
+      ∙ ap (λ (l : List (List ℕ)). texts so.rs ++ l) (drop_all i bodies past) ∙ append-nil (texts so.rs),
+  so.fit,
+  so.are,
+)

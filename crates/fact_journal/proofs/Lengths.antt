@@ -17,7 +17,13 @@ fact_length (Held tier number code) fits = omega arith
 
 pub record_length : (facts : List Fact) → AllByRecursion FitsFact facts → length (record_text facts) ≤ 5037 * length facts
 record_length [] all = omega arith
-record_length (f ∷ fs) all = omega (arith, ap length (flat_map-cons fact f fs), length-append (fact f) (record_text fs), fact_length f all.0, record_length fs all.1)
+record_length (f ∷ fs) all = omega (
+  arith,
+  ap length (flat_map-cons fact f fs),
+  length-append (fact f) (record_text fs),
+  fact_length f all.0,
+  record_length fs all.1,
+)
 
 pub few_short : (facts : List Fact) → AllByRecursion FitsFact facts → length facts ≤ 3 → length (record_text facts) ≤ RECORD_BYTES
 few_short facts all few = omega (arith, record_length facts all)

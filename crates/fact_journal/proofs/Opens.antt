@@ -17,7 +17,9 @@ use Rattle.fact_journal.proofs.Standing.{from_list}
 pub read_fits : (tier : Tier) (bodies : List (List ℕ)) (facts : List Fact) → IsRead tier bodies facts → FactsFit tier 0 facts
 read_fits tier bodies facts w = subst (FactsFit tier 0) (sym w.3) (facts_fit tier 0 w.0 w.2)
 
-pub opened : (tier : Tier) (a b : DiskState) (bodies : List (List ℕ)) (facts : List Fact) (at : ℕ) → bodies ≡ records a.bytes → HasList (records a.bytes) b at → at + 1 ≡ size_of bodies → IsRead tier bodies facts → Opened tier a b facts at
+pub opened : (tier : Tier) (a b : DiskState) (bodies : List (List ℕ)) (facts : List Fact) (at : ℕ)
+    → bodies ≡ records a.bytes → HasList (records a.bytes) b at → at + 1 ≡ size_of bodies → IsRead tier bodies facts
+    → Opened tier a b facts at
 opened tier a b bodies facts at e h long w =
     let is : records a.bytes ≡ texts w.0 = sym e ∙ w.1 in
     (w.0, is, w.2, w.3, from_list w.0 b at (subst (λ (l : List (List ℕ)). HasList l b at) is h) (long ∙ ap size_of w.1))
@@ -42,7 +44,8 @@ module _ (tier : Tier) (lists : List (List (List Fact))) (a : DiskState) (stands
       no_misfit tier 0 m.1.before o.1 m.1.body m.1.behind m.1.fit (each_get tier lists o.0 o.1 each o.2) (sym o.3 ∙ m.1.parts) m.1.misfit
 
 -- what was opened was not to be refused
-pub not_refused : (tier : Tier) (a b : DiskState) (facts : List Fact) (at : ℕ) → ((n : ℕ) → IsBadAt n a.bytes → ⊥) → Opened tier a b facts at → (n : ℕ) → IsRefusedAt tier n a.bytes → ⊥
+pub not_refused : (tier : Tier) (a b : DiskState) (facts : List Fact) (at : ℕ) → ((n : ℕ) → IsBadAt n a.bytes → ⊥)
+    → Opened tier a b facts at → (n : ℕ) → IsRefusedAt tier n a.bytes → ⊥
 not_refused tier a b facts at none w n (inl bad) = none n bad
 not_refused tier a b facts at none w n (inr m) = no_misfit tier 0 m.1.before w.0 m.1.body m.1.behind m.1.fit w.2 (sym w.1 ∙ m.1.parts) m.1.misfit
 
@@ -52,5 +55,6 @@ refused_once tier m n bytes (inl a) (inl b) = sym a.place ∙ b.place
 refused_once tier m n bytes (inl a) (inr b) = absurd (b.0 m a)
 refused_once tier m n bytes (inr a) (inl b) = absurd (a.0 n b)
 refused_once tier m n bytes (inr a) (inr b) =
-    let same : a.1.before ≡ b.1.before = one_misfit tier 0 a.1.before b.1.before a.1.body b.1.body a.1.behind b.1.behind a.1.fit b.1.fit (sym a.1.parts ∙ b.1.parts) a.1.misfit b.1.misfit in
+    let same : a.1.before ≡ b.1.before = one_misfit tier 0 a.1.before b.1.before a.1.body b.1.body a.1.behind b.1.behind
+    a.1.fit b.1.fit (sym a.1.parts ∙ b.1.parts) a.1.misfit b.1.misfit in
     omega (arith, a.1.place, b.1.place, ap (λ (rs : List (List Fact)). size_of (texts rs)) same)

@@ -35,7 +35,8 @@ in_order tier first (Accepted p b v ∷ fs) k = (tt, in_order tier first fs k.1)
 in_order tier first (Learned p v ∷ fs) k = (((learned_at tier first p v k.0.1).0, k.0.0.0), in_order tier (first + 1) fs k.1)
 in_order tier first (Held t number code ∷ fs) k = in_order tier first fs k.1
 
-pub in_range : (tier : Tier) (first : ℕ) (facts : List Fact) → FactsFit tier first facts → AllByRecursion (IsFactIn (IsCarried tier) FitsBallot) (log_facts facts)
+pub in_range : (tier : Tier) (first : ℕ) (facts : List Fact) → FactsFit tier first facts
+    → AllByRecursion (IsFactIn (IsCarried tier) FitsBallot) (log_facts facts)
 in_range tier first [] k = tt
 in_range tier first (Promised b ∷ fs) k = (k.0.0, in_range tier first fs k.1)
 in_range tier first (Accepted p b v ∷ fs) k = ((k.0.0.0, (k.0.0.1.0, (k.0.0.1.1, k.0.1))), in_range tier first fs k.1)
@@ -43,11 +44,18 @@ in_range tier first (Learned p v ∷ fs) k = ((k.0.0.0, (k.0.0.1, (learned_at ti
 in_range tier first (Held t number code ∷ fs) k = in_range tier first fs k.1
 
 -- facts of the log that are in order and in range, as a turn makes them
-pub from_log : (tier : Tier) (first : ℕ) (facts : List (LogFact AnyValue)) → AllByRecursion (IsFactIn (IsCarried tier) FitsBallot) facts → AreInOrder first facts → FactsFit tier first (map as_fact facts)
+pub from_log : (tier : Tier) (first : ℕ) (facts : List (LogFact AnyValue))
+    → AllByRecursion (IsFactIn (IsCarried tier) FitsBallot) facts → AreInOrder first facts → FactsFit tier first (map as_fact facts)
 from_log tier first [] i n = tt
 from_log tier first (logs.Promised b ∷ fs) i n = ((i.0, refl), from_log tier first fs i.1 n.1)
 from_log tier first (logs.Accepted p b v ∷ fs) i n = (((i.0.0, (i.0.1.0, i.0.1.1.0)), i.0.1.1.1), from_log tier first fs i.1 n.1)
-from_log tier first (logs.Learned p v ∷ fs) i n = (((i.0.0, i.0.1.0), and_from (p == first) (is_carried tier p v) (eq-eqb p first n.0.0) i.0.1.1), from_log tier (first + 1) fs i.1 n.1)
+from_log tier first (logs.Learned p v ∷ fs) i n = (
+  (
+    (i.0.0, i.0.1.0),
+    and_from (p == first) (is_carried tier p v) (eq-eqb p first n.0.0) i.0.1.1,
+  ),
+  from_log tier (first + 1) fs i.1 n.1,
+)
 
 -- ---- from the newest fact on
 
@@ -66,7 +74,8 @@ pub newest_log : (rs : List (List Fact)) → log_facts (newest rs) ≡ newest_fi
 newest_log rs = ap log_facts (newest_is rs []) ∙ log_facts-onto (all_facts rs) []
 
 -- as many positions are learned as there are Learned facts
-count_onto : (fs : List Fact) (older : List (LogFact AnyValue)) → open_after_all (length (learned_in older)) fs ≡ length (learned_in (onto (log_facts fs) older))
+count_onto : (fs : List Fact) (older : List (LogFact AnyValue)) → open_after_all (length (learned_in older)) fs
+    ≡ length (learned_in (onto (log_facts fs) older))
 count_onto [] older = refl
 count_onto (Promised b ∷ fs) older = count_onto fs (logs.Promised b ∷ older)
 count_onto (Accepted p b v ∷ fs) older = count_onto fs (logs.Accepted p b v ∷ older)
@@ -92,11 +101,17 @@ module _ {V : Type 0} (Q : ℕ → V → Type 0) (F : Ballot → Type 0) where
   raised b c p q = cond_both (is_below b c) c b (λ z. (z ≡ no_ballot) ⊎ F z) (λ e. inr q) (λ e. p)
 
   one_more : (older : List (LogFact V)) (f : LogFact V) → Left older → IsFactIn Q F f → IsNext (length (learned_in older)) f → Left (f ∷ older)
-  one_more older (logs.Promised b) k i n = record { promised = raised (promised_in older) b k.promised i; within = k.within; accepted = k.accepted; learned = k.learned }
+  one_more older (logs.Promised b) k i n = record {
+    promised = raised (promised_in older) b k.promised i;
+    within = k.within;
+    accepted = k.accepted;
+    learned = k.learned;
+  }
   one_more older (logs.Accepted p b v) k i n = record {
     promised = raised (promised_in older) b k.promised i.1.0;
     within = k.within;
-    accepted = λ q. cond_both (p == q) (Some (b, v)) (accepted_in q older) (IsVoteIn Q F q) (λ e. subst (λ z. IsVoteIn Q F z (Some (b, v))) (eqb-true p q e) (i.0, (i.1.0, i.1.1))) (λ e. k.accepted q);
+    accepted = λ q. cond_both (p == q) (Some (b, v)) (accepted_in q older) (IsVoteIn Q F q)
+        (λ e. subst (λ z. IsVoteIn Q F z (Some (b, v))) (eqb-true p q e) (i.0, (i.1.0, i.1.1))) (λ e. k.accepted q);
     learned = k.learned;
   }
   one_more older (logs.Learned p v) k i n = record {
@@ -110,7 +125,8 @@ module _ {V : Type 0} (Q : ℕ → V → Type 0) (F : Ballot → Type 0) where
       pick q w (inl e) = k.learned q w e
       pick q w (inr e) = subst (λ z. Q z w) (n.0 ∙ sym e.0) (subst (Q p) e.1 i.1)
 
-  all_more_left : (fs older : List (LogFact V)) → Left older → AllByRecursion (IsFactIn Q F) fs → AreInOrder (length (learned_in older)) fs → Left (onto fs older)
+  all_more_left : (fs older : List (LogFact V)) → Left older → AllByRecursion (IsFactIn Q F) fs
+      → AreInOrder (length (learned_in older)) fs → Left (onto fs older)
   all_more_left [] older k i n = k
   all_more_left (logs.Promised b ∷ fs) older k i n = all_more_left fs (logs.Promised b ∷ older) (one_more older (logs.Promised b) k i.0 n.0) i.1 n.1
   all_more_left (logs.Accepted p b v ∷ fs) older k i n = all_more_left fs (logs.Accepted p b v ∷ older) (one_more older (logs.Accepted p b v) k i.0 n.0) i.1 n.1

@@ -79,16 +79,22 @@ request_grammar : IsGrammar (λ p. IsSeq p.0 × IsText p.1) (λ p. to_be_bytes w
 request_grammar = both_grammar IsSeq (λ n. to_be_bytes w32 n) seq_at (λ _ t. IsText t) (λ _ t. text t) (λ _. text_at) seq_grammar (λ _ _. text_grammar)
 
 reply_grammar : IsGrammar (λ p. IsClient p.0 × (IsSeq p.1.0 × IsText p.1.1)) (λ p. (p.0 ∷ []) ++ (to_be_bytes w32 p.1.0 ++ text p.1.1)) reply_at
-reply_grammar = both_grammar IsClient (λ n. n ∷ []) client_at (λ _ p. IsSeq p.0 × IsText p.1) (λ _ p. to_be_bytes w32 p.0 ++ text p.1) (λ _. both seq_at (λ _. text_at)) client_grammar (λ _ _. request_grammar)
+reply_grammar = both_grammar IsClient (λ n. n ∷ []) client_at (λ _ p. IsSeq p.0
+    × IsText p.1) (λ _ p. to_be_bytes w32 p.0 ++ text p.1) (λ _. both seq_at (λ _. text_at)) client_grammar (λ _ _. request_grammar)
 
 token_grammar : IsGrammar (λ p. (p.0 < ROUNDS) × IsCommit p.1.0 p.1.1) (λ p. to_be_bytes w16 p.0 ++ commit p.1) token_at
-token_grammar = both_grammar (λ n. n < ROUNDS) (λ n. to_be_bytes w16 n) round_at (λ _ c. IsCommit c.0 c.1) (λ _ c. commit c) (λ _. commit_at) round_grammar (λ _ _. commit_grammar)
+token_grammar = both_grammar (λ n. n < ROUNDS) (λ n. to_be_bytes w16 n) round_at (λ _ c. IsCommit c.0 c.1)
+    (λ _ c. commit c) (λ _. commit_at) round_grammar (λ _ _. commit_grammar)
 
 answer_grammar : IsGrammar (λ p. IsCallNumber p.0 × (p.1 < 256)) (λ p. to_be_bytes w32 p.0 ++ (p.1 ∷ [])) answer_at
-answer_grammar = both_grammar IsCallNumber (λ n. to_be_bytes w32 n) call_number_at (λ _ n. n < 256) (λ _ n. n ∷ []) (λ _. byte_at) call_number_grammar (λ _ _. one_byte)
+answer_grammar = both_grammar IsCallNumber (λ n. to_be_bytes w32 n) call_number_at (λ _ n. n < 256) (λ _ n. n ∷ [])
+    (λ _. byte_at) call_number_grammar (λ _ _. one_byte)
 
-have_grammar : IsGrammar (λ p. IsBackend p.0 × (IsCallNumber p.1.0 × (p.1.1 < 256))) (λ p. (tier_number p.0 ∷ []) ++ (to_be_bytes w32 p.1.0 ++ (p.1.1 ∷ []))) have_at
-have_grammar = both_grammar IsBackend (λ t. tier_number t ∷ []) backend_at (λ _ p. IsCallNumber p.0 × (p.1 < 256)) (λ _ p. to_be_bytes w32 p.0 ++ (p.1 ∷ [])) (λ _. both call_number_at (λ _. byte_at)) backend_grammar (λ _ _. answer_grammar)
+have_grammar : IsGrammar (λ p. IsBackend p.0 × (IsCallNumber p.1.0 × (p.1.1 < 256))) (λ p. (tier_number p.0 ∷ [])
+    ++ (to_be_bytes w32 p.1.0 ++ (p.1.1 ∷ []))) have_at
+have_grammar = both_grammar IsBackend (λ t. tier_number t ∷ []) backend_at (λ _ p. IsCallNumber p.0
+    × (p.1 < 256)) (λ _ p. to_be_bytes w32 p.0 ++ (p.1 ∷ [])) (λ _. both call_number_at (λ _. byte_at)) backend_grammar
+    (λ _ _. answer_grammar)
 
 abbrev MsgRead : Type 0
 MsgRead = Read Msg
@@ -114,53 +120,69 @@ from2 kind bytes = cond {A = MsgRead} (eqb kind 2) (made reply_of (reply_at byte
 abbrev IsBody : Tier → ℕ → List ℕ → Msg → List ℕ → Type 0
 IsBody tier kind bytes v rest = Takes bytes (body v) rest × (FitsMsg tier v × (kind_of v ≡ kind))
 
-case13 : (tier : Tier) (kind : ℕ) (bytes : List ℕ) (v : Msg) (rest : List ℕ) → IsBytes bytes → from13 kind bytes ≡ Some (v, rest) → IsBody tier kind bytes v rest
+case13 : (tier : Tier) (kind : ℕ) (bytes : List ℕ) (v : Msg) (rest : List ℕ) → IsBytes bytes
+    → from13 kind bytes ≡ Some (v, rest) → IsBody tier kind bytes v rest
 case13 tier kind bytes v rest are e =
     elim (chosen {A = MsgRead} (eqb kind 13) (made settle_of (floor_at bytes)) None (Some (v, rest)) e) [
-      | inl h ↦ kind_case 13 settle_of IsFloor (λ n. to_be_bytes w32 n) floor_at floor_grammar (FitsMsg tier) body kind_of (λ n fits. fits) (λ n. refl) (λ n. refl) bytes kind v rest are h.0 h.1
+      | inl h ↦ kind_case 13 settle_of IsFloor (λ n. to_be_bytes w32 n) floor_at floor_grammar (FitsMsg tier) body
+          kind_of (λ n fits. fits) (λ n. refl) (λ n. refl) bytes kind v rest are h.0 h.1
       | inr h ↦ absurd (none-some (v, rest) h.1)
     ]
 
-case12 : (tier : Tier) (kind : ℕ) (bytes : List ℕ) (v : Msg) (rest : List ℕ) → IsBytes bytes → from12 kind bytes ≡ Some (v, rest) → IsBody tier kind bytes v rest
+case12 : (tier : Tier) (kind : ℕ) (bytes : List ℕ) (v : Msg) (rest : List ℕ) → IsBytes bytes
+    → from12 kind bytes ≡ Some (v, rest) → IsBody tier kind bytes v rest
 case12 tier kind bytes v rest are e =
     elim (chosen {A = MsgRead} (eqb kind 12) (made have_of (have_at bytes)) (from13 kind bytes) (Some (v, rest)) e) [
-      | inl h ↦ kind_case 12 have_of (λ p. IsBackend p.0 × (IsCallNumber p.1.0 × (p.1.1 < 256))) (λ p. (tier_number p.0 ∷ []) ++ (to_be_bytes w32 p.1.0 ++ (p.1.1 ∷ []))) have_at have_grammar (FitsMsg tier) body kind_of (λ p fits. fits) (λ p. refl) (λ p. refl) bytes kind v rest are h.0 h.1
+      | inl h ↦ kind_case 12 have_of (λ p. IsBackend p.0 × (IsCallNumber p.1.0 × (p.1.1 < 256)))
+          (λ p. (tier_number p.0 ∷ []) ++ (to_be_bytes w32 p.1.0 ++ (p.1.1 ∷ []))) have_at have_grammar (FitsMsg tier)
+          body kind_of (λ p fits. fits) (λ p. refl) (λ p. refl) bytes kind v rest are h.0 h.1
       | inr h ↦ case13 tier kind bytes v rest are h.1
     ]
 
-case11 : (tier : Tier) (kind : ℕ) (bytes : List ℕ) (v : Msg) (rest : List ℕ) → IsBytes bytes → from11 kind bytes ≡ Some (v, rest) → IsBody tier kind bytes v rest
+case11 : (tier : Tier) (kind : ℕ) (bytes : List ℕ) (v : Msg) (rest : List ℕ) → IsBytes bytes
+    → from11 kind bytes ≡ Some (v, rest) → IsBody tier kind bytes v rest
 case11 tier kind bytes v rest are e =
     elim (chosen {A = MsgRead} (eqb kind 11) (made answer_of (answer_at bytes)) (from12 kind bytes) (Some (v, rest)) e) [
-      | inl h ↦ kind_case 11 answer_of (λ p. IsCallNumber p.0 × (p.1 < 256)) (λ p. to_be_bytes w32 p.0 ++ (p.1 ∷ [])) answer_at answer_grammar (FitsMsg tier) body kind_of (λ p fits. fits) (λ p. refl) (λ p. refl) bytes kind v rest are h.0 h.1
+      | inl h ↦ kind_case 11 answer_of (λ p. IsCallNumber p.0 × (p.1 < 256)) (λ p. to_be_bytes w32 p.0 ++ (p.1 ∷ []))
+          answer_at answer_grammar (FitsMsg tier) body kind_of (λ p fits. fits) (λ p. refl) (λ p. refl) bytes kind v
+          rest are h.0 h.1
       | inr h ↦ case12 tier kind bytes v rest are h.1
     ]
 
-case10 : (tier : Tier) (kind : ℕ) (bytes : List ℕ) (v : Msg) (rest : List ℕ) → IsBytes bytes → from10 kind bytes ≡ Some (v, rest) → IsBody tier kind bytes v rest
+case10 : (tier : Tier) (kind : ℕ) (bytes : List ℕ) (v : Msg) (rest : List ℕ) → IsBytes bytes
+    → from10 kind bytes ≡ Some (v, rest) → IsBody tier kind bytes v rest
 case10 tier kind bytes v rest are e =
     elim (chosen {A = MsgRead} (eqb kind 10) (made call_of (call_at bytes)) (from11 kind bytes) (Some (v, rest)) e) [
-      | inl h ↦ kind_case 10 call_of (λ p. IsCallNumber p.0 × IsText p.1) (λ p. to_be_bytes w32 p.0 ++ text p.1) call_at call_grammar (FitsMsg tier) body kind_of (λ p fits. fits) (λ p. refl) (λ p. refl) bytes kind v rest are h.0 h.1
+      | inl h ↦ kind_case 10 call_of (λ p. IsCallNumber p.0 × IsText p.1) (λ p. to_be_bytes w32 p.0 ++ text p.1) call_at
+          call_grammar (FitsMsg tier) body kind_of (λ p fits. fits) (λ p. refl) (λ p. refl) bytes kind v rest are h.0 h.1
       | inr h ↦ case11 tier kind bytes v rest are h.1
     ]
 
 case9 : (tier : Tier) (kind : ℕ) (bytes : List ℕ) (v : Msg) (rest : List ℕ) → IsBytes bytes → from9 kind bytes ≡ Some (v, rest) → IsBody tier kind bytes v rest
 case9 tier kind bytes v rest are e =
     elim (chosen {A = MsgRead} (eqb kind 9) (made token_of (token_at bytes)) (from10 kind bytes) (Some (v, rest)) e) [
-      | inl h ↦ kind_case 9 token_of (λ p. (p.0 < ROUNDS) × IsCommit p.1.0 p.1.1) (λ p. to_be_bytes w16 p.0 ++ commit p.1) token_at token_grammar (FitsMsg tier) body kind_of (λ p fits. fits) (λ p. refl) (λ p. refl) bytes kind v rest are h.0 h.1
+      | inl h ↦ kind_case 9 token_of (λ p. (p.0 < ROUNDS) × IsCommit p.1.0 p.1.1) (λ p. to_be_bytes w16 p.0
+          ++ commit p.1) token_at token_grammar (FitsMsg tier) body kind_of (λ p fits. fits) (λ p. refl) (λ p. refl)
+          bytes kind v rest are h.0 h.1
       | inr h ↦ case10 tier kind bytes v rest are h.1
     ]
 
 case2 : (tier : Tier) (kind : ℕ) (bytes : List ℕ) (v : Msg) (rest : List ℕ) → IsBytes bytes → from2 kind bytes ≡ Some (v, rest) → IsBody tier kind bytes v rest
 case2 tier kind bytes v rest are e =
     elim (chosen {A = MsgRead} (eqb kind 2) (made reply_of (reply_at bytes)) (from9 kind bytes) (Some (v, rest)) e) [
-      | inl h ↦ kind_case 2 reply_of (λ p. IsClient p.0 × (IsSeq p.1.0 × IsText p.1.1)) (λ p. (p.0 ∷ []) ++ (to_be_bytes w32 p.1.0 ++ text p.1.1)) reply_at reply_grammar (FitsMsg tier) body kind_of (λ p fits. fits) (λ p. refl) (λ p. refl) bytes kind v rest are h.0 h.1
+      | inl h ↦ kind_case 2 reply_of (λ p. IsClient p.0 × (IsSeq p.1.0 × IsText p.1.1))
+          (λ p. (p.0 ∷ []) ++ (to_be_bytes w32 p.1.0 ++ text p.1.1)) reply_at reply_grammar (FitsMsg tier) body kind_of
+          (λ p fits. fits) (λ p. refl) (λ p. refl) bytes kind v rest are h.0 h.1
       | inr h ↦ case9 tier kind bytes v rest are h.1
     ]
 
-other_takes : (tier : Tier) (kind : ℕ) (bytes : List ℕ) (v : Msg) (rest : List ℕ) → IsBytes bytes → other_body_at kind bytes ≡ Some (v, rest) → IsBody tier kind bytes v rest
+other_takes : (tier : Tier) (kind : ℕ) (bytes : List ℕ) (v : Msg) (rest : List ℕ) → IsBytes bytes
+    → other_body_at kind bytes ≡ Some (v, rest) → IsBody tier kind bytes v rest
 unfolding other_body_at
 other_takes tier kind bytes v rest are e =
     elim (chosen {A = MsgRead} (eqb kind 1) (made request_of (request_at bytes)) (from2 kind bytes) (Some (v, rest)) e) [
-      | inl h ↦ kind_case 1 request_of (λ p. IsSeq p.0 × IsText p.1) (λ p. to_be_bytes w32 p.0 ++ text p.1) request_at request_grammar (FitsMsg tier) body kind_of (λ p fits. fits) (λ p. refl) (λ p. refl) bytes kind v rest are h.0 h.1
+      | inl h ↦ kind_case 1 request_of (λ p. IsSeq p.0 × IsText p.1) (λ p. to_be_bytes w32 p.0 ++ text p.1) request_at
+          request_grammar (FitsMsg tier) body kind_of (λ p fits. fits) (λ p. refl) (λ p. refl) bytes kind v rest are h.0 h.1
       | inr h ↦ case2 tier kind bytes v rest are h.1
     ]
 
@@ -192,9 +214,12 @@ pub body_again : (tier : Tier) (v : Msg) (rest : List ℕ) → FitsMsg tier v �
 unfolding body_at other_body_at
 body_again tier (msgs.Log m) rest fits = rw (is_log_kind m) (ap (λ (r : Read (PaxMsg AnyValue)). made logged r) (log_again tier m rest fits))
 body_again tier (msgs.Request seq request) rest fits = ap (λ (r : Read Texted). made request_of r) (request_grammar.again (seq, request) rest fits)
-body_again tier (msgs.Reply who reply) rest fits = ap (λ (r : Read (ℕ × Texted)). made reply_of r) (reply_grammar.again (who.client, (who.seq, reply)) rest fits)
-body_again tier (msgs.Token round token order) rest fits = ap (λ (r : Read (ℕ × (List ℕ × List ℕ))). made token_of r) (token_grammar.again (round, (token, order)) rest fits)
+body_again tier (msgs.Reply who reply) rest fits = ap (λ (r : Read (ℕ × Texted)). made reply_of r)
+    (reply_grammar.again (who.client, (who.seq, reply)) rest fits)
+body_again tier (msgs.Token round token order) rest fits = ap (λ (r : Read (ℕ × (List ℕ × List ℕ))). made token_of r)
+    (token_grammar.again (round, (token, order)) rest fits)
 body_again tier (msgs.Call number call) rest fits = ap (λ (r : Read Texted). made call_of r) (call_grammar.again (number, call) rest fits)
 body_again tier (msgs.Answer number code) rest fits = ap (λ (r : Read Coded). made answer_of r) (answer_grammar.again (number, code) rest fits)
-body_again tier (msgs.Have about number code) rest fits = ap (λ (r : Read (Tier × Coded)). made have_of r) (have_grammar.again (about, (number, code)) rest fits)
+body_again tier (msgs.Have about number code) rest fits = ap (λ (r : Read (Tier × Coded)). made have_of r)
+    (have_grammar.again (about, (number, code)) rest fits)
 body_again tier (msgs.Settle floor) rest fits = ap (λ (r : Read ℕ). made settle_of r) (floor_grammar.again floor rest fits)

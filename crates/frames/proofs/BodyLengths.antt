@@ -34,7 +34,13 @@ ending_length (ends.Call tier stage call) fits = omega (arith, fits.1.1.1)
 
 ends_length : (es : List Ending) → AllByRecursion IsEnding es → length (flat_map ending es) ≤ 52 * length es
 ends_length [] all = omega arith
-ends_length (e ∷ es) all = omega (arith, ap length (flat_map-cons ending e es), length-append (ending e) (flat_map ending es), ending_length e all.0, ends_length es all.1)
+ends_length (e ∷ es) all = omega (
+  arith,
+  ap length (flat_map-cons ending e es),
+  length-append (ending e) (flat_map ending es),
+  ending_length e all.0,
+  ends_length es all.1,
+)
 
 outcome_length : (o : Outcome) → FitsOutcome o → length (outcome o) ≤ 4995
 outcome_length o fits =
@@ -42,7 +48,11 @@ outcome_length o fits =
     let ends = ends_length o.ends fits.ends in
     let count = fits.count in
     let end_count = fits.end_count in
-    let whole : length (outcome o) ≡ 2 + (length (flat_map pair o.pairs) + (1 + length (flat_map ending o.ends))) = omega (arith, length-append (flat_map pair o.pairs) (length o.ends ∷ flat_map ending o.ends)) in
+    let whole : length (outcome o)
+    ≡ 2 + (length (flat_map pair o.pairs) + (1 + length (flat_map ending o.ends))) = omega (
+      arith,
+      length-append (flat_map pair o.pairs) (length o.ends ∷ flat_map ending o.ends),
+    ) in
     omega (arith, pairs, ends, count, end_count, whole)
 
 commit_length : (token order : List ℕ) → IsCommit token order → length (commit (token, order)) ≤ 5028
@@ -56,7 +66,13 @@ entry_length e fits = omega (arith, fits.body)
 
 entries_length : (es : List Entry) → AllByRecursion FitsEntry es → length (flat_map entry es) ≤ 54 * length es
 entries_length [] all = omega arith
-entries_length (e ∷ es) all = omega (arith, ap length (flat_map-cons entry e es), length-append (entry e) (flat_map entry es), entry_length e all.0, entries_length es all.1)
+entries_length (e ∷ es) all = omega (
+  arith,
+  ap length (flat_map-cons entry e es),
+  length-append (entry e) (flat_map entry es),
+  entry_length e all.0,
+  entries_length es all.1,
+)
 
 pub any_length : (v : AnyValue) → FitsAny v → length (any_value v) ≤ 5029
 any_length (values.Mid (mids.Batch es)) fits = omega (arith, entries_length es fits.1, fits.0)

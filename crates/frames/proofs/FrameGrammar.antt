@@ -1,5 +1,6 @@
 -- The grammar of frames.
-use Rattle.std.proofs.Common.{◌≡◌, ℕ, ◌<◌, ◌≤◌, ◌^◌, true, false, cond, eqb, ltb, inl, inr, List, [], ◌∷◌, ◌++◌, length, Option, Some, None, Result, Ok, Err, refl, sym, ap, subst, ◌∙◌, arith}
+use Rattle.std.proofs.Common.{◌≡◌, ℕ, ◌<◌, ◌≤◌, ◌^◌, true, false, cond, eqb, ltb, inl, inr, List, [], ◌∷◌, ◌++◌, length}
+use Rattle.std.proofs.Common.{Option, Some, None, Result, Ok, Err, refl, sym, ap, subst, ◌∙◌, arith}
 use Rattle.std.specs.Prelude.{nat_le, not, ◌&&◌}
 use Rattle.std.specs.Int.{w16, to_be_bytes}
 use Rattle.std.proofs.lemmas.Bool.{eqb-true, ltb-false, not-false, le-ltb, lt-ltb}
@@ -34,7 +35,8 @@ use Rattle.frames.specs.declared.header.Refused.TheVariants as refused
 use Rattle.frames.specs.declared.message.Msg.{Msg}
 use Rattle.frames.specs.Headers.{node_of, end_number, end_index, sender_of, is_sent_by, lead_at, from_sender, judged}
 use Rattle.frames.specs.Messages.{kind_of, body, body_at}
-use Rattle.frames.specs.Frames.{tier_of, IsEnd, FitsFrame, frame, header_for, with_body, framed, framed_by, frame_of, refused_by, refusal, IsFrame, Decodes, GivesOrMemory}
+use Rattle.frames.specs.Frames.{tier_of, IsEnd, FitsFrame, frame, header_for, with_body, framed, framed_by, frame_of}
+use Rattle.frames.specs.Frames.{refused_by, refusal, IsFrame, Decodes, GivesOrMemory}
 use Rattle.frames.proofs.BodyGrammar.{body_takes, body_again}
 use Rattle.frames.proofs.BodyLengths.{body_length}
 
@@ -61,18 +63,33 @@ Parts1 = ℕ × Parts2
 grammar4 : IsGrammar (λ p. (p.0 < 256) × (p.1 < 2 ^ 16)) (λ p. (p.0 ∷ []) ++ to_be_bytes w16 p.1) (both byte_at (λ _. number_at w16))
 grammar4 = both_grammar (λ n. n < 256) (λ n. n ∷ []) byte_at (λ _ n. n < 2 ^ 16) (λ _ n. to_be_bytes w16 n) (λ _. number_at w16) one_byte (λ _ _. two_bytes)
 
-grammar3 : IsGrammar (λ p. (p.0 < 256) × ((p.1.0 < 256) × (p.1.1 < 2 ^ 16))) (λ p. (p.0 ∷ []) ++ ((p.1.0 ∷ []) ++ to_be_bytes w16 p.1.1)) (both byte_at (λ _. both byte_at (λ _. number_at w16)))
-grammar3 = both_grammar (λ n. n < 256) (λ n. n ∷ []) byte_at (λ _ p. (p.0 < 256) × (p.1 < 2 ^ 16)) (λ _ p. (p.0 ∷ []) ++ to_be_bytes w16 p.1) (λ _. both byte_at (λ _. number_at w16)) one_byte (λ _ _. grammar4)
+grammar3 : IsGrammar (λ p. (p.0 < 256) × ((p.1.0 < 256) × (p.1.1 < 2 ^ 16)))
+    (λ p. (p.0 ∷ []) ++ ((p.1.0 ∷ []) ++ to_be_bytes w16 p.1.1)) (both byte_at (λ _. both byte_at (λ _. number_at w16)))
+grammar3 = both_grammar (λ n. n < 256) (λ n. n ∷ []) byte_at (λ _ p. (p.0 < 256) × (p.1 < 2 ^ 16)) (λ _ p. (p.0 ∷ [])
+    ++ to_be_bytes w16 p.1) (λ _. both byte_at (λ _. number_at w16)) one_byte (λ _ _. grammar4)
 
-grammar2 : IsGrammar (λ p. (p.0 < 256) × ((p.1.0 < 256) × ((p.1.1.0 < 256) × (p.1.1.1 < 2 ^ 16)))) (λ p. (p.0 ∷ []) ++ ((p.1.0 ∷ []) ++ ((p.1.1.0 ∷ []) ++ to_be_bytes w16 p.1.1.1))) (both byte_at (λ _. both byte_at (λ _. both byte_at (λ _. number_at w16))))
-grammar2 = both_grammar (λ n. n < 256) (λ n. n ∷ []) byte_at (λ _ p. (p.0 < 256) × ((p.1.0 < 256) × (p.1.1 < 2 ^ 16))) (λ _ p. (p.0 ∷ []) ++ ((p.1.0 ∷ []) ++ to_be_bytes w16 p.1.1)) (λ _. both byte_at (λ _. both byte_at (λ _. number_at w16))) one_byte (λ _ _. grammar3)
+grammar2 : IsGrammar (λ p. (p.0 < 256) × ((p.1.0 < 256) × ((p.1.1.0 < 256) × (p.1.1.1 < 2 ^ 16))))
+    (λ p. (p.0 ∷ []) ++ ((p.1.0 ∷ []) ++ ((p.1.1.0 ∷ []) ++ to_be_bytes w16 p.1.1.1)))
+    (both byte_at (λ _. both byte_at (λ _. both byte_at (λ _. number_at w16))))
+grammar2 = both_grammar (λ n. n < 256) (λ n. n ∷ []) byte_at (λ _ p. (p.0 < 256) × ((p.1.0 < 256) × (p.1.1 < 2 ^ 16)))
+    (λ _ p. (p.0 ∷ []) ++ ((p.1.0 ∷ []) ++ to_be_bytes w16 p.1.1))
+    (λ _. both byte_at (λ _. both byte_at (λ _. number_at w16))) one_byte (λ _ _. grammar3)
 
-grammar1 : IsGrammar (λ p. (p.0 < 256) × ((p.1.0 < 256) × ((p.1.1.0 < 256) × ((p.1.1.1.0 < 256) × (p.1.1.1.1 < 2 ^ 16))))) (λ p. (p.0 ∷ []) ++ ((p.1.0 ∷ []) ++ ((p.1.1.0 ∷ []) ++ ((p.1.1.1.0 ∷ []) ++ to_be_bytes w16 p.1.1.1.1)))) (both byte_at (λ _. both byte_at (λ _. both byte_at (λ _. both byte_at (λ _. number_at w16)))))
-grammar1 = both_grammar (λ n. n < 256) (λ n. n ∷ []) byte_at (λ _ p. (p.0 < 256) × ((p.1.0 < 256) × ((p.1.1.0 < 256) × (p.1.1.1 < 2 ^ 16)))) (λ _ p. (p.0 ∷ []) ++ ((p.1.0 ∷ []) ++ ((p.1.1.0 ∷ []) ++ to_be_bytes w16 p.1.1.1))) (λ _. both byte_at (λ _. both byte_at (λ _. both byte_at (λ _. number_at w16)))) one_byte (λ _ _. grammar2)
+grammar1 : IsGrammar (λ p. (p.0 < 256)
+    × ((p.1.0 < 256) × ((p.1.1.0 < 256) × ((p.1.1.1.0 < 256) × (p.1.1.1.1 < 2 ^ 16)))))
+    (λ p. (p.0 ∷ []) ++ ((p.1.0 ∷ []) ++ ((p.1.1.0 ∷ []) ++ ((p.1.1.1.0 ∷ []) ++ to_be_bytes w16 p.1.1.1.1))))
+    (both byte_at (λ _. both byte_at (λ _. both byte_at (λ _. both byte_at (λ _. number_at w16)))))
+grammar1 = both_grammar (λ n. n < 256) (λ n. n ∷ []) byte_at (λ _ p. (p.0 < 256)
+    × ((p.1.0 < 256) × ((p.1.1.0 < 256) × (p.1.1.1 < 2 ^ 16)))) (λ _ p. (p.0 ∷ [])
+    ++ ((p.1.0 ∷ []) ++ ((p.1.1.0 ∷ []) ++ to_be_bytes w16 p.1.1.1)))
+    (λ _. both byte_at (λ _. both byte_at (λ _. both byte_at (λ _. number_at w16)))) one_byte (λ _ _. grammar2)
 
 lead_grammar : IsGrammar FitsLead lead_text lead_at
 unfolding lead_at
-lead_grammar = made_grammar (λ p. (p.0 < 256) × ((p.1.0 < 256) × ((p.1.1.0 < 256) × ((p.1.1.1.0 < 256) × (p.1.1.1.1 < 2 ^ 16))))) (λ p. (p.0 ∷ []) ++ ((p.1.0 ∷ []) ++ ((p.1.1.0 ∷ []) ++ ((p.1.1.1.0 ∷ []) ++ to_be_bytes w16 p.1.1.1.1)))) (both byte_at (λ _. both byte_at (λ _. both byte_at (λ _. both byte_at (λ _. number_at w16)))))
+lead_grammar = made_grammar (λ p. (p.0 < 256)
+    × ((p.1.0 < 256) × ((p.1.1.0 < 256) × ((p.1.1.1.0 < 256) × (p.1.1.1.1 < 2 ^ 16)))))
+    (λ p. (p.0 ∷ []) ++ ((p.1.0 ∷ []) ++ ((p.1.1.0 ∷ []) ++ ((p.1.1.1.0 ∷ []) ++ to_be_bytes w16 p.1.1.1.1))))
+    (both byte_at (λ _. both byte_at (λ _. both byte_at (λ _. both byte_at (λ _. number_at w16)))))
     lead_of parts_of (λ p. refl) (λ l. refl) grammar1
   where
     lead_of : Parts1 → Lead
@@ -89,7 +106,9 @@ SenderIs tier index from = (end_number from ≡ tier) × ((end_index from ≡ in
 abbrev known : End → Option End
 known from = Some from
 
-client_case : (tier index : ℕ) (from : End) → eqb tier 3 ≡ true → cond {A = Option End} (nat_le 1 index && nat_le index CLIENTS) (known (Client index)) None ≡ Some from → SenderIs tier index from
+client_case : (tier index : ℕ) (from : End) → eqb tier 3 ≡ true
+    → cond {A = Option End} (nat_le 1 index && nat_le index CLIENTS) (known (Client index)) None ≡ Some from
+    → SenderIs tier index from
 client_case tier index from three e =
     elim (chosen {A = Option End} (nat_le 1 index && nat_le index CLIENTS) (known (Client index)) None (Some from) e) [
       | inl h ↦ subst (λ (f : End). SenderIs tier index f) (same_Some (Client index) from h.1) (sym (eqb-true tier 3 three), (refl, within 1 CLIENTS index h.0))
@@ -121,7 +140,9 @@ node_case tier index from le e =
 sender_takes : (tier index : ℕ) (from : End) → sender_of tier index ≡ Some from → SenderIs tier index from
 unfolding sender_of
 sender_takes tier index from e =
-    elim (chosen {A = Option End} (eqb tier 3) (cond (nat_le 1 index && nat_le index CLIENTS) (known (Client index)) None) (cond (ltb LAST_INDEX index) None (mid_or tier index)) (Some from) e) [
+    elim (chosen {A = Option End} (eqb tier 3)
+    (cond (nat_le 1 index && nat_le index CLIENTS) (known (Client index)) None)
+    (cond (ltb LAST_INDEX index) None (mid_or tier index)) (Some from) e) [
       | inl h ↦ client_case tier index from h.0 h.1
       | inr h ↦ elim (chosen {A = Option End} (ltb LAST_INDEX index) None (mid_or tier index) (Some from) h.1) [
         | inl k ↦ absurd (none-some from k.1)
@@ -146,7 +167,9 @@ sender_again (Node n) fits = node_again n.tier n.index fits
 -- ---- headers
 
 abbrev JudgedIs : Lead → Header → Type 0
-JudgedIs l header = (l.version ≡ FRAME_VERSION) × ((header.kind ≡ l.kind) × ((header.len ≡ l.len) × ((is_sent_by header.from l.kind ≡ true) × SenderIs l.tier l.index header.from)))
+JudgedIs l header = (l.version ≡ FRAME_VERSION)
+    × ((header.kind ≡ l.kind)
+    × ((header.len ≡ l.len) × ((is_sent_by header.from l.kind ≡ true) × SenderIs l.tier l.index header.from)))
 
 abbrev HeaderRead : Type 0
 HeaderRead = Result Header Refused
@@ -160,15 +183,23 @@ ok_is a b e = cc
 no_header : (r : Refused) (header : Header) → Err r ≡ judged_as header → ⊥
 no_header r header e = cc
 
-from_case : (l : Lead) (s : Option End) (header : Header) → sender_of l.tier l.index ≡ s → l.version ≡ FRAME_VERSION → from_sender s l ≡ Ok header → JudgedIs l header
+from_case : (l : Lead) (s : Option End) (header : Header) → sender_of l.tier l.index ≡ s → l.version ≡ FRAME_VERSION
+    → from_sender s l ≡ Ok header → JudgedIs l header
 from_case l None header found version e = absurd (no_header (refused.Row 3) header e)
 from_case l (Some from) header found version e =
-    elim (chosen {A = HeaderRead} (is_sent_by from l.kind) (cond (ltb BODY_BYTES l.len) (Err (refused.Row 4)) (Ok (record { kind = l.kind; from = from; len = l.len }))) (Err (refused.Row 3)) (Ok header) e) [
+    elim (chosen {A = HeaderRead} (is_sent_by from l.kind)
+    (cond (ltb BODY_BYTES l.len) (Err (refused.Row 4)) (Ok (record { kind = l.kind; from = from; len = l.len })))
+    (Err (refused.Row 3)) (Ok header) e) [
       | inr h ↦ absurd (no_header (refused.Row 3) header h.1)
-      | inl h ↦ elim (chosen {A = HeaderRead} (ltb BODY_BYTES l.len) (Err (refused.Row 4)) (Ok (record { kind = l.kind; from = from; len = l.len })) (Ok header) h.1) [
-        | inl k ↦ absurd (no_header (refused.Row 4) header k.1)
-        | inr k ↦ subst (λ (d : Header). JudgedIs l d) (ok_is (record { kind = l.kind; from = from; len = l.len }) header k.1) (version, (refl, (refl, (h.0, sender_takes l.tier l.index from found))))
-      ]
+      | inl h ↦ elim (chosen {A = HeaderRead} (ltb BODY_BYTES l.len) (Err (refused.Row 4))
+          (Ok (record { kind = l.kind; from = from; len = l.len })) (Ok header) h.1) [
+            | inl k ↦ absurd (no_header (refused.Row 4) header k.1)
+            | inr k ↦ subst (λ (d : Header). JudgedIs l d)
+                (ok_is (record { kind = l.kind; from = from; len = l.len }) header k.1) (
+                  version,
+                  (refl, (refl, (h.0, sender_takes l.tier l.index from found))),
+                )
+          ]
     ]
 
 abbrev after_kind : Lead → HeaderRead
@@ -177,15 +208,18 @@ after_kind l = from_sender (sender_of l.tier l.index) l
 judged_takes : (l : Lead) (header : Header) → judged l ≡ Ok header → JudgedIs l header
 unfolding judged
 judged_takes l header e =
-    elim (chosen {A = HeaderRead} (not (eqb l.version FRAME_VERSION)) (Err (refused.Row 1)) (cond (ltb l.kind 1) (Err (refused.Row 2)) (cond (ltb LAST_KIND l.kind) (Err (refused.Row 2)) (after_kind l))) (Ok header) e) [
+    elim (chosen {A = HeaderRead} (not (eqb l.version FRAME_VERSION)) (Err (refused.Row 1))
+    (cond (ltb l.kind 1) (Err (refused.Row 2)) (cond (ltb LAST_KIND l.kind) (Err (refused.Row 2)) (after_kind l)))
+    (Ok header) e) [
       | inl h ↦ absurd (no_header (refused.Row 1) header h.1)
-      | inr h ↦ elim (chosen {A = HeaderRead} (ltb l.kind 1) (Err (refused.Row 2)) (cond (ltb LAST_KIND l.kind) (Err (refused.Row 2)) (after_kind l)) (Ok header) h.1) [
-        | inl k ↦ absurd (no_header (refused.Row 2) header k.1)
-        | inr k ↦ elim (chosen {A = HeaderRead} (ltb LAST_KIND l.kind) (Err (refused.Row 2)) (after_kind l) (Ok header) k.1) [
-          | inl m ↦ absurd (no_header (refused.Row 2) header m.1)
-          | inr m ↦ from_case l (sender_of l.tier l.index) header refl (eqb-true l.version FRAME_VERSION (not-false (eqb l.version FRAME_VERSION) h.0)) m.1
-        ]
-      ]
+      | inr h ↦ elim (chosen {A = HeaderRead} (ltb l.kind 1) (Err (refused.Row 2))
+          (cond (ltb LAST_KIND l.kind) (Err (refused.Row 2)) (after_kind l)) (Ok header) h.1) [
+            | inl k ↦ absurd (no_header (refused.Row 2) header k.1)
+            | inr k ↦ elim (chosen {A = HeaderRead} (ltb LAST_KIND l.kind) (Err (refused.Row 2)) (after_kind l) (Ok header) k.1) [
+              | inl m ↦ absurd (no_header (refused.Row 2) header m.1)
+              | inr m ↦ from_case l (sender_of l.tier l.index) header refl (eqb-true l.version FRAME_VERSION (not-false (eqb l.version FRAME_VERSION) h.0)) m.1
+            ]
+          ]
     ]
 
 -- the kinds that there are
@@ -252,20 +286,30 @@ lead_fits from msg fits =
 judged_again : (from : End) (msg : Msg) → FitsFrame from msg → judged (lead_for from msg) ≡ Ok (header_for from msg)
 unfolding judged
 judged_again from msg fits =
-    rw (kind_low msg, le-ltb LAST_KIND (kind_of msg) (kind_high msg), sender_again from fits.sender, fits.sent, le-ltb BODY_BYTES (length (body msg)) (body_length (tier_of from) msg fits.message)) refl
+    rw (
+      kind_low msg,
+      le-ltb LAST_KIND (kind_of msg) (kind_high msg),
+      sender_again from fits.sender,
+      fits.sent,
+      le-ltb BODY_BYTES (length (body msg)) (body_length (tier_of from) msg fits.message),
+    ) refl
 
 -- a header of a message, before whatever follows
-headed : (from : End) (msg : Msg) (left : List ℕ) → FitsFrame from msg → frame_of (lead_text (lead_for from msg) ++ left) ≡ framed (Ok (header_for from msg)) left
+headed : (from : End) (msg : Msg) (left : List ℕ) → FitsFrame from msg
+    → frame_of (lead_text (lead_for from msg) ++ left) ≡ framed (Ok (header_for from msg)) left
 unfolding frame_of
 headed from msg left fits =
-    ap (λ (r : Read Lead). framed_by r) (lead_grammar.again (lead_for from msg) left (lead_fits from msg fits)) ∙ ap (λ (j : HeaderRead). framed j left) (judged_again from msg fits)
+    ap (λ (r : Read Lead). framed_by r) (lead_grammar.again (lead_for from msg) left (lead_fits from msg fits))
+    ∙ ap (λ (j : HeaderRead). framed j left) (judged_again from msg fits)
 
 not_below : (n : ℕ) → ltb n n ≡ false
 not_below n = grind (arith)
 
 pub frame_again : (from : End) (msg : Msg) → FitsFrame from msg → frame_of (frame from msg) ≡ Ok (header_for from msg, msg)
 frame_again from msg fits =
-    let there : body_at (tier_of from) (kind_of msg) (body msg) ≡ Some (msg, []) = ap (λ (w : List ℕ). body_at (tier_of from) (kind_of msg) w) (sym (append-nil (body msg))) ∙ body_again (tier_of from) msg [] fits.message in
+    let there : body_at (tier_of from) (kind_of msg) (body msg) ≡ Some (msg, []) = ap
+    (λ (w : List ℕ). body_at (tier_of from) (kind_of msg) w) (sym (append-nil (body msg)))
+    ∙ body_again (tier_of from) msg [] fits.message in
     headed from msg (body msg) fits ∙ rw (not_below (length (body msg)), there) refl
 
 -- ---- what is read
@@ -298,14 +342,19 @@ FramedIs header left found = (length left ≡ header.len) × ((body_at (tier_of 
 
 framed_takes : (header : Header) (left : List ℕ) (found : Header × Msg) → framed (Ok header) left ≡ Ok found → FramedIs header left found
 framed_takes header left found e =
-    elim (chosen {A = Framed} (ltb (length left) header.len) (Err refused.Short) (cond (ltb header.len (length left)) (Err (refused.Row 5)) (with_body header (whole (body_at (tier_of header.from) header.kind left)))) (Ok found) e) [
+    elim (chosen {A = Framed} (ltb (length left) header.len) (Err refused.Short)
+    (cond (ltb header.len (length left)) (Err (refused.Row 5))
+    (with_body header (whole (body_at (tier_of header.from) header.kind left)))) (Ok found) e) [
       | inl h ↦ absurd (no_frame refused.Short found h.1)
-      | inr h ↦ elim (chosen {A = Framed} (ltb header.len (length left)) (Err (refused.Row 5)) (with_body header (whole (body_at (tier_of header.from) header.kind left))) (Ok found) h.1) [
-        | inl k ↦ absurd (no_frame (refused.Row 5) found k.1)
-        | inr k ↦
-            let b = body_case header (whole (body_at (tier_of header.from) header.kind left)) found k.1 in
-            (omega (arith, ltb-false (length left) header.len h.0, ltb-false header.len (length left) k.0), (whole_by (body_at (tier_of header.from) header.kind left) found.1 b.0, b.1))
-      ]
+      | inr h ↦ elim (chosen {A = Framed} (ltb header.len (length left)) (Err (refused.Row 5))
+          (with_body header (whole (body_at (tier_of header.from) header.kind left))) (Ok found) h.1) [
+            | inl k ↦ absurd (no_frame (refused.Row 5) found k.1)
+            | inr k ↦
+                let b = body_case header (whole (body_at (tier_of header.from) header.kind left)) found k.1 in (
+                  omega (arith, ltb-false (length left) header.len h.0, ltb-false header.len (length left) k.0),
+                  (whole_by (body_at (tier_of header.from) header.kind left) found.1 b.0, b.1),
+                )
+          ]
     ]
 
 abbrev FoundIs : List ℕ → Header × Msg → Type 0
@@ -323,7 +372,8 @@ header_of3 kind from len = record { kind = kind; from = from; len = len }
 same_header : (from : End) (a b v w : ℕ) → a ≡ v → b ≡ w → header_of3 a from b ≡ header_of3 v from w
 same_header from a b v w p q = cc
 
-assembled : (bytes : List ℕ) (l : Lead) (left : List ℕ) (header : Header) (msg : Msg) → Takes bytes (lead_text l) left → JudgedIs l header → length left ≡ header.len
+assembled : (bytes : List ℕ) (l : Lead) (left : List ℕ) (header : Header) (msg : Msg) → Takes bytes (lead_text l) left
+    → JudgedIs l header → length left ≡ header.len
     → body_at (tier_of header.from) header.kind left ≡ Some (msg, []) → FoundIs bytes (header, msg)
 assembled bytes l left header msg taken is size there =
     let t = body_takes (tier_of header.from) header.kind left msg [] taken.rest_fits there in
@@ -331,13 +381,18 @@ assembled bytes l left header msg taken is size there =
     let kind : header.kind ≡ kind_of msg = sym t.1.1 in
     let len : header.len ≡ length (body msg) = sym size ∙ ap length all in
     let sender = is.1.1.1.1 in
-    let same : l ≡ lead_for header.from msg = same_lead l.version l.kind l.tier l.index l.len FRAME_VERSION (kind_of msg) (end_number header.from) (end_index header.from) (length (body msg))
+    let same : l ≡ lead_for header.from msg = same_lead l.version l.kind l.tier l.index l.len FRAME_VERSION
+    (kind_of msg) (end_number header.from) (end_index header.from) (length (body msg))
     is.0 (sym is.1.0 ∙ kind) (sym sender.0) (sym sender.1.0) (sym is.1.1.0 ∙ len) in
-    let parts : bytes ≡ frame header.from msg = taken.parts ∙ ap (λ (k : Lead). lead_text k ++ left) same ∙ ap (λ (w : List ℕ). lead_text (lead_for header.from msg) ++ w) all in
-    let sent : is_sent_by header.from (kind_of msg) ≡ true = subst (λ (k : ℕ). is_sent_by header.from k ≡ true) (sym is.1.0 ∙ kind) is.1.1.1.0 in
-    (record { fit = record { sender = sender.1.1; sent = sent; message = t.1.0 }; parts = parts }, same_header header.from header.kind header.len (kind_of msg) (length (body msg)) kind len)
+    let parts : bytes ≡ frame header.from msg = taken.parts ∙ ap (λ (k : Lead). lead_text k ++ left) same
+    ∙ ap (λ (w : List ℕ). lead_text (lead_for header.from msg) ++ w) all in
+    let sent : is_sent_by header.from (kind_of msg) ≡ true = subst (λ (k : ℕ). is_sent_by header.from k ≡ true) (sym is.1.0 ∙ kind) is.1.1.1.0 in (
+      record { fit = record { sender = sender.1.1; sent = sent; message = t.1.0 }; parts = parts },
+      same_header header.from header.kind header.len (kind_of msg) (length (body msg)) kind len,
+    )
 
-judged_case : (bytes : List ℕ) (l : Lead) (left : List ℕ) (j : HeaderRead) (found : Header × Msg) → Takes bytes (lead_text l) left → judged l ≡ j → framed j left ≡ Ok found → FoundIs bytes found
+judged_case : (bytes : List ℕ) (l : Lead) (left : List ℕ) (j : HeaderRead) (found : Header × Msg)
+    → Takes bytes (lead_text l) left → judged l ≡ j → framed j left ≡ Ok found → FoundIs bytes found
 judged_case bytes l left (Err r) found taken is e = absurd (no_frame r found e)
 judged_case bytes l left (Ok header) found taken is e =
     let f = framed_takes header left found e in
@@ -349,30 +404,37 @@ lead_case bytes None found are is e = absurd (no_frame refused.Short found e)
 lead_case bytes (Some field) found are is e =
     judged_case bytes field.0 field.1 (judged field.0) found (lead_grammar.takes bytes field.0 field.1 are is).0 refl e
 
-pub frame_takes : (bytes : List ℕ) (found : Header × Msg) → IsBytes bytes → frame_of bytes ≡ Ok found → IsFrame bytes found.0.from found.1 × (found.0 ≡ header_for found.0.from found.1)
+pub frame_takes : (bytes : List ℕ) (found : Header × Msg) → IsBytes bytes → frame_of bytes ≡ Ok found
+    → IsFrame bytes found.0.from found.1 × (found.0 ≡ header_for found.0.from found.1)
 unfolding frame_of
 frame_takes bytes found are e = lead_case bytes (lead_at bytes) found are refl e
 
 -- ---- the answer of decoding
 
-pub is_found : (bytes : List ℕ) (r : Result (Header × Msg) FrameErr) → IsBytes bytes → Decodes r (frame_of bytes) → IfOk r (λ f. IsFrame bytes f.0.from f.1 × (f.0 ≡ header_for f.0.from f.1))
+pub is_found : (bytes : List ℕ) (r : Result (Header × Msg) FrameErr) → IsBytes bytes → Decodes r (frame_of bytes)
+    → IfOk r (λ f. IsFrame bytes f.0.from f.1 × (f.0 ≡ header_for f.0.from f.1))
 is_found bytes (Ok found) are e = frame_takes bytes found are e
 is_found bytes (Err x) are e = tt
 
-pub is_only : (bytes : List ℕ) (r : Result (Header × Msg) FrameErr) (from : End) (msg : Msg) → Decodes r (frame_of bytes) → IsFrame bytes from msg → GivesOrMemory r (header_for from msg, msg)
-is_only bytes (Ok found) from msg e is = found_is found (header_for from msg, msg) (sym e ∙ ap (λ (w : List ℕ). frame_of w) is.parts ∙ frame_again from msg is.fit)
-is_only bytes (Err (errors.Refused r)) from msg e is = no_frame r (header_for from msg, msg) (sym e ∙ ap (λ (w : List ℕ). frame_of w) is.parts ∙ frame_again from msg is.fit)
+pub is_only : (bytes : List ℕ) (r : Result (Header × Msg) FrameErr) (from : End) (msg : Msg)
+    → Decodes r (frame_of bytes) → IsFrame bytes from msg → GivesOrMemory r (header_for from msg, msg)
+is_only bytes (Ok found) from msg e is = found_is found (header_for from msg, msg) (sym e
+    ∙ ap (λ (w : List ℕ). frame_of w) is.parts ∙ frame_again from msg is.fit)
+is_only bytes (Err (errors.Refused r)) from msg e is = no_frame r (header_for from msg, msg) (sym e
+    ∙ ap (λ (w : List ℕ). frame_of w) is.parts ∙ frame_again from msg is.fit)
 is_only bytes (Err errors.Memory) from msg e is = tt
 
 -- ---- no frame begins another
 
 pub frames_distinct : (a b : End) (m n : Msg) (x y : List ℕ) → FitsFrame a m → FitsFrame b n → frame a m ++ x ≡ frame b n ++ y → (a ≡ b) × ((m ≡ n) × (x ≡ y))
 frames_distinct a b m n x y fa fb e =
-    let d = distinct FitsLead lead_text lead_at lead_grammar (lead_for a m) (lead_for b n) (body m ++ x) (body n ++ y) (lead_fits a m fa) (lead_fits b n fb) e in
+    let d = distinct FitsLead lead_text lead_at lead_grammar (lead_for a m) (lead_for b n) (body m ++ x) (body n ++ y)
+    (lead_fits a m fa) (lead_fits b n fb) e in
     let ends : a ≡ b = same_Some a b (sym (sender_again a fa.sender) ∙ ap (λ (l : Lead). sender_of l.tier l.index) d.0 ∙ sender_again b fb.sender) in
     let kinds : kind_of m ≡ kind_of n = ap (λ (l : Lead). l.kind) d.0 in
     let reads : body_at (tier_of a) (kind_of m) (body m ++ x) ≡ body_at (tier_of b) (kind_of n) (body n ++ y)
-    = ap (λ (f : End). body_at (tier_of f) (kind_of m) (body m ++ x)) ends ∙ ap (λ (k : ℕ). body_at (tier_of b) k (body m ++ x)) kinds ∙ ap (λ (w : List ℕ). body_at (tier_of b) (kind_of n) w) d.1 in
+    = ap (λ (f : End). body_at (tier_of f) (kind_of m) (body m ++ x)) ends
+    ∙ ap (λ (k : ℕ). body_at (tier_of b) k (body m ++ x)) kinds ∙ ap (λ (w : List ℕ). body_at (tier_of b) (kind_of n) w) d.1 in
     let same = same_Some (m, x) (n, y) (sym (body_again (tier_of a) m x fa.message) ∙ reads ∙ body_again (tier_of b) n y fb.message) in
     (ends, (ap (λ (p : Msg × List ℕ). p.0) same, ap (λ (p : Msg × List ℕ). p.1) same))
 
@@ -383,9 +445,14 @@ some_length (byte ∷ more) some = omega arith
 pub longer : (from : End) (msg : Msg) (more : List ℕ) → FitsFrame from msg → (more ≡ [] → ⊥) → refusal (frame from msg ++ more) ≡ Some (refused.Row 5)
 longer from msg more fits some =
     let above : length (body msg) < length (body msg ++ more) = omega (arith, length-append (body msg) more, some_length more some) in
-    ap (λ (r : Framed). refused_by r) (headed from msg (body msg ++ more) fits) ∙ rw (le-ltb (length (body msg ++ more)) (length (body msg)) (omega (arith, above)), lt-ltb (length (body msg)) (length (body msg ++ more)) above) refl
+    ap (λ (r : Framed). refused_by r) (headed from msg (body msg ++ more) fits)
+    ∙ rw (
+      le-ltb (length (body msg ++ more)) (length (body msg)) (omega (arith, above)),
+      lt-ltb (length (body msg)) (length (body msg ++ more)) above,
+    ) refl
 
-shorter : (from : End) (msg : Msg) (left rest : List ℕ) → FitsFrame from msg → body msg ≡ left ++ rest → (rest ≡ [] → ⊥) → refusal (lead_text (lead_for from msg) ++ left) ≡ Some refused.Short
+shorter : (from : End) (msg : Msg) (left rest : List ℕ) → FitsFrame from msg → body msg ≡ left ++ rest → (rest ≡ [] → ⊥)
+    → refusal (lead_text (lead_for from msg) ++ left) ≡ Some refused.Short
 shorter from msg left rest fits parts some =
     let below : length left < length (body msg) = omega (arith, ap length parts, length-append left rest, some_length rest some) in
     ap (λ (r : Framed). refused_by r) (headed from msg left fits) ∙ rw (lt-ltb (length left) (length (body msg)) below) refl
@@ -394,14 +461,16 @@ six : (v k t i h l a b c d e f : ℕ) (all left rest : List ℕ) → v ∷ (k �
     → (v ∷ (k ∷ (t ∷ (i ∷ (h ∷ (l ∷ left))))) ≡ a ∷ (b ∷ (c ∷ (d ∷ (e ∷ (f ∷ left)))))) × (all ≡ left ++ rest)
 six v k t i h l a b c d e f all left rest same = (cc, cc)
 
-six_by : (v k t i : ℕ) (w : List ℕ) (a b c d e f : ℕ) (all left rest : List ℕ) → length w ≡ 2 → v ∷ (k ∷ (t ∷ (i ∷ (w ++ all)))) ≡ a ∷ (b ∷ (c ∷ (d ∷ (e ∷ (f ∷ (left ++ rest))))))
+six_by : (v k t i : ℕ) (w : List ℕ) (a b c d e f : ℕ) (all left rest : List ℕ) → length w ≡ 2
+    → v ∷ (k ∷ (t ∷ (i ∷ (w ++ all)))) ≡ a ∷ (b ∷ (c ∷ (d ∷ (e ∷ (f ∷ (left ++ rest))))))
     → (v ∷ (k ∷ (t ∷ (i ∷ (w ++ left)))) ≡ a ∷ (b ∷ (c ∷ (d ∷ (e ∷ (f ∷ left)))))) × (all ≡ left ++ rest)
 six_by v k t i [] a b c d e f all left rest two same = absurd (omega (arith, two))
 six_by v k t i (h ∷ []) a b c d e f all left rest two same = absurd (omega (arith, two))
 six_by v k t i (h ∷ (l ∷ [])) a b c d e f all left rest two same = six v k t i h l a b c d e f all left rest same
 six_by v k t i (h ∷ (l ∷ (z ∷ zs))) a b c d e f all left rest two same = absurd (omega (arith, two))
 
-pub prefix : (from : End) (msg : Msg) (front rest : List ℕ) → FitsFrame from msg → frame from msg ≡ front ++ rest → (rest ≡ [] → ⊥) → refusal front ≡ Some refused.Short
+pub prefix : (from : End) (msg : Msg) (front rest : List ℕ) → FitsFrame from msg → frame from msg ≡ front ++ rest
+    → (rest ≡ [] → ⊥) → refusal front ≡ Some refused.Short
 unfolding frame_of lead_at
 prefix from msg [] rest fits e some = refl
 prefix from msg (a ∷ []) rest fits e some = refl
@@ -410,5 +479,6 @@ prefix from msg (a ∷ (b ∷ (c ∷ []))) rest fits e some = refl
 prefix from msg (a ∷ (b ∷ (c ∷ (d ∷ [])))) rest fits e some = refl
 prefix from msg (a ∷ (b ∷ (c ∷ (d ∷ (x ∷ []))))) rest fits e some = refl
 prefix from msg (a ∷ (b ∷ (c ∷ (d ∷ (x ∷ (y ∷ left)))))) rest fits e some =
-    let s = six_by FRAME_VERSION (kind_of msg) (end_number from) (end_index from) (to_be_bytes w16 (length (body msg))) a b c d x y (body msg) left rest refl e in
+    let s = six_by FRAME_VERSION (kind_of msg) (end_number from) (end_index from) (to_be_bytes w16 (length (body msg)))
+    a b c d x y (body msg) left rest refl e in
     ap (λ (w : List ℕ). refusal w) (sym s.0) ∙ shorter from msg left rest fits s.1 some

@@ -6,7 +6,8 @@ use Rattle.aeg_wire.specs.Formats.{made}
 use Rattle.aeg_wire.proofs.Grammar.{IsBytes, Takes, IsGrammar, made_some}
 
 pub kind_case : {A B : Type 0} (key : ℕ) (f : A → B) (fits : A → Type 0) (spelling : A → List ℕ) (read : List ℕ → Read A) → IsGrammar fits spelling read
-    → (all_fit : B → Type 0) (text : B → List ℕ) (kinds : B → ℕ) → ((x : A) → fits x → all_fit (f x)) → ((x : A) → text (f x) ≡ spelling x) → ((x : A) → kinds (f x) ≡ key)
+    → (all_fit : B → Type 0) (text : B → List ℕ) (kinds : B → ℕ) → ((x : A) → fits x → all_fit (f x))
+    → ((x : A) → text (f x) ≡ spelling x) → ((x : A) → kinds (f x) ≡ key)
     → (bytes : List ℕ) (kind : ℕ) (v : B) (rest : List ℕ) → IsBytes bytes → eqb kind key ≡ true → made f (read bytes) ≡ Some (v, rest)
     → Takes bytes (text v) rest × (all_fit v × (kinds v ≡ kind))
 kind_case key f fits spelling read g all_fit text kinds fit spell of bytes kind v rest are same e =

@@ -19,7 +19,8 @@ use Rattle.log_values.specs.Values.{any_value, any_value_at, FitsAny}
 use Rattle.log_values.proofs.FieldGrammar.{ballot_grammar, position_grammar}
 use Rattle.log_values.proofs.Leads.{chosen}
 use Rattle.log_values.proofs.ValueGrammar.{any_grammar}
-use Rattle.frames.specs.LogMessages.{is_carried, carried_at, IsCarried, open_at, report, FitsReport, report_at, vote_at, log_kind, log_body, log_body_at, FitsLog}
+use Rattle.frames.specs.LogMessages.{is_carried, carried_at, IsCarried, open_at, report, FitsReport, report_at, vote_at}
+use Rattle.frames.specs.LogMessages.{log_kind, log_body, log_body_at, FitsLog}
 use Rattle.frames.proofs.KindCase.{kind_case}
 
 carried_grammar : (tier : Tier) (pos : ℕ) → IsGrammar (IsCarried tier pos) any_value (carried_at tier pos)
@@ -44,10 +45,12 @@ abbrev found_at : Tier → ℕ → List ℕ → Read (Ballot × AnyValue)
 found_at tier pos = both ballot_at (λ _. carried_at tier pos)
 
 found_grammar : (tier : Tier) (pos : ℕ) → IsGrammar (λ r. FitsBallot r.0 × IsCarried tier pos r.1) (λ r. ballot r.0 ++ any_value r.1) (found_at tier pos)
-found_grammar tier pos = both_grammar FitsBallot ballot ballot_at (λ _ v. IsCarried tier pos v) (λ _ v. any_value v) (λ _. carried_at tier pos) ballot_grammar (λ _ _. carried_grammar tier pos)
+found_grammar tier pos = both_grammar FitsBallot ballot ballot_at (λ _ v. IsCarried tier pos v) (λ _ v. any_value v)
+    (λ _. carried_at tier pos) ballot_grammar (λ _ _. carried_grammar tier pos)
 
 report_one : (tier : Tier) (pos lead : ℕ) (bytes after : List ℕ) (v : Report) (rest : List ℕ) → Takes bytes (lead ∷ []) after → eqb lead 1 ≡ true
-    → cond {A = Read Report} (ltb pos POSITIONS) (made reported (found_at tier pos after)) None ≡ Some (v, rest) → Takes bytes (report v) rest × FitsReport tier pos v
+    → cond {A = Read Report} (ltb pos POSITIONS) (made reported (found_at tier pos after)) None ≡ Some (v, rest)
+    → Takes bytes (report v) rest × FitsReport tier pos v
 report_one tier pos lead bytes after v rest first one e =
     elim (chosen {A = Read Report} (ltb pos POSITIONS) (made reported (found_at tier pos after)) None (Some (v, rest)) e) [
       | inl h ↦
@@ -60,20 +63,28 @@ report_one tier pos lead bytes after v rest first one e =
     ]
 
 report_case : (tier : Tier) (pos lead : ℕ) (bytes after : List ℕ) (v : Report) (rest : List ℕ) → Takes bytes (lead ∷ []) after
-    → cond {A = Read Report} (eqb lead 0) (Some (None, after)) (cond (eqb lead 1) (cond (ltb pos POSITIONS) (made reported (found_at tier pos after)) None) None) ≡ Some (v, rest) → Takes bytes (report v) rest × FitsReport tier pos v
+    → cond {A = Read Report} (eqb lead 0) (Some (None, after))
+    (cond (eqb lead 1) (cond (ltb pos POSITIONS) (made reported (found_at tier pos after)) None) None)
+    ≡ Some (v, rest) → Takes bytes (report v) rest × FitsReport tier pos v
 report_case tier pos lead bytes after v rest first e =
-    elim (chosen {A = Read Report} (eqb lead 0) (Some (None, after)) (cond (eqb lead 1) (cond (ltb pos POSITIONS) (made reported (found_at tier pos after)) None) None) (Some (v, rest)) e) [
-      | inl h ↦ subst (λ (p : Report × List ℕ). Takes bytes (report p.0) p.1 × FitsReport tier pos p.0) (same_Some (None, after) (v, rest) h.1) (subst (λ (k : ℕ). Takes bytes (k ∷ []) after) (eqb-true lead 0 h.0) first, tt)
-      | inr h ↦ elim (chosen {A = Read Report} (eqb lead 1) (cond (ltb pos POSITIONS) (made reported (found_at tier pos after)) None) None (Some (v, rest)) h.1) [
-        | inl k ↦ report_one tier pos lead bytes after v rest first k.0 k.1
-        | inr k ↦ absurd (none-some (v, rest) k.1)
-      ]
+    elim (chosen {A = Read Report} (eqb lead 0) (Some (None, after))
+    (cond (eqb lead 1) (cond (ltb pos POSITIONS) (made reported (found_at tier pos after)) None) None) (Some (v, rest)) e) [
+      | inl h ↦ subst (λ (p : Report × List ℕ). Takes bytes (report p.0) p.1 × FitsReport tier pos p.0)
+          (same_Some (None, after) (v, rest) h.1) (subst (λ (k : ℕ). Takes bytes (k ∷ []) after) (eqb-true lead 0 h.0) first, tt)
+      | inr h ↦ elim (chosen {A = Read Report} (eqb lead 1)
+          (cond (ltb pos POSITIONS) (made reported (found_at tier pos after)) None) None (Some (v, rest)) h.1) [
+            | inl k ↦ report_one tier pos lead bytes after v rest first k.0 k.1
+            | inr k ↦ absurd (none-some (v, rest) k.1)
+          ]
     ]
 
-report_takes : (tier : Tier) (pos : ℕ) (bytes : List ℕ) (v : Report) (rest : List ℕ) → IsBytes bytes → report_at tier pos bytes ≡ Some (v, rest) → Takes bytes (report v) rest × FitsReport tier pos v
+report_takes : (tier : Tier) (pos : ℕ) (bytes : List ℕ) (v : Report) (rest : List ℕ) → IsBytes bytes
+    → report_at tier pos bytes ≡ Some (v, rest) → Takes bytes (report v) rest × FitsReport tier pos v
 unfolding report_at
 report_takes tier pos bytes v rest are e =
-    let b = bind_some (byte_at bytes) (λ flag. cond {A = Read Report} (eqb flag.0 0) (Some (None, flag.1)) (cond (eqb flag.0 1) (cond (ltb pos POSITIONS) (made reported (found_at tier pos flag.1)) None) None)) (v, rest) e in
+    let b = bind_some (byte_at bytes)
+    (λ flag. cond {A = Read Report} (eqb flag.0 0) (Some (None, flag.1))
+    (cond (eqb flag.0 1) (cond (ltb pos POSITIONS) (made reported (found_at tier pos flag.1)) None) None)) (v, rest) e in
     let first = one_byte.takes bytes b.0.0 b.0.1 are b.1 in
     report_case tier pos b.0.0 bytes b.0.1 v rest first.0 b.2
 
@@ -81,7 +92,9 @@ report_again : (tier : Tier) (pos : ℕ) (v : Report) (rest : List ℕ) → Fits
 unfolding report_at
 report_again tier pos None rest fits = refl
 report_again tier pos (Some r) rest fits =
-    let inside : cond {A = Read Report} (ltb pos POSITIONS) (made reported (found_at tier pos ((ballot r.0 ++ any_value r.1) ++ rest))) None ≡ made reported (found_at tier pos ((ballot r.0 ++ any_value r.1) ++ rest)) = rw (lt-ltb pos POSITIONS fits.0) refl in
+    let inside : cond {A = Read Report} (ltb pos POSITIONS)
+    (made reported (found_at tier pos ((ballot r.0 ++ any_value r.1) ++ rest))) None
+    ≡ made reported (found_at tier pos ((ballot r.0 ++ any_value r.1) ++ rest)) = rw (lt-ltb pos POSITIONS fits.0) refl in
     inside ∙ ap (λ (q : Read (Ballot × AnyValue)). made reported q) ((found_grammar tier pos).again r rest fits.1)
 
 report_grammar : (tier : Tier) (pos : ℕ) → IsGrammar (FitsReport tier pos) report (report_at tier pos)
@@ -122,15 +135,24 @@ learn_at tier = both position_at (λ pos. carried_at tier pos)
 prepare_grammar : IsGrammar (λ p. FitsBallot p.0 × (p.1 ≤ POSITIONS)) (λ p. ballot p.0 ++ to_be_bytes w16 p.1) prepare_at
 prepare_grammar = both_grammar FitsBallot ballot ballot_at (λ _ n. n ≤ POSITIONS) (λ _ n. to_be_bytes w16 n) (λ _. open_at) ballot_grammar (λ _ _. open_grammar)
 
-promise_grammar : (tier : Tier) → IsGrammar (λ p. FitsBallot p.0 × ((p.1.0 ≤ POSITIONS) × FitsReport tier p.1.0 p.1.1)) (λ p. ballot p.0 ++ (to_be_bytes w16 p.1.0 ++ report p.1.1)) (promise_at tier)
-promise_grammar tier = both_grammar FitsBallot ballot ballot_at (λ _ p. (p.0 ≤ POSITIONS) × FitsReport tier p.0 p.1) (λ _ p. to_be_bytes w16 p.0 ++ report p.1) (λ _. both open_at (λ pos. report_at tier pos)) ballot_grammar
-    (λ _ _. both_grammar (λ n. n ≤ POSITIONS) (λ n. to_be_bytes w16 n) open_at (λ n r. FitsReport tier n r) (λ _ r. report r) (λ pos. report_at tier pos) open_grammar (λ n _. report_grammar tier n))
+promise_grammar : (tier : Tier)
+    → IsGrammar (λ p. FitsBallot p.0 × ((p.1.0 ≤ POSITIONS) × FitsReport tier p.1.0 p.1.1))
+    (λ p. ballot p.0 ++ (to_be_bytes w16 p.1.0 ++ report p.1.1)) (promise_at tier)
+promise_grammar tier = both_grammar FitsBallot ballot ballot_at (λ _ p. (p.0 ≤ POSITIONS) × FitsReport tier p.0 p.1)
+    (λ _ p. to_be_bytes w16 p.0 ++ report p.1) (λ _. both open_at (λ pos. report_at tier pos)) ballot_grammar
+    (λ _ _. both_grammar (λ n. n ≤ POSITIONS) (λ n. to_be_bytes w16 n) open_at (λ n r. FitsReport tier n r)
+    (λ _ r. report r) (λ pos. report_at tier pos) open_grammar (λ n _. report_grammar tier n))
 
 learn_grammar : (tier : Tier) → IsGrammar (λ p. (p.0 < POSITIONS) × IsCarried tier p.0 p.1) (λ p. to_be_bytes w16 p.0 ++ any_value p.1) (learn_at tier)
-learn_grammar tier = both_grammar (λ n. n < POSITIONS) (λ n. to_be_bytes w16 n) position_at (λ n v. IsCarried tier n v) (λ _ v. any_value v) (λ pos. carried_at tier pos) position_grammar (λ n _. carried_grammar tier n)
+learn_grammar tier = both_grammar (λ n. n < POSITIONS) (λ n. to_be_bytes w16 n) position_at (λ n v. IsCarried tier n v)
+    (λ _ v. any_value v) (λ pos. carried_at tier pos) position_grammar (λ n _. carried_grammar tier n)
 
-vote_grammar : (tier : Tier) → IsGrammar (λ p. FitsBallot p.0 × ((p.1.0 < POSITIONS) × IsCarried tier p.1.0 p.1.1)) (λ p. ballot p.0 ++ (to_be_bytes w16 p.1.0 ++ any_value p.1.1)) (vote_at tier)
-vote_grammar tier = both_grammar FitsBallot ballot ballot_at (λ _ p. (p.0 < POSITIONS) × IsCarried tier p.0 p.1) (λ _ p. to_be_bytes w16 p.0 ++ any_value p.1) (λ _. both position_at (λ pos. carried_at tier pos)) ballot_grammar (λ _ _. learn_grammar tier)
+vote_grammar : (tier : Tier)
+    → IsGrammar (λ p. FitsBallot p.0 × ((p.1.0 < POSITIONS) × IsCarried tier p.1.0 p.1.1))
+    (λ p. ballot p.0 ++ (to_be_bytes w16 p.1.0 ++ any_value p.1.1)) (vote_at tier)
+vote_grammar tier = both_grammar FitsBallot ballot ballot_at (λ _ p. (p.0 < POSITIONS) × IsCarried tier p.0 p.1)
+    (λ _ p. to_be_bytes w16 p.0 ++ any_value p.1) (λ _. both position_at (λ pos. carried_at tier pos)) ballot_grammar
+    (λ _ _. learn_grammar tier)
 
 abbrev LogRead : Type 0
 LogRead = Read (PaxMsg AnyValue)
@@ -156,45 +178,61 @@ from4 tier kind bytes = cond {A = LogRead} (eqb kind 4) (made promise_of (promis
 abbrev IsLogBody : Tier → ℕ → List ℕ → PaxMsg AnyValue → List ℕ → Type 0
 IsLogBody tier kind bytes v rest = Takes bytes (log_body v) rest × (FitsLog tier v × (log_kind v ≡ kind))
 
-case14 : (tier : Tier) (kind : ℕ) (bytes : List ℕ) (v : PaxMsg AnyValue) (rest : List ℕ) → IsBytes bytes → from14 kind bytes ≡ Some (v, rest) → IsLogBody tier kind bytes v rest
+case14 : (tier : Tier) (kind : ℕ) (bytes : List ℕ) (v : PaxMsg AnyValue) (rest : List ℕ) → IsBytes bytes
+    → from14 kind bytes ≡ Some (v, rest) → IsLogBody tier kind bytes v rest
 case14 tier kind bytes v rest are e =
     elim (chosen {A = LogRead} (eqb kind 14) (made behind_of (open_at bytes)) None (Some (v, rest)) e) [
-      | inl h ↦ kind_case 14 behind_of (λ n. n ≤ POSITIONS) (λ n. to_be_bytes w16 n) open_at open_grammar (FitsLog tier) log_body log_kind (λ n fits. fits) (λ n. refl) (λ n. refl) bytes kind v rest are h.0 h.1
+      | inl h ↦ kind_case 14 behind_of (λ n. n ≤ POSITIONS) (λ n. to_be_bytes w16 n) open_at open_grammar (FitsLog tier)
+          log_body log_kind (λ n fits. fits) (λ n. refl) (λ n. refl) bytes kind v rest are h.0 h.1
       | inr h ↦ absurd (none-some (v, rest) h.1)
     ]
 
-case8 : (tier : Tier) (kind : ℕ) (bytes : List ℕ) (v : PaxMsg AnyValue) (rest : List ℕ) → IsBytes bytes → from8 tier kind bytes ≡ Some (v, rest) → IsLogBody tier kind bytes v rest
+case8 : (tier : Tier) (kind : ℕ) (bytes : List ℕ) (v : PaxMsg AnyValue) (rest : List ℕ) → IsBytes bytes
+    → from8 tier kind bytes ≡ Some (v, rest) → IsLogBody tier kind bytes v rest
 case8 tier kind bytes v rest are e =
     elim (chosen {A = LogRead} (eqb kind 8) (made learn_of (learn_at tier bytes)) (from14 kind bytes) (Some (v, rest)) e) [
-      | inl h ↦ kind_case 8 learn_of (λ p. (p.0 < POSITIONS) × IsCarried tier p.0 p.1) (λ p. to_be_bytes w16 p.0 ++ any_value p.1) (learn_at tier) (learn_grammar tier) (FitsLog tier) log_body log_kind (λ p fits. fits) (λ p. refl) (λ p. refl) bytes kind v rest are h.0 h.1
+      | inl h ↦ kind_case 8 learn_of (λ p. (p.0 < POSITIONS) × IsCarried tier p.0 p.1) (λ p. to_be_bytes w16 p.0
+          ++ any_value p.1) (learn_at tier) (learn_grammar tier) (FitsLog tier) log_body log_kind (λ p fits. fits)
+          (λ p. refl) (λ p. refl) bytes kind v rest are h.0 h.1
       | inr h ↦ case14 tier kind bytes v rest are h.1
     ]
 
-case7 : (tier : Tier) (kind : ℕ) (bytes : List ℕ) (v : PaxMsg AnyValue) (rest : List ℕ) → IsBytes bytes → from7 tier kind bytes ≡ Some (v, rest) → IsLogBody tier kind bytes v rest
+case7 : (tier : Tier) (kind : ℕ) (bytes : List ℕ) (v : PaxMsg AnyValue) (rest : List ℕ) → IsBytes bytes
+    → from7 tier kind bytes ≡ Some (v, rest) → IsLogBody tier kind bytes v rest
 case7 tier kind bytes v rest are e =
     elim (chosen {A = LogRead} (eqb kind 7) (made ask_of (open_at bytes)) (from8 tier kind bytes) (Some (v, rest)) e) [
-      | inl h ↦ kind_case 7 ask_of (λ n. n ≤ POSITIONS) (λ n. to_be_bytes w16 n) open_at open_grammar (FitsLog tier) log_body log_kind (λ n fits. fits) (λ n. refl) (λ n. refl) bytes kind v rest are h.0 h.1
+      | inl h ↦ kind_case 7 ask_of (λ n. n ≤ POSITIONS) (λ n. to_be_bytes w16 n) open_at open_grammar (FitsLog tier)
+          log_body log_kind (λ n fits. fits) (λ n. refl) (λ n. refl) bytes kind v rest are h.0 h.1
       | inr h ↦ case8 tier kind bytes v rest are h.1
     ]
 
-case6 : (tier : Tier) (kind : ℕ) (bytes : List ℕ) (v : PaxMsg AnyValue) (rest : List ℕ) → IsBytes bytes → from6 tier kind bytes ≡ Some (v, rest) → IsLogBody tier kind bytes v rest
+case6 : (tier : Tier) (kind : ℕ) (bytes : List ℕ) (v : PaxMsg AnyValue) (rest : List ℕ) → IsBytes bytes
+    → from6 tier kind bytes ≡ Some (v, rest) → IsLogBody tier kind bytes v rest
 case6 tier kind bytes v rest are e =
     elim (chosen {A = LogRead} (eqb kind 6) (made accepted_of (vote_at tier bytes)) (from7 tier kind bytes) (Some (v, rest)) e) [
-      | inl h ↦ kind_case 6 accepted_of (λ p. FitsBallot p.0 × ((p.1.0 < POSITIONS) × IsCarried tier p.1.0 p.1.1)) (λ p. ballot p.0 ++ (to_be_bytes w16 p.1.0 ++ any_value p.1.1)) (vote_at tier) (vote_grammar tier) (FitsLog tier) log_body log_kind (λ p fits. fits) (λ p. refl) (λ p. refl) bytes kind v rest are h.0 h.1
+      | inl h ↦ kind_case 6 accepted_of (λ p. FitsBallot p.0 × ((p.1.0 < POSITIONS) × IsCarried tier p.1.0 p.1.1))
+          (λ p. ballot p.0 ++ (to_be_bytes w16 p.1.0 ++ any_value p.1.1)) (vote_at tier) (vote_grammar tier)
+          (FitsLog tier) log_body log_kind (λ p fits. fits) (λ p. refl) (λ p. refl) bytes kind v rest are h.0 h.1
       | inr h ↦ case7 tier kind bytes v rest are h.1
     ]
 
-case5 : (tier : Tier) (kind : ℕ) (bytes : List ℕ) (v : PaxMsg AnyValue) (rest : List ℕ) → IsBytes bytes → from5 tier kind bytes ≡ Some (v, rest) → IsLogBody tier kind bytes v rest
+case5 : (tier : Tier) (kind : ℕ) (bytes : List ℕ) (v : PaxMsg AnyValue) (rest : List ℕ) → IsBytes bytes
+    → from5 tier kind bytes ≡ Some (v, rest) → IsLogBody tier kind bytes v rest
 case5 tier kind bytes v rest are e =
     elim (chosen {A = LogRead} (eqb kind 5) (made accept_of (vote_at tier bytes)) (from6 tier kind bytes) (Some (v, rest)) e) [
-      | inl h ↦ kind_case 5 accept_of (λ p. FitsBallot p.0 × ((p.1.0 < POSITIONS) × IsCarried tier p.1.0 p.1.1)) (λ p. ballot p.0 ++ (to_be_bytes w16 p.1.0 ++ any_value p.1.1)) (vote_at tier) (vote_grammar tier) (FitsLog tier) log_body log_kind (λ p fits. fits) (λ p. refl) (λ p. refl) bytes kind v rest are h.0 h.1
+      | inl h ↦ kind_case 5 accept_of (λ p. FitsBallot p.0 × ((p.1.0 < POSITIONS) × IsCarried tier p.1.0 p.1.1))
+          (λ p. ballot p.0 ++ (to_be_bytes w16 p.1.0 ++ any_value p.1.1)) (vote_at tier) (vote_grammar tier)
+          (FitsLog tier) log_body log_kind (λ p fits. fits) (λ p. refl) (λ p. refl) bytes kind v rest are h.0 h.1
       | inr h ↦ case6 tier kind bytes v rest are h.1
     ]
 
-case4 : (tier : Tier) (kind : ℕ) (bytes : List ℕ) (v : PaxMsg AnyValue) (rest : List ℕ) → IsBytes bytes → from4 tier kind bytes ≡ Some (v, rest) → IsLogBody tier kind bytes v rest
+case4 : (tier : Tier) (kind : ℕ) (bytes : List ℕ) (v : PaxMsg AnyValue) (rest : List ℕ) → IsBytes bytes
+    → from4 tier kind bytes ≡ Some (v, rest) → IsLogBody tier kind bytes v rest
 case4 tier kind bytes v rest are e =
     elim (chosen {A = LogRead} (eqb kind 4) (made promise_of (promise_at tier bytes)) (from5 tier kind bytes) (Some (v, rest)) e) [
-      | inl h ↦ kind_case 4 promise_of (λ p. FitsBallot p.0 × ((p.1.0 ≤ POSITIONS) × FitsReport tier p.1.0 p.1.1)) (λ p. ballot p.0 ++ (to_be_bytes w16 p.1.0 ++ report p.1.1)) (promise_at tier) (promise_grammar tier) (FitsLog tier) log_body log_kind (λ p fits. fits) (λ p. refl) (λ p. refl) bytes kind v rest are h.0 h.1
+      | inl h ↦ kind_case 4 promise_of (λ p. FitsBallot p.0 × ((p.1.0 ≤ POSITIONS) × FitsReport tier p.1.0 p.1.1))
+          (λ p. ballot p.0 ++ (to_be_bytes w16 p.1.0 ++ report p.1.1)) (promise_at tier) (promise_grammar tier)
+          (FitsLog tier) log_body log_kind (λ p fits. fits) (λ p. refl) (λ p. refl) bytes kind v rest are h.0 h.1
       | inr h ↦ case5 tier kind bytes v rest are h.1
     ]
 
@@ -203,16 +241,20 @@ pub log_takes : (tier : Tier) (kind : ℕ) (bytes : List ℕ) (v : PaxMsg AnyVal
 unfolding log_body_at
 log_takes tier kind bytes v rest are e =
     elim (chosen {A = LogRead} (eqb kind 3) (made prepare_of (prepare_at bytes)) (from4 tier kind bytes) (Some (v, rest)) e) [
-      | inl h ↦ kind_case 3 prepare_of (λ p. FitsBallot p.0 × (p.1 ≤ POSITIONS)) (λ p. ballot p.0 ++ to_be_bytes w16 p.1) prepare_at prepare_grammar (FitsLog tier) log_body log_kind (λ p fits. fits) (λ p. refl) (λ p. refl) bytes kind v rest are h.0 h.1
+      | inl h ↦ kind_case 3 prepare_of (λ p. FitsBallot p.0 × (p.1 ≤ POSITIONS))
+          (λ p. ballot p.0 ++ to_be_bytes w16 p.1) prepare_at prepare_grammar (FitsLog tier) log_body log_kind
+          (λ p fits. fits) (λ p. refl) (λ p. refl) bytes kind v rest are h.0 h.1
       | inr h ↦ case4 tier kind bytes v rest are h.1
     ]
 
 pub log_again : (tier : Tier) (v : PaxMsg AnyValue) (rest : List ℕ) → FitsLog tier v → log_body_at tier (log_kind v) (log_body v ++ rest) ≡ Some (v, rest)
 unfolding log_body_at
 log_again tier (Prepare b pos) rest fits = ap (λ (r : Read (Ballot × ℕ)). made prepare_of r) (prepare_grammar.again (b, pos) rest fits)
-log_again tier (Promise b pos reports) rest fits = ap (λ (r : Read (Ballot × (ℕ × Report))). made promise_of r) ((promise_grammar tier).again (b, (pos, reports)) rest fits)
+log_again tier (Promise b pos reports) rest fits = ap (λ (r : Read (Ballot × (ℕ × Report))). made promise_of r)
+    ((promise_grammar tier).again (b, (pos, reports)) rest fits)
 log_again tier (Accept b pos v) rest fits = ap (λ (r : Read (Ballot × (ℕ × AnyValue))). made accept_of r) ((vote_grammar tier).again (b, (pos, v)) rest fits)
-log_again tier (Accepted b pos v) rest fits = ap (λ (r : Read (Ballot × (ℕ × AnyValue))). made accepted_of r) ((vote_grammar tier).again (b, (pos, v)) rest fits)
+log_again tier (Accepted b pos v) rest fits = ap (λ (r : Read (Ballot × (ℕ × AnyValue))). made accepted_of r)
+    ((vote_grammar tier).again (b, (pos, v)) rest fits)
 log_again tier (Ask pos) rest fits = ap (λ (r : Read ℕ). made ask_of r) (open_grammar.again pos rest fits)
 log_again tier (Learn pos v) rest fits = ap (λ (r : Read (ℕ × AnyValue)). made learn_of r) ((learn_grammar tier).again (pos, v) rest fits)
 log_again tier (Behind pos) rest fits = ap (λ (r : Read ℕ). made behind_of r) (open_grammar.again pos rest fits)

@@ -99,5 +99,6 @@ BeginNoOther = (a b : End) (m n : Msg) (x y : List ℕ) → FitsFrame a m → Fi
 
 -- A strict prefix of a frame is too short to be one, and a frame with bytes after it is refused for them.
 pub record AreWhole : Type 0 where
-  pub prefix : (from : End) (msg : Msg) (front rest : List ℕ) → FitsFrame from msg → frame from msg ≡ front ++ rest → (rest ≡ [] → ⊥) → refusal front ≡ Some refused.Short
+  pub prefix : (from : End) (msg : Msg) (front rest : List ℕ) → FitsFrame from msg → frame from msg ≡ front ++ rest
+      → (rest ≡ [] → ⊥) → refusal front ≡ Some refused.Short
   pub longer : (from : End) (msg : Msg) (more : List ℕ) → FitsFrame from msg → (more ≡ [] → ⊥) → refusal (frame from msg ++ more) ≡ Some (refused.Row 5)

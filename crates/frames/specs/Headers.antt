@@ -8,7 +8,9 @@ use Rattle.aeg_base.specs.declared.names.Tier.{Tier}
 use Rattle.aeg_base.specs.declared.names.Tier.TheVariants.{Mid, Inv, Pay}
 use Rattle.aeg_wire.specs.Fields.{Read, byte_at, number_at}
 use Rattle.aeg_wire.specs.Formats.{made, both}
-use Rattle.log_values.specs.declared.format.TheConstants.{FRAME_VERSION, LAST_KIND, LAST_INDEX, MID_TIER, INV_TIER, PAY_TIER, CLIENT_SENDER, REQUEST_KIND, REPLY_KIND, PREPARE_KIND, LEARN_KIND, ANSWER_KIND, BEHIND_KIND}
+use Rattle.log_values.specs.declared.format.TheConstants.{FRAME_VERSION, LAST_KIND, LAST_INDEX, MID_TIER, INV_TIER}
+use Rattle.log_values.specs.declared.format.TheConstants.{PAY_TIER, CLIENT_SENDER, REQUEST_KIND, REPLY_KIND}
+use Rattle.log_values.specs.declared.format.TheConstants.{PREPARE_KIND, LEARN_KIND, ANSWER_KIND, BEHIND_KIND}
 use Rattle.log_values.specs.Fields.{tier_number}
 use Rattle.frames.specs.declared.header.Header.{Header}
 use Rattle.frames.specs.declared.header.Lead.{Lead}

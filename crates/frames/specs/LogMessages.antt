@@ -13,7 +13,8 @@ use Rattle.log_values.specs.declared.any_value.AnyValue.{AnyValue}
 use Rattle.log_values.specs.declared.any_value.AnyValue.TheVariants as values
 use Rattle.log_values.specs.declared.mid_value.MidValue.{MidValue}
 use Rattle.log_values.specs.declared.mid_value.MidValue.TheVariants as mids
-use Rattle.log_values.specs.declared.format.TheConstants.{PREPARE_KIND, PROMISE_KIND, ACCEPT_KIND, ACCEPTED_KIND, ASK_KIND, LEARN_KIND, BEHIND_KIND, NO_REPORT, REPORT}
+use Rattle.log_values.specs.declared.format.TheConstants.{PREPARE_KIND, PROMISE_KIND, ACCEPT_KIND, ACCEPTED_KIND}
+use Rattle.log_values.specs.declared.format.TheConstants.{ASK_KIND, LEARN_KIND, BEHIND_KIND, NO_REPORT, REPORT}
 use Rattle.log_values.specs.Fields.{ballot, ballot_at, position_at, FitsBallot}
 use Rattle.log_values.specs.Values.{any_value, any_value_at, FitsAny}
 

@@ -6,7 +6,9 @@ use Rattle.aeg_base.specs.declared.names.Tier.{Tier}
 use Rattle.svc_api.specs.Plan.{IsBackend}
 use Rattle.aeg_wire.specs.Fields.{Read, byte_at, number_at, text, text_at}
 use Rattle.aeg_wire.specs.Formats.{made, kept, both}
-use Rattle.log_values.specs.declared.format.TheConstants.{REQUEST_KIND, REPLY_KIND, PREPARE_KIND, LEARN_KIND, TOKEN_KIND, CALL_KIND, ANSWER_KIND, HAVE_KIND, SETTLE_KIND, BEHIND_KIND}
+use Rattle.log_values.specs.declared.format.TheConstants.{REQUEST_KIND, REPLY_KIND, PREPARE_KIND, LEARN_KIND}
+use Rattle.log_values.specs.declared.format.TheConstants.{TOKEN_KIND, CALL_KIND, ANSWER_KIND, HAVE_KIND, SETTLE_KIND}
+use Rattle.log_values.specs.declared.format.TheConstants.{BEHIND_KIND}
 use Rattle.log_values.specs.Fields.{tier_number, backend_at, client_at, seq_at, call_number_at, floor_at, IsClient, IsSeq, IsCallNumber, IsFloor, IsText}
 use Rattle.log_values.specs.Outcomes.{commit, commit_at, IsCommit}
 use Rattle.frames.specs.declared.message.Msg.{Msg}

@@ -1,5 +1,6 @@
 -- The keys that an undo list names whose values differ are all that differ from the list's start.
-use Rattle.std.proofs.Common.{◌≡◌, ◌≢◌, ℕ, zero, suc, ◌==◌, Bool, true, false, cond, not, T, List, [], ◌∷◌, Option, Some, None, is_some, unwrap_or, if◌then◌else◌, refl, sym, ap, subst, ◌∙◌, arith}
+use Rattle.std.proofs.Common.{◌≡◌, ◌≢◌, ℕ, zero, suc, ◌==◌, Bool, true, false, cond, not, T, List, [], ◌∷◌, Option}
+use Rattle.std.proofs.Common.{Some, None, is_some, unwrap_or, if◌then◌else◌, refl, sym, ap, subst, ◌∙◌, arith}
 use Rattle.std.proofs.lemmas.Bool.Decides.{nat_tests}
 use Rattle.std.specs.Ordering.{eq_by_cmp, is_lt}
 use Rattle.std.specs.FinMap.Entries.{find, put, is_sorted, below_all, find-put, same_entries}
@@ -20,7 +21,8 @@ use Rattle.kv_store.proofs.Sizes.{sorted}
 abbrev pub differs_at : Store → Store → Key → Option ℕ
 differs_at s t q = if value_at s q == value_at t q then None else Some (value_at t q)
 
-settle : (b c d : Bool) (o fx fp v w : Option ℕ) (n : ℕ) → fx ≡ cond b (cond c fp w) fp → (b ≡ true → d ≡ c) → (b ≡ true → v ≡ w) → cond (is_some o) (cond d fx v) fx ≡ cond (is_some (cond b (Some n) o)) (cond d fp v) fp
+settle : (b c d : Bool) (o fx fp v w : Option ℕ) (n : ℕ) → fx ≡ cond b (cond c fp w) fp → (b ≡ true → d ≡ c)
+    → (b ≡ true → v ≡ w) → cond (is_some o) (cond d fx v) fx ≡ cond (is_some (cond b (Some n) o)) (cond d fp v) fp
 settle false c d o fx fp v w n x dc vw = ap (λ f. cond (is_some o) (cond d f v) f) x
 settle true c d None fx fp v w n x dc vw = x ∙ ap (λ u. cond c fp u) (sym (vw refl)) ∙ ap (λ e. cond e fp v) (sym (dc refl))
 settle true true d (Some m) fx fp v w n x dc vw = ap (λ e. cond e fx v) (dc refl) ∙ x ∙ ap (λ e. cond e fp v) (sym (dc refl))
@@ -31,7 +33,9 @@ find-among : (s t : Store) (q : Key) (es pairs : List (Key × ℕ)) → find key
 find-among s t q [] pairs = refl
 find-among s t q (e ∷ es) pairs =
     find-among s t q es (if equal then pairs else put key_cmp e.0 (value_at t e.0) pairs)
-    ∙ settle ties equal (value_at s q == value_at t q) (find key_cmp q es) (find key_cmp q (if equal then pairs else put key_cmp e.0 (value_at t e.0) pairs)) (find key_cmp q pairs) (Some (value_at t q)) (Some (value_at t e.0)) e.1
+    ∙ settle ties equal (value_at s q == value_at t q) (find key_cmp q es)
+    (find key_cmp q (if equal then pairs else put key_cmp e.0 (value_at t e.0) pairs)) (find key_cmp q pairs)
+    (Some (value_at t q)) (Some (value_at t e.0)) e.1
     (there equal)
     (λ b. ap (λ k. value_at s k == value_at t k) (same_key_eq q e.0 b))
     (λ b. ap (λ k. Some (value_at t k)) (same_key_eq q e.0 b))
@@ -42,7 +46,8 @@ find-among s t q (e ∷ es) pairs =
     ties : Bool
     ties = eq_by_cmp key_cmp q e.0
 
-    there : (c : Bool) → find key_cmp q (cond c pairs (put key_cmp e.0 (value_at t e.0) pairs)) ≡ cond ties (cond c (find key_cmp q pairs) (Some (value_at t e.0))) (find key_cmp q pairs)
+    there : (c : Bool) → find key_cmp q (cond c pairs (put key_cmp e.0 (value_at t e.0) pairs))
+        ≡ cond ties (cond c (find key_cmp q pairs) (Some (value_at t e.0))) (find key_cmp q pairs)
     there true = one ties
       where
         one : (b : Bool) → find key_cmp q pairs ≡ cond b (find key_cmp q pairs) (find key_cmp q pairs)
@@ -52,7 +57,9 @@ find-among s t q (e ∷ es) pairs =
 
 -- a key is found where its value is not 0
 found_at : (s : Store) (q : Key) → is_some (find key_cmp q s.entries) ≡ not (value_at s q == 0)
-found_at s q = at (find key_cmp q s.entries) (not_found_zero key_cmp q s.entries (second (is_sorted key_cmp s.entries) (no_zeros s.entries) s.canonical)) ∙ ap (λ n. not (n == 0)) (sym (number_at-entries s q))
+found_at s q = at (find key_cmp q s.entries)
+    (not_found_zero key_cmp q s.entries (second (is_sorted key_cmp s.entries) (no_zeros s.entries) s.canonical))
+    ∙ ap (λ n. not (n == 0)) (sym (number_at-entries s q))
   where
     at : (o : Option ℕ) → o ≢ Some 0 → is_some o ≡ not (unwrap_or o 0 == 0)
     at None h = refl
@@ -60,15 +67,24 @@ found_at s q = at (find key_cmp q s.entries) (not_found_zero key_cmp q s.entries
     at (Some (suc n)) h = let e : (suc n == 0) ≡ false = grind (arith, nat_tests) in sym (ap not e)
 
 -- what differs is one of the keys of either store
-either : (n m : ℕ) (o : Option ℕ) → cond (not (m == 0)) (cond (n == m) (cond (not (n == 0)) (cond (n == m) None (Some m)) None) (Some m)) (cond (not (n == 0)) (cond (n == m) None (Some m)) None) ≡ cond (n == m) None (Some m)
+either : (n m : ℕ) (o : Option ℕ)
+    → cond (not (m == 0)) (cond (n == m) (cond (not (n == 0)) (cond (n == m) None (Some m)) None) (Some m))
+    (cond (not (n == 0)) (cond (n == m) None (Some m)) None) ≡ cond (n == m) None (Some m)
 either n m o = grind (arith, nat_tests)
 
 find-changes : (s t : Store) (q : Key) → find key_cmp q (changes s t) ≡ differs_at s t q
 find-changes s t q =
     find-among s t q (pairs_of t) (changed_among s t (pairs_of s) [])
-    ∙ ap (λ (r : Option ℕ). cond (is_some (find key_cmp q (pairs_of t))) (cond (value_at s q == value_at t q) r (Some (value_at t q))) r) (find-among s t q (pairs_of s) [])
-    ∙ ap (λ b. cond (is_some (find key_cmp q (pairs_of t))) (cond (value_at s q == value_at t q) (cond b (cond (value_at s q == value_at t q) None (Some (value_at t q))) None) (Some (value_at t q))) (cond b (cond (value_at s q == value_at t q) None (Some (value_at t q))) None)) (found_at s q)
-    ∙ ap (λ b. cond b (cond (value_at s q == value_at t q) (cond (not (value_at s q == 0)) (cond (value_at s q == value_at t q) None (Some (value_at t q))) None) (Some (value_at t q))) (cond (not (value_at s q == 0)) (cond (value_at s q == value_at t q) None (Some (value_at t q))) None)) (found_at t q)
+    ∙ ap (λ (r : Option ℕ). cond (is_some (find key_cmp q (pairs_of t)))
+    (cond (value_at s q == value_at t q) r (Some (value_at t q))) r) (find-among s t q (pairs_of s) [])
+    ∙ ap (λ b. cond (is_some (find key_cmp q (pairs_of t)))
+    (cond (value_at s q == value_at t q)
+    (cond b (cond (value_at s q == value_at t q) None (Some (value_at t q))) None) (Some (value_at t q)))
+    (cond b (cond (value_at s q == value_at t q) None (Some (value_at t q))) None)) (found_at s q)
+    ∙ ap (λ b. cond b (cond (value_at s q == value_at t q)
+    (cond (not (value_at s q == 0)) (cond (value_at s q == value_at t q) None (Some (value_at t q))) None)
+    (Some (value_at t q)))
+    (cond (not (value_at s q == 0)) (cond (value_at s q == value_at t q) None (Some (value_at t q))) None)) (found_at t q)
     ∙ either (value_at s q) (value_at t q) None
 
 -- WHAT IS PICKED
@@ -89,31 +105,41 @@ sorted_picked s t (e ∷ es) h = at (value_at t e.0 == value_at s e.0) (sorted_p
     at true r = r
     at false r = both _ _ (below_picked s t e.0 es (first (below_all key_cmp e.0 es) _ h)) r
 
-pick_one : (b c d : Bool) (o v w : Option ℕ) (n : ℕ) → (b ≡ true → d ≡ c) → (b ≡ true → v ≡ w) → cond c (cond (is_some o) (cond d None v) None) (cond b w (cond (is_some o) (cond d None v) None)) ≡ cond (is_some (cond b (Some n) o)) (cond d None v) None
+pick_one : (b c d : Bool) (o v w : Option ℕ) (n : ℕ) → (b ≡ true → d ≡ c) → (b ≡ true → v ≡ w)
+    → cond c (cond (is_some o) (cond d None v) None) (cond b w (cond (is_some o) (cond d None v) None))
+    ≡ cond (is_some (cond b (Some n) o)) (cond d None v) None
 pick_one false true d o v w n dc vw = refl
 pick_one false false d o v w n dc vw = refl
 pick_one true true d None v w n dc vw = ap (λ e. cond e None v) (sym (dc refl))
 pick_one true true d (Some m) v w n dc vw = refl
 pick_one true false d o v w n dc vw = sym (vw refl) ∙ ap (λ e. cond e None v) (sym (dc refl))
 
-find-picked : (s t : Store) (q : Key) (es : List (Key × ℕ)) → find key_cmp q (picked s t es) ≡ cond (is_some (find key_cmp q es)) (cond (value_at t q == value_at s q) None (Some (value_at t q))) None
+find-picked : (s t : Store) (q : Key) (es : List (Key × ℕ))
+    → find key_cmp q (picked s t es)
+    ≡ cond (is_some (find key_cmp q es)) (cond (value_at t q == value_at s q) None (Some (value_at t q))) None
 find-picked s t q [] = refl
 find-picked s t q (e ∷ es) =
     there (value_at t e.0 == value_at s e.0)
     ∙ ap (λ (r : Option ℕ). cond (value_at t e.0 == value_at s e.0) r (cond (eq_by_cmp key_cmp q e.0) (Some (value_at t e.0)) r)) (find-picked s t q es)
-    ∙ pick_one (eq_by_cmp key_cmp q e.0) (value_at t e.0 == value_at s e.0) (value_at t q == value_at s q) (find key_cmp q es) (Some (value_at t q)) (Some (value_at t e.0)) e.1
+    ∙ pick_one (eq_by_cmp key_cmp q e.0) (value_at t e.0 == value_at s e.0) (value_at t q == value_at s q)
+    (find key_cmp q es) (Some (value_at t q)) (Some (value_at t e.0)) e.1
     (λ b. ap (λ k. value_at t k == value_at s k) (same_key_eq q e.0 b))
     (λ b. ap (λ k. Some (value_at t k)) (same_key_eq q e.0 b))
   where
-    there : (c : Bool) → find key_cmp q (cond c (picked s t es) ((e.0, value_at t e.0) ∷ picked s t es)) ≡ cond c (find key_cmp q (picked s t es)) (cond (eq_by_cmp key_cmp q e.0) (Some (value_at t e.0)) (find key_cmp q (picked s t es)))
+    there : (c : Bool) → find key_cmp q (cond c (picked s t es) ((e.0, value_at t e.0) ∷ picked s t es))
+        ≡ cond c (find key_cmp q (picked s t es))
+        (cond (eq_by_cmp key_cmp q e.0) (Some (value_at t e.0)) (find key_cmp q (picked s t es)))
     there true = refl
     there false = refl
 
 -- an untouched key has the value that it had, and the others have it in what is written back alone
-kept_or_back : (es : List (Key × ℕ)) (t : Store) (q : Key) → cond (value_at (touched es empty) q == 0) (value_at (unwound es t) q ≡ value_at t q) (value_at (unwound es empty) q ≡ value_at (unwound es t) q)
+kept_or_back : (es : List (Key × ℕ)) (t : Store) (q : Key)
+    → cond (value_at (touched es empty) q == 0) (value_at (unwound es t) q ≡ value_at t q)
+    (value_at (unwound es empty) q ≡ value_at (unwound es t) q)
 kept_or_back [] t q = subst (λ n. cond (n == 0) (value_at t q ≡ value_at t q) (value_at empty q ≡ value_at t q)) (sym (value_at-empty q)) refl
 kept_or_back (e ∷ es) t q =
-    subst (λ n. cond (n == 0) (value_at (unwound (e ∷ es) t) q ≡ value_at t q) (value_at (unwound (e ∷ es) empty) q ≡ value_at (unwound (e ∷ es) t) q)) (sym (value_at-written (touched es empty) e.0 1 q))
+    subst (λ n. cond (n == 0) (value_at (unwound (e ∷ es) t) q ≡ value_at t q) (value_at (unwound (e ∷ es) empty) q
+    ≡ value_at (unwound (e ∷ es) t) q)) (sym (value_at-written (touched es empty) e.0 1 q))
     (at (kept_or_back es t q) (same_key q e.0) (value_at-written (unwound es t) e.0 e.1 q) (value_at-written (unwound es empty) e.0 e.1 q))
   where
     by : (c : Bool) → cond c (value_at (unwound es t) q ≡ value_at t q) (value_at (unwound es empty) q ≡ value_at (unwound es t) q)
@@ -122,8 +148,12 @@ kept_or_back (e ∷ es) t q =
     by true h w v = w ∙ h
     by false h w v = v ∙ h ∙ sym w
 
-    at : cond (value_at (touched es empty) q == 0) (value_at (unwound es t) q ≡ value_at t q) (value_at (unwound es empty) q ≡ value_at (unwound es t) q) → (b : Bool) → value_at (unwound (e ∷ es) t) q ≡ cond b e.1 (value_at (unwound es t) q) → value_at (unwound (e ∷ es) empty) q ≡ cond b e.1 (value_at (unwound es empty) q)
-        → cond (cond b 1 (value_at (touched es empty) q) == 0) (value_at (unwound (e ∷ es) t) q ≡ value_at t q) (value_at (unwound (e ∷ es) empty) q ≡ value_at (unwound (e ∷ es) t) q)
+    at : cond (value_at (touched es empty) q == 0) (value_at (unwound es t) q ≡ value_at t q)
+        (value_at (unwound es empty) q ≡ value_at (unwound es t) q) → (b : Bool)
+        → value_at (unwound (e ∷ es) t) q ≡ cond b e.1 (value_at (unwound es t) q) → value_at (unwound (e ∷ es) empty) q
+        ≡ cond b e.1 (value_at (unwound es empty) q)
+        → cond (cond b 1 (value_at (touched es empty) q) == 0) (value_at (unwound (e ∷ es) t) q ≡ value_at t q)
+        (value_at (unwound (e ∷ es) empty) q ≡ value_at (unwound (e ∷ es) t) q)
     at ih true w v = v ∙ sym w
     at ih false w v = by (value_at (touched es empty) q == 0) ih w v
 

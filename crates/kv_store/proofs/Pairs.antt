@@ -29,13 +29,23 @@ found_absent (x ∷ l) k no_key = grind (arith, nat_tests, no_key 0 (omega arith
 pub found_present : (l : Pairs) (k i : ℕ) → IsAt l k i → NoKeyBefore l k i → found l k ≡ Some (get_or l i (0, 0)).1
 found_present [] k i is_at no_key = absurd (omega (arith, is_at.in_range))
 found_present (x ∷ l) k zero is_at no_key = grind (arith, nat_tests, is_at.has_id)
-found_present (x ∷ l) k (suc i) is_at no_key = grind (arith, nat_tests, no_key 0 (omega arith), found_present l k i (is_at_tail x l k i is_at) (no_key_before_tail x l k i no_key))
+found_present (x ∷ l) k (suc i) is_at no_key = grind (
+  arith,
+  nat_tests,
+  no_key 0 (omega arith),
+  found_present l k i (is_at_tail x l k i is_at) (no_key_before_tail x l k i no_key),
+)
 
 -- writing over the first pair that has the key sets its value
 pub found_set : (l : Pairs) (k v i : ℕ) → IsAt l k i → NoKeyBefore l k i → GetsAfterSet l (set l i (k, v)) k v
 found_set [] k v i is_at no_key q = absurd (omega (arith, is_at.in_range))
 found_set (x ∷ l) k v zero is_at no_key q = grind (arith, nat_tests, is_at.has_id)
-found_set (x ∷ l) k v (suc i) is_at no_key q = grind (arith, nat_tests, no_key 0 (omega arith), found_set l k v i (is_at_tail x l k i is_at) (no_key_before_tail x l k i no_key) q)
+found_set (x ∷ l) k v (suc i) is_at no_key q = grind (
+  arith,
+  nat_tests,
+  no_key 0 (omega arith),
+  found_set l k v i (is_at_tail x l k i is_at) (no_key_before_tail x l k i no_key) q,
+)
 
 -- so does a new pair before any pair that has the key
 pub found-insert : (l : Pairs) (k v i : ℕ) → NoKeyBefore l k i → GetsAfterSet l (insert l i (k, v)) k v
@@ -51,7 +61,18 @@ no_key_from_tail : (x : ℕ × ℕ) (l : Pairs) (k i : ℕ) → NoKeyFrom (x ∷
 no_key_from_tail x l k i no_key j le lt = no_key (suc j) (omega arith) (omega arith)
 
 -- without the only pair that has the id nothing is found there
-pub found_removed : (l : Pairs) (k i : ℕ) → IsAt l k i → NoKeyBefore l k i → NoKeyFrom l k (suc i) → (q : ℕ) → found (remove l i) q ≡ (if eqb q k then None else found l q)
+pub found_removed : (l : Pairs) (k i : ℕ) → IsAt l k i → NoKeyBefore l k i → NoKeyFrom l k (suc i) → (q : ℕ)
+    → found (remove l i) q ≡ (if eqb q k then None else found l q)
 found_removed [] k i is_at before later q = absurd (omega (arith, is_at.in_range))
-found_removed (x ∷ l) k zero is_at before later q = grind (arith, nat_tests, is_at.has_id, found_absent l k (λ j lt. no_key_from_tail x l k 0 later j (omega arith) lt))
-found_removed (x ∷ l) k (suc i) is_at before later q = grind (arith, nat_tests, before 0 (omega arith), found_removed l k i (is_at_tail x l k i is_at) (no_key_before_tail x l k i before) (no_key_from_tail x l k (suc i) later) q)
+found_removed (x ∷ l) k zero is_at before later q = grind (
+  arith,
+  nat_tests,
+  is_at.has_id,
+  found_absent l k (λ j lt. no_key_from_tail x l k 0 later j (omega arith) lt),
+)
+found_removed (x ∷ l) k (suc i) is_at before later q = grind (
+  arith,
+  nat_tests,
+  before 0 (omega arith),
+  found_removed l k i (is_at_tail x l k i is_at) (no_key_before_tail x l k i before) (no_key_from_tail x l k (suc i) later) q,
+)

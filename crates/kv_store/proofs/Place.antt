@@ -1,11 +1,13 @@
 -- What a search finds among sorted pairs, and what an edit at that place does.
-use Rattle.std.proofs.Common.{◌≡◌, ℕ, ◌+◌, ◌-◌, ◌<◌, ◌≤◌, ◌==◌, if◌then◌else◌, length, get_or, set, Some, None, Result, Ok, Err, IfOk, IfErr, sym, ap, subst, arith}
+use Rattle.std.proofs.Common.{◌≡◌, ℕ, ◌+◌, ◌-◌, ◌<◌, ◌≤◌, ◌==◌, if◌then◌else◌, length, get_or, set, Some, None, Result}
+use Rattle.std.proofs.Common.{Ok, Err, IfOk, IfErr, sym, ap, subst, arith}
 use Rattle.std.specs.List.{insert, remove}
 use Rattle.std.specs.List.Sorted.{IsSearchInRange, IsBinarySearchResult, IsNonDecreasingBy}
 use Rattle.std.specs.Ordering.{nat_cmp, ordering_index}
 use Rattle.std.proofs.lemmas.Cmp.{ranked}
 use Rattle.std.proofs.lemmas.List.Sorted.{IsNonDecreasingBy-from_default}
-use Rattle.std.proofs.lemmas.List.Edits.{length-insert, get_or-insert_below, get_or-insert_at, get_or-insert_above, length-remove, get_or-remove_below, get_or-remove_above}
+use Rattle.std.proofs.lemmas.List.Edits.{length-insert, get_or-insert_below, get_or-insert_at, get_or-insert_above}
+use Rattle.std.proofs.lemmas.List.Edits.{length-remove, get_or-remove_below, get_or-remove_above}
 use Rattle.std.proofs.lemmas.Bool.Decides.{nat_tests}
 use Rattle.std.proofs.lemmas.Grind.{common_steps}
 use Rattle.kv_store.specs.Columns.{Pairs, found, id_at, IsRising, IsAt, IsGapFor}
@@ -19,7 +21,8 @@ module _ (l : Pairs) (sorted : IsRising l) (k : ℕ) where
       grind (arith, nat_tests))
 
   -- a binary search by key ends at the key, or at the gap for it
-  pub searched : (r : Result ℕ ℕ) → IsSearchInRange r (length l) → IsBinarySearchResult (λ pair. nat_cmp pair.0 k) l r → record { found : IfOk r (IsAt l k); absent : IfErr r (IsGapFor l k) }
+  pub searched : (r : Result ℕ ℕ) → IsSearchInRange r (length l) → IsBinarySearchResult (λ pair. nat_cmp pair.0 k) l r
+      → record { found : IfOk r (IsAt l k); absent : IfErr r (IsGapFor l k) }
   searched (Ok at) in_range equal = record { found = record { in_range = in_range; has_id = ranked _ k _ (sym (equal (0, 0))) }; absent = tt }
   searched (Err at) in_range parted = record {
     found = tt;
@@ -78,8 +81,23 @@ module _ (l : Pairs) (k at : ℕ) (gap : IsGapFor l k at) where
       let length_new = length-insert l at (k, v) gap.in_range in
       let key_below : (i : ℕ) → i < at → id_at new i ≡ id_at l i = λ i below. ap key (get_or-insert_below l at (k, v) (0, 0) i below gap.in_range) in
       let key_here : (i : ℕ) → i ≡ at → id_at new i ≡ k = λ i here. rw here (ap key (get_or-insert_at l at (k, v) (0, 0) gap.in_range)) in
-      let key_above : (i : ℕ) → at < i → id_at new i ≡ id_at l (i - 1) = λ i above. subst (λ q. id_at new q ≡ id_at l (i - 1)) {x = i - 1 + 1} (omega arith) (ap key (get_or-insert_above l at (k, v) (0, 0) (i - 1) (omega arith) gap.in_range)) in
-      grind (arith, key_below i, key_here i, key_above i, key_below j, key_here j, key_above j, sorted i j, sorted i (j - 1), sorted (i - 1) (j - 1), gap.smaller_before i, gap.greater_after (j - 1))
+      let key_above : (i : ℕ) → at < i → id_at new i ≡ id_at l (i - 1) = λ i above. subst (λ q. id_at new q
+      ≡ id_at l (i - 1)) {x = i - 1 + 1} (omega arith)
+      (ap key (get_or-insert_above l at (k, v) (0, 0) (i - 1) (omega arith) gap.in_range)) in
+      grind (
+        arith,
+        key_below i,
+        key_here i,
+        key_above i,
+        key_below j,
+        key_here j,
+        key_above j,
+        sorted i j,
+        sorted i (j - 1),
+        sorted (i - 1) (j - 1),
+        gap.smaller_before i,
+        gap.greater_after (j - 1),
+      )
 
 -- where the id has a gap, taking it out changes nothing
 pub takes_none : (l : Pairs) (k at : ℕ) → IsGapFor l k at → (q : ℕ) → found l q ≡ (if q == k then None else found l q)

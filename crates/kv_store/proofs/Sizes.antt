@@ -33,7 +33,8 @@ size-written s k v = let e = ap (λ x. length x) (entries-with_number key_cmp_to
 pub size-new : (s : Store) (k : Key) (v : ℕ) → 0 < v → find key_cmp k s.entries ≡ None → size (written s k v) ≡ size s + 1
 size-new s k v pos none = ap (λ x. length x) (entries-with_number key_cmp_total s k v) ∙ at (v == 0) (eqb_tells v 0)
   where
-    at : (b : Bool) → ((b ≡ true) × (v ≡ 0)) ⊎ ((b ≡ false) × (v ≢ 0)) → length (cond b (where_key key_cmp (λ q. not (eq_by_cmp key_cmp k q)) s.entries) (put key_cmp k v s.entries)) ≡ size s + 1
+    at : (b : Bool) → ((b ≡ true) × (v ≡ 0)) ⊎ ((b ≡ false) × (v ≢ 0))
+        → length (cond b (where_key key_cmp (λ q. not (eq_by_cmp key_cmp k q)) s.entries) (put key_cmp k v s.entries)) ≡ size s + 1
     at true (inl z) = let e = z.1 in absurd (omega arith)
     at true (inr z) = cc
     at false z = length-put key_cmp key_cmp_total k v s.entries (sorted s) ∙ ap (λ (o : Option ℕ). cond (is_some o) (size s) (size s + 1)) none

@@ -1,5 +1,6 @@
 -- What taking puts back gives.
-use Rattle.std.proofs.Common.{◌≡◌, ℕ, zero, suc, ◌<◌, ◌≤◌, Bool, true, false, cond, List, [], ◌∷◌, ◌++◌, length, get_or, take, drop, max, refl, sym, ap, subst, ◌∙◌, arith, take-append-drop}
+use Rattle.std.proofs.Common.{◌≡◌, ℕ, zero, suc, ◌<◌, ◌≤◌, Bool, true, false, cond, List, [], ◌∷◌, ◌++◌, length, get_or}
+use Rattle.std.proofs.Common.{take, drop, max, refl, sym, ap, subst, ◌∙◌, arith, take-append-drop}
 use Rattle.std.proofs.lemmas.List.{drop-append-le, take-take}
 use Rattle.aeg_base.specs.declared.names.Key.{Key}
 use Rattle.aeg_base.specs.Store.{Store, same_key, value_at, written}
@@ -32,7 +33,8 @@ pub stays_last : (top : ℕ) (es : List (Key × ℕ)) (e : Key × ℕ) (s : Stor
 stays_last top [] e s h = h.1
 stays_last top (x ∷ es) e s h = stays_last top es e s h.0
 
-pub stays_after : (top top' : ℕ) (es : List (Key × ℕ)) (s : Store) (k : Key) (v : ℕ) → StaysWithin top es s → top ≤ top' → size s ≤ top' → StaysWithin top' (es ++ (k, value_at s k) ∷ []) (written s k v)
+pub stays_after : (top top' : ℕ) (es : List (Key × ℕ)) (s : Store) (k : Key) (v : ℕ) → StaysWithin top es s → top ≤ top'
+    → size s ≤ top' → StaysWithin top' (es ++ (k, value_at s k) ∷ []) (written s k v)
 stays_after top top' [] s k v h le fits = (tt, subst (λ t. size t ≤ top') (sym (written_back s k v)) fits)
 stays_after top top' (x ∷ es) s k v h le fits =
     (stays_after top top' es s k v h.0 le fits, subst (λ t. size t ≤ top') (sym (start_kept (x ∷ es) s k v)) (let m = h.1 in omega arith))
@@ -54,17 +56,20 @@ unwound-append [] ys s = refl
 unwound-append (x ∷ xs) ys s = ap (λ t. written t x.0 x.1) (unwound-append xs ys s)
 
 -- what is left of a list is taken back after what was
-pub undone_more : (all es : List (Key × ℕ)) (m : ℕ) (s : Store) → es ≡ take (length es) all → m ≤ length es → unwound (drop m es) (unwound (drop (length es) all) s) ≡ unwound (drop m all) s
+pub undone_more : (all es : List (Key × ℕ)) (m : ℕ) (s : Store) → es ≡ take (length es) all → m ≤ length es
+    → unwound (drop m es) (unwound (drop (length es) all) s) ≡ unwound (drop m all) s
 undone_more all es m s e le =
     sym (unwound-append (drop m es) (drop (length es) all) s)
-    ∙ ap (λ xs. unwound xs s) (sym (drop-append-le m es (drop (length es) all) le) ∙ ap (drop m) (ap (λ xs. xs ++ drop (length es) all) e ∙ take-append-drop (length es) all))
+    ∙ ap (λ xs. unwound xs s) (sym (drop-append-le m es (drop (length es) all) le)
+    ∙ ap (drop m) (ap (λ xs. xs ++ drop (length es) all) e ∙ take-append-drop (length es) all))
 
 -- a front of a front
 pub front_more : {A : Type 0} (all es fs : List A) → es ≡ take (length es) all → fs ≡ take (length fs) es → length fs ≤ length es → fs ≡ take (length fs) all
 front_more all es fs e f le = f ∙ ap (take (length fs)) e ∙ take-take (length fs) (length es) all le
 
 -- what a put and its entry leave
-module _ (es es' : List (Key × ℕ)) (s s' : Store) (k : Key) (v held : ℕ) (put : s' ≡ written s k v) (is : held ≡ value_at s k) (log : es' ≡ es ++ (k, held) ∷ []) where
+module _ (es es' : List (Key × ℕ)) (s s' : Store) (k : Key) (v held : ℕ) (put : s' ≡ written s k v)
+    (is : held ≡ value_at s k) (log : es' ≡ es ++ (k, held) ∷ []) where
   both : unwound es' s' ≡ unwound (es ++ (k, value_at s k) ∷ []) (written s k v)
   both = ap (λ xs. unwound xs s') (log ∙ ap (λ n. es ++ (k, n) ∷ []) is) ∙ ap (unwound (es ++ (k, value_at s k) ∷ [])) put
 
@@ -74,7 +79,8 @@ module _ (es es' : List (Key × ℕ)) (s s' : Store) (k : Key) (v held : ℕ) (p
   pub logged_stays : (top top' : ℕ) → top ≤ top' → size s ≤ top' → StaysWithin top es s → StaysWithin top' es' s'
   logged_stays top top' le fits h =
       subst (λ (t : Store). StaysWithin top' es' t) (sym put)
-      (subst (λ (xs : List (Key × ℕ)). StaysWithin top' xs (written s k v)) (sym (log ∙ ap (λ n. es ++ (k, n) ∷ []) is)) (stays_after top top' es s k v h le fits))
+      (subst (λ (xs : List (Key × ℕ)). StaysWithin top' xs (written s k v)) (sym (log ∙ ap (λ n. es ++ (k, n) ∷ []) is))
+      (stays_after top top' es s k v h le fits))
 
 pub top_above : (top' top most : ℕ) → top' ≡ max top most → top ≤ top'
 top_above top' top most e = omega arith

@@ -21,7 +21,9 @@ pub record Logged : Type 0 where
   pub top : ℕ
 
 abbrev pub logged_code : Coded Logged
-logged_code = code_by (List (Key × ℕ) × (ℕ × ℕ)) (coded× (coded_list (coded× key_code coded_ℕ)) (coded× coded_ℕ coded_ℕ)) (λ l. (l.entries, (l.room, l.top))) (λ p. record { entries = p.0; room = (p.1).0; top = (p.1).1 }) (λ _. refl)
+logged_code = code_by (List (Key × ℕ)
+    × (ℕ × ℕ)) (coded× (coded_list (coded× key_code coded_ℕ)) (coded× coded_ℕ coded_ℕ))
+    (λ l. (l.entries, (l.room, l.top))) (λ p. record { entries = p.0; room = (p.1).0; top = (p.1).1 }) (λ _. refl)
 
 -- how many pairs the store has
 abbrev pub size : Store → ℕ

@@ -1,6 +1,7 @@
 -- Lists, counts and tests.
 pub use Rattle.std.specs.List.{AllByRecursion as Every}
-use Rattle.std.proofs.Common.{◌≡◌, ℕ, ◌+◌, ◌<◌, ◌≤◌, Bool, true, false, cond, List, [], ◌∷◌, ◌++◌, length, length-append, refl, ap, subst, inl, inr, arith, Some, None, zero, suc, get_or, set}
+use Rattle.std.proofs.Common.{◌≡◌, ℕ, ◌+◌, ◌<◌, ◌≤◌, Bool, true, false, cond, List, [], ◌∷◌, ◌++◌, length}
+use Rattle.std.proofs.Common.{length-append, refl, ap, subst, inl, inr, arith, Some, None, zero, suc, get_or, set}
 use Rattle.std.specs.Prelude.{slice_get, nat_lt, ◌⊎◌, ◌==◌, ◌||◌, replicate}
 use Rattle.std.proofs.lemmas.Bool.{cases_eq, cond_both, cond-false, eq-eqb, ltb-false, ne_eqb}
 use Rattle.aeg_base.specs.declared.names.Ballot.{Ballot}
@@ -27,7 +28,8 @@ get_left [] ys k x e = absurd (cc)
 get_left (y ∷ xs) ys zero x e = e
 get_left (y ∷ xs) ys (suc k) x e = get_left xs ys k x e
 
-pub get_cases : {X : Type 0} (xs ys : List X) (i : ℕ) (a : X) → slice_get (xs ++ ys) i ≡ Some a → (slice_get xs i ≡ Some a) ⊎ ((j : ℕ) × (slice_get ys j ≡ Some a))
+pub get_cases : {X : Type 0} (xs ys : List X) (i : ℕ) (a : X) → slice_get (xs ++ ys) i ≡ Some a
+    → (slice_get xs i ≡ Some a) ⊎ ((j : ℕ) × (slice_get ys j ≡ Some a))
 get_cases [] ys i a e = inr (i, e)
 get_cases (x ∷ xs) ys zero a e = inl e
 get_cases (x ∷ xs) ys (suc i) a e = get_cases xs ys i a e
@@ -42,7 +44,8 @@ pub get_end : {X : Type 0} (xs : List X) (a : X) → slice_get (xs ++ a ∷ []) 
 get_end [] a = refl
 get_end (x ∷ xs) a = get_end xs a
 
-pub get_push : {X : Type 0} (xs : List X) (y : X) (k : ℕ) (x : X) → slice_get (xs ++ y ∷ []) k ≡ Some x → (slice_get xs k ≡ Some x) ⊎ ((k ≡ length xs) × (y ≡ x))
+pub get_push : {X : Type 0} (xs : List X) (y : X) (k : ℕ) (x : X) → slice_get (xs ++ y ∷ []) k ≡ Some x
+    → (slice_get xs k ≡ Some x) ⊎ ((k ≡ length xs) × (y ≡ x))
 get_push [] y zero x e = inr (refl, cc)
 get_push [] y (suc k) x e = absurd (cc)
 get_push (z ∷ xs) y zero x e = inl e
@@ -105,7 +108,8 @@ count-one (suc n) a f l e = go (cases_eq a n) (count-one n a f)
         let h : ◌≡◌ {A = ℕ} (cond ((a == m) || f m) 1 0) (cond (f m) 1 0) = rw g refl in
         omega (arith, h, same m (omega arith))
 
-    go : (a ≡ n) ⊎ (a ≡ n → ⊥) → (a < n → f a ≡ false → count_below n (λ c. (a == c) || f c) ≡ suc (count_below n f)) → cond ((a == n) || f n) 1 0 + count_below n (λ c. (a == c) || f c) ≡ suc (cond (f n) 1 0 + count_below n f)
+    go : (a ≡ n) ⊎ (a ≡ n → ⊥) → (a < n → f a ≡ false → count_below n (λ c. (a == c) || f c) ≡ suc (count_below n f))
+        → cond ((a == n) || f n) 1 0 + count_below n (λ c. (a == c) || f c) ≡ suc (cond (f n) 1 0 + count_below n f)
     go (inl g) rec =
         let z : ◌≡◌ {A = ℕ} (cond (f n) 1 0) 0 = cond-false {A = ℕ} (f n) 1 0 (subst (λ z. f z ≡ false) g e) in
         omega (arith, here (eq-eqb a n g), same n (omega arith), z)

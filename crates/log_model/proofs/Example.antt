@@ -18,5 +18,6 @@ early : chosen 1 three 0 ≡ None
 unfolding three
 early = refl
 
-taken : chosen {V = ℕ} 1 (Restart 0 (Some 0) ∷ Restart 1 (Some 0) ∷ Restart 2 (Some 0) ∷ Lead 0 Fine ∷ Deliver 0 Fine ∷ Deliver 2 Fine ∷ Offer 0 (Some 7) Fine ∷ Deliver 3 Fine ∷ []) 0 ≡ Some 7
+taken : chosen {V = ℕ} 1 (Restart 0 (Some 0) ∷ Restart 1 (Some 0) ∷ Restart 2 (Some 0) ∷ Lead 0 Fine ∷ Deliver 0 Fine
+    ∷ Deliver 2 Fine ∷ Offer 0 (Some 7) Fine ∷ Deliver 3 Fine ∷ []) 0 ≡ Some 7
 taken = refl

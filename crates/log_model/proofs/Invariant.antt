@@ -104,7 +104,8 @@ report-grew {V} F G b p a m r = record {
     old q d w le lt (inl v) = r.votes q d w le v lt
     old q d w le lt (inr up) = absurd (omega (arith, r.top, up, lt))
 
-pub backed-grew : {V : Type 0} (u : ℕ) (h g : ℕ → List (Fact V)) (b : Ballot) (p : ℕ) (a : Option (Ballot × V)) → AllGrew h g → IsBacked u h b p a → IsBacked u g b p a
+pub backed-grew : {V : Type 0} (u : ℕ) (h g : ℕ → List (Fact V)) (b : Ballot) (p : ℕ) (a : Option (Ballot × V))
+    → AllGrew h g → IsBacked u h b p a → IsBacked u g b p a
 backed-grew u h g b p None m k = tt
 backed-grew u h g b p (Some a) m k = (k.0, (k.1.0, k.1.1, (m.at k.1.0).votes p a.0 a.1 k.1.2))
 
@@ -118,7 +119,8 @@ safe-grew {V} u h g p b v m s = record {
   origin = later s.origin;
 }
   where
-    old : (a : ℕ) → a < 2 * u + 1 → s.quorum a ≡ true → (d : Ballot) (w : V) → key d < key b → DidVote (h a) p d w ⊎ (key (promised_in (h a)) ≤ key d) → key d < s.bound
+    old : (a : ℕ) → a < 2 * u + 1 → s.quorum a ≡ true → (d : Ballot) (w : V) → key d < key b → DidVote (h a) p d w
+        ⊎ (key (promised_in (h a)) ≤ key d) → key d < s.bound
     old a lt q d w k (inl t) = s.below a lt q d w t k
     old a lt q d w k (inr up) = absurd (omega (arith, s.above a lt q, up, k))
 
@@ -140,7 +142,8 @@ soup-append u xs ys = record { meets = λ p v m. meets-append u xs ys p v m; sen
 pub soup-refl : {V : Type 0} (u : ℕ) (xs : List (Packet V)) → SoupGrew u xs xs
 soup-refl u xs = record { meets = λ p v m. m; sent = λ p b x e. e }
 
-pub msg-grew : {V : Type 0} (u : ℕ) (h g : ℕ → List (Fact V)) (xs ys : List (Packet V)) (from : ℕ) (m : PaxMsg V) → AllGrew h g → SoupGrew u xs ys → MsgOk u h xs from m → MsgOk u g ys from m
+pub msg-grew : {V : Type 0} (u : ℕ) (h g : ℕ → List (Fact V)) (xs ys : List (Packet V)) (from : ℕ) (m : PaxMsg V)
+    → AllGrew h g → SoupGrew u xs ys → MsgOk u h xs from m → MsgOk u g ys from m
 msg-grew u h g xs ys from (Prepare b p) m s k = (k.0, (m.at b.node).promises b p k.1, k.2)
 msg-grew u h g xs ys from (Promise b p a) m s k = record {
   owner_in = k.owner_in;
@@ -154,18 +157,22 @@ msg-grew u h g xs ys from (Learn p v) m s k = s.meets p v k
 msg-grew u h g xs ys from (Ask p) m s k = tt
 msg-grew u h g xs ys from (Behind p) m s k = tt
 
-pub packets-grew : {V : Type 0} (u : ℕ) (h g : ℕ → List (Fact V)) (xs ys ks : List (Packet V)) → AllGrew h g → SoupGrew u xs ys → Every (PacketOk u h xs) ks → Every (PacketOk u g ys) ks
+pub packets-grew : {V : Type 0} (u : ℕ) (h g : ℕ → List (Fact V)) (xs ys ks : List (Packet V)) → AllGrew h g
+    → SoupGrew u xs ys → Every (PacketOk u h xs) ks → Every (PacketOk u g ys) ks
 packets-grew u h g xs ys ks m s e = every-weaker (PacketOk u h xs) (PacketOk u g ys) (λ k o. msg-grew u h g xs ys k.from k.msg m s o) ks e
 
-pub sends-grew : {V : Type 0} (u : ℕ) (h g : ℕ → List (Fact V)) (xs ys : List (Packet V)) (x : ℕ) (sends : List (ℕ × PaxMsg V)) → AllGrew h g → SoupGrew u xs ys → Every (SendOk u h xs x) sends → Every (SendOk u g ys x) sends
+pub sends-grew : {V : Type 0} (u : ℕ) (h g : ℕ → List (Fact V)) (xs ys : List (Packet V)) (x : ℕ)
+    (sends : List (ℕ × PaxMsg V)) → AllGrew h g → SoupGrew u xs ys → Every (SendOk u h xs x) sends → Every (SendOk u g ys x) sends
 sends-grew u h g xs ys x sends m s e = every-weaker (SendOk u h xs x) (SendOk u g ys x) (λ k o. msg-grew u h g xs ys x k.1 m s o) sends e
 
 -- the messages that x sends, as packets
-pub posted : {V : Type 0} (u : ℕ) (h : ℕ → List (Fact V)) (soup : List (Packet V)) (x : ℕ) (sends : List (ℕ × PaxMsg V)) → Every (SendOk u h soup x) sends → Every (PacketOk u h soup) (packets_of x sends)
+pub posted : {V : Type 0} (u : ℕ) (h : ℕ → List (Fact V)) (soup : List (Packet V)) (x : ℕ) (sends : List (ℕ × PaxMsg V))
+    → Every (SendOk u h soup x) sends → Every (PacketOk u h soup) (packets_of x sends)
 posted u h soup x [] e = tt
 posted u h soup x (s ∷ sends) e = (e.0, posted u h soup x sends e.1)
 
-pub leader-grew : {V : Type 0} (u : ℕ) (h g : ℕ → List (Fact V)) (F : List (Fact V)) (x : ℕ) (log : LogState V) (o : Option (Leader V)) → AllGrew h g → IfSome o (λ l. LeaderOk u h F x log l) → IfSome o (λ l. LeaderOk u g F x log l)
+pub leader-grew : {V : Type 0} (u : ℕ) (h g : ℕ → List (Fact V)) (F : List (Fact V)) (x : ℕ) (log : LogState V)
+    (o : Option (Leader V)) → AllGrew h g → IfSome o (λ l. LeaderOk u h F x log l) → IfSome o (λ l. LeaderOk u g F x log l)
 leader-grew u h g F x log None m k = tt
 leader-grew u h g F x log (Some l) m k = record {
   is_promised = k.is_promised;
@@ -177,7 +184,8 @@ leader-grew u h g F x log (Some l) m k = record {
 }
 
 -- a state that the event leaves as it is
-pub state-grew : {V : Type 0} (u : ℕ) (h g : ℕ → List (Fact V)) (F : List (Fact V)) (xs ys : List (Packet V)) (x : ℕ) (log : LogState V) → AllGrew h g → SoupGrew u xs ys → StateOk u h F xs x log → StateOk u g F ys x log
+pub state-grew : {V : Type 0} (u : ℕ) (h g : ℕ → List (Fact V)) (F : List (Fact V)) (xs ys : List (Packet V)) (x : ℕ)
+    (log : LogState V) → AllGrew h g → SoupGrew u xs ys → StateOk u h F xs x log → StateOk u g F ys x log
 state-grew u h g F xs ys x log m s k = record {
   promised = k.promised;
   accepted = k.accepted;
@@ -206,7 +214,8 @@ pub all_trans : {V : Type 0} (f g h : ℕ → List (Fact V)) → AllGrew f g →
 all_trans f g h a b = record { at = λ y. grew-trans (f y) (g y) (h y) (a.at y) (b.at y) }
 
 -- a turn is still right after other nodes wrote and sent more
-pub turn-grew : {V : Type 0} (u : ℕ) (h g : ℕ → List (Fact V)) (xs ys : List (Packet V)) (x : ℕ) (t : Turn V) → AllGrew h g → SoupGrew u xs ys → g x ≡ h x → TurnOk u h xs x t → TurnOk u g ys x t
+pub turn-grew : {V : Type 0} (u : ℕ) (h g : ℕ → List (Fact V)) (xs ys : List (Packet V)) (x : ℕ) (t : Turn V)
+    → AllGrew h g → SoupGrew u xs ys → g x ≡ h x → TurnOk u h xs x t → TurnOk u g ys x t
 turn-grew {V} u h g xs ys x t m s e k = record {
   orderly = rw e k.orderly;
   rest = λ f same n. rw e (later f (same ∙ ap (onto t.facts) e) (all_trans h g f m n));

@@ -1,5 +1,6 @@
 -- The rows that vote and learn are right by themselves.
-use Rattle.std.proofs.Common.{◌≡◌, ℕ, ◌+◌, ◌*◌, ◌<◌, ◌≤◌, Bool, true, false, cond, List, [], ◌∷◌, ◌++◌, length, refl, sym, ap, ◌∙◌, subst, inl, inr, arith, Option, Some, None, zero, suc}
+use Rattle.std.proofs.Common.{◌≡◌, ℕ, ◌+◌, ◌*◌, ◌<◌, ◌≤◌, Bool, true, false, cond, List, [], ◌∷◌, ◌++◌, length, refl}
+use Rattle.std.proofs.Common.{sym, ap, ◌∙◌, subst, inl, inr, arith, Option, Some, None, zero, suc}
 use Rattle.std.specs.Prelude.{slice_get, nat_lt, nat_le, ◌==◌, ◌⊎◌, IfSome}
 use Rattle.std.proofs.lemmas.Bool.{cond_both, eq-eqb, ltb-true, leb-false, cond-true, and_from, lt-ltb, false_from_ne_true}
 use Rattle.aeg_base.specs.Ballots.{same_ballot, is_below}
@@ -10,8 +11,10 @@ use Rattle.log_model.specs.declared.fact.Fact.TheVariants.{Accepted as Voted, Le
 use Rattle.log_model.specs.declared.message.PaxMsg.{PaxMsg}
 use Rattle.log_model.specs.declared.message.PaxMsg.TheVariants.{Prepare, Promise, Accept, Accepted, Ask, Learn, Behind}
 use Rattle.log_model.specs.declared.turn.LogIdle.TheVariants.{Stale, Behind as IsBehind, Nothing}
-use Rattle.log_model.specs.Log.{Leader, LogState, open_at, has, seen_at, count_below, to_each, nobody, is, is_at, has_ballot, is_ballot, is_from, noted, with_ballot}
-use Rattle.log_model.specs.Rows.{promised_by, to_offer, offers, offer_as, kept_leader, accepts, says_again, on_accept, learns, learned_turn, notes, on_accepted, on_learn, on_ask, on_msg}
+use Rattle.log_model.specs.Log.{Leader, LogState, open_at, has, seen_at, count_below, to_each, nobody, is, is_at}
+use Rattle.log_model.specs.Log.{has_ballot, is_ballot, is_from, noted, with_ballot}
+use Rattle.log_model.specs.Rows.{promised_by, to_offer, offers, offer_as, kept_leader, accepts, says_again, on_accept}
+use Rattle.log_model.specs.Rows.{learns, learned_turn, notes, on_accepted, on_learn, on_ask, on_msg}
 use Rattle.log_model.specs.Recover.{promised_in, learned_in, accepted_in}
 use Rattle.log_model.specs.World.{Packet}
 use Rattle.log_model.specs.Chosen.{is_vote, has_sent, Meets}
@@ -24,21 +27,26 @@ use Rattle.log_model.proofs.Rows.{Known, votes_kept, promised_small, stays_ok, o
 
 -- A VOTE
 
-accepted_vote : {V : Type 0} (u : ℕ) (h : ℕ → List (Fact V)) (soup : List (Packet V)) (x : ℕ) (log : LogState V) → Known u h soup x log → IfSome log.accepted (λ c. DidVote (h x) (opening (h x)) c.0 c.1)
+accepted_vote : {V : Type 0} (u : ℕ) (h : ℕ → List (Fact V)) (soup : List (Packet V)) (x : ℕ) (log : LogState V)
+    → Known u h soup x log → IfSome log.accepted (λ c. DidVote (h x) (opening (h x)) c.0 c.1)
 accepted_vote u h soup x log k = rw k.state.accepted (accepted_voted (h x) (opening (h x)))
 
 -- the votes of x, with one more
-votes_with : {V : Type 0} (u : ℕ) (h g : ℕ → List (Fact V)) (soup : List (Packet V)) (x : ℕ) (log : LogState V) (q : ℕ) (c : Ballot) (w : V) → Known u h soup x log → AllGrew h g → VoteOk u g q c w
+votes_with : {V : Type 0} (u : ℕ) (h g : ℕ → List (Fact V)) (soup : List (Packet V)) (x : ℕ) (log : LogState V) (q : ℕ)
+    (c : Ballot) (w : V) → Known u h soup x log → AllGrew h g → VoteOk u g q c w
     → (p : ℕ) (b : Ballot) (v : V) → DidVote (Voted q c w ∷ h x) p b v → VoteOk u g p b v
 votes_with u h g soup x log q c w k m new p b v (inl e) = rw (e.0, e.1, e.2) new
 votes_with u h g soup x log q c w k m new p b v (inr d) = votes_kept u h g soup x log k m p b v d
 
 -- the state after a vote at the open position
-vote_accepted : {V : Type 0} (F : List (Fact V)) (log : LogState V) (p : ℕ) (b : Ballot) (v : V) → log.learned ≡ learned_in F → p ≡ open_at log → Some (b, v) ≡ accepted_in (opening F) (Voted p b v ∷ F)
+vote_accepted : {V : Type 0} (F : List (Fact V)) (log : LogState V) (p : ℕ) (b : Ballot) (v : V)
+    → log.learned ≡ learned_in F → p ≡ open_at log → Some (b, v) ≡ accepted_in (opening F) (Voted p b v ∷ F)
 vote_accepted F log p b v el e = sym (cond-true (p == opening F) (Some (b, v)) (accepted_in (opening F) F) (eq-eqb p (opening F) (e ∙ ap length el)))
 
-offers_ok : {V : Type 0} (u : ℕ) (h : ℕ → List (Fact V)) (soup : List (Packet V)) (x : ℕ) (log : LogState V) (l : Leader V) (own : Option V) (v : V) → Known u h soup x log → LeaderOk u h (h x) x log l
-    → u < count_below (2 * u + 1) (has l.promisers) → is_at l.last (open_at log) ≡ false → to_offer (open_at log) l own ≡ Some v → TurnOk u h soup x (offers u x log l (Some v))
+offers_ok : {V : Type 0} (u : ℕ) (h : ℕ → List (Fact V)) (soup : List (Packet V)) (x : ℕ) (log : LogState V)
+    (l : Leader V) (own : Option V) (v : V) → Known u h soup x log → LeaderOk u h (h x) x log l
+    → u < count_below (2 * u + 1) (has l.promisers) → is_at l.last (open_at log) ≡ false
+    → to_offer (open_at log) l own ≡ Some v → TurnOk u h soup x (offers u x log l (Some v))
 offers_ok {V} u h soup x log l own v k lo many idle e = record { orderly = (ap length k.state.learned, le, low, o, small); rest = after }
   where
     small : l.ballot.node < 256
@@ -103,12 +111,15 @@ offers_ok {V} u h soup x log l own v k lo many idle e = record { orderly = (ap l
         new : VoteOk u g f b v
         new = record { owner_in = rw lo.mine k.inside; owner = subst (λ y. DidVote (g y) f b v) (sym lo.mine) mine; safe = safe-grew u h g f b v m safe }
 
-offers_any : {V : Type 0} (u : ℕ) (h : ℕ → List (Fact V)) (soup : List (Packet V)) (x : ℕ) (log : LogState V) (l : Leader V) (own : Option V) (w : Option V) → Known u h soup x log → LeaderOk u h (h x) x log l
-    → u < count_below (2 * u + 1) (has l.promisers) → is_at l.last (open_at log) ≡ false → to_offer (open_at log) l own ≡ w → TurnOk u h soup x (offers u x log l w)
+offers_any : {V : Type 0} (u : ℕ) (h : ℕ → List (Fact V)) (soup : List (Packet V)) (x : ℕ) (log : LogState V)
+    (l : Leader V) (own : Option V) (w : Option V) → Known u h soup x log → LeaderOk u h (h x) x log l
+    → u < count_below (2 * u + 1) (has l.promisers) → is_at l.last (open_at log) ≡ false
+    → to_offer (open_at log) l own ≡ w → TurnOk u h soup x (offers u x log l w)
 offers_any u h soup x log l own None k lo many idle e = stays_ok u h soup x log k
 offers_any u h soup x log l own (Some v) k lo many idle e = offers_ok u h soup x log l own v k lo many idle e
 
-pub offer_ok : {V : Type 0} (u : ℕ) (h : ℕ → List (Fact V)) (soup : List (Packet V)) (x : ℕ) (log : LogState V) (o : Option (Leader V)) (own : Option V) → Known u h soup x log
+pub offer_ok : {V : Type 0} (u : ℕ) (h : ℕ → List (Fact V)) (soup : List (Packet V)) (x : ℕ) (log : LogState V)
+    (o : Option (Leader V)) (own : Option V) → Known u h soup x log
     → IfSome o (λ l. LeaderOk u h (h x) x log l) → TurnOk u h soup x (offer_as u x log o own)
 offer_ok u h soup x log None own k lo = stays_ok u h soup x log k
 offer_ok u h soup x log (Some l) own k lo =
@@ -119,15 +130,18 @@ offer_ok u h soup x log (Some l) own k lo =
 
 -- ACCEPT
 
-again_ok : {V : Type 0} (u : ℕ) (h : ℕ → List (Fact V)) (soup : List (Packet V)) (x : ℕ) (b : Ballot) (p : ℕ) (a : Option (Ballot × V)) → u < 128 → x < 2 * u + 1 → b.node < 2 * u + 1 → History u h soup
+again_ok : {V : Type 0} (u : ℕ) (h : ℕ → List (Fact V)) (soup : List (Packet V)) (x : ℕ) (b : Ballot) (p : ℕ)
+    (a : Option (Ballot × V)) → u < 128 → x < 2 * u + 1 → b.node < 2 * u + 1 → History u h soup
     → IfSome a (λ c. DidVote (h x) p c.0 c.1) → has_ballot b a ≡ true → (g : ℕ → List (Fact V)) → AllGrew h g → Every (SendOk u g soup x) (says_again u b p a)
 again_ok u h soup x b p None few lx lb k d e g m = tt
-again_ok {V} u h soup x b p (Some a) few lx lb k d e g m = every-to_each (SendOk u g soup x) (2 * u + 1) nobody (Accepted b p a.1) (λ y. (lx, (m.at x).votes p b a.1 (subst (λ c. DidVote (h x) p c a.1) same d)))
+again_ok {V} u h soup x b p (Some a) few lx lb k d e g m = every-to_each (SendOk u g soup x) (2 * u + 1) nobody
+    (Accepted b p a.1) (λ y. (lx, (m.at x).votes p b a.1 (subst (λ c. DidVote (h x) p c a.1) same d)))
   where
     same : a.0 ≡ b
     same = same_true a.0 b e
 
-accepts_ok : {V : Type 0} (u : ℕ) (h : ℕ → List (Fact V)) (soup : List (Packet V)) (x : ℕ) (log : LogState V) (s : ℕ) (b : Ballot) (p : ℕ) (v : V) → Known u h soup x log → MsgOk u h soup s (Accept b p v)
+accepts_ok : {V : Type 0} (u : ℕ) (h : ℕ → List (Fact V)) (soup : List (Packet V)) (x : ℕ) (log : LogState V) (s : ℕ)
+    (b : Ballot) (p : ℕ) (v : V) → Known u h soup x log → MsgOk u h soup s (Accept b p v)
     → p ≡ open_at log → key log.promised ≤ key b → has_ballot b log.accepted ≡ false → TurnOk u h soup x (accepts u log b p v)
 accepts_ok {V} u h soup x log s b p v k c at le free = record { orderly = (here, le', low, o, small); rest = after }
   where
@@ -153,9 +167,11 @@ accepts_ok {V} u h soup x log s b p v k c at le free = record { orderly = (here,
     not_mine : b.node ≡ x → ⊥
     not_mine e = omega (arith, low, vote_is_low F p b v o (subst (λ y. DidVote (h y) p b v) e c.1))
 
-    leader : (g : ℕ → List (Fact V)) → AllGrew h g → (l : Option (Leader V)) → IfSome l (λ l. LeaderOk u h F x log l) → IfSome (kept_leader b l) (λ l. LeaderOk u g (Voted p b v ∷ F) x (accepts u log b p v).state l)
+    leader : (g : ℕ → List (Fact V)) → AllGrew h g → (l : Option (Leader V)) → IfSome l (λ l. LeaderOk u h F x log l)
+        → IfSome (kept_leader b l) (λ l. LeaderOk u g (Voted p b v ∷ F) x (accepts u log b p v).state l)
     leader g m None lo = tt
-    leader g m (Some l) lo = cond_both (same_ballot l.ballot b) (Some l) None (λ q. IfSome q (λ l. LeaderOk u g (Voted p b v ∷ F) x (accepts u log b p v).state l))
+    leader g m (Some l) lo = cond_both (same_ballot l.ballot b) (Some l) None
+        (λ q. IfSome q (λ l. LeaderOk u g (Voted p b v ∷ F) x (accepts u log b p v).state l))
         (λ e. absurd (not_mine (ap (λ d. d.node) (sym (same_true l.ballot b e)) ∙ lo.mine)))
         (λ e. tt)
 
@@ -173,19 +189,23 @@ accepts_ok {V} u h soup x log s b p v k c at le free = record { orderly = (here,
       };
     }
 
-pub on_accept_ok : {V : Type 0} (u : ℕ) (h : ℕ → List (Fact V)) (soup : List (Packet V)) (x : ℕ) (log : LogState V) (s : ℕ) (b : Ballot) (p : ℕ) (v : V) → Known u h soup x log → MsgOk u h soup s (Accept b p v)
+pub on_accept_ok : {V : Type 0} (u : ℕ) (h : ℕ → List (Fact V)) (soup : List (Packet V)) (x : ℕ) (log : LogState V)
+    (s : ℕ) (b : Ballot) (p : ℕ) (v : V) → Known u h soup x log → MsgOk u h soup s (Accept b p v)
     → TurnOk u h soup x (on_accept u log s b p v)
 on_accept_ok {V} u h soup x log s b p v k c =
     cond_both (nat_lt p (open_at log)) _ _ (TurnOk u h soup x) (λ e. tell_ok u h soup x log s p k)
     (λ low. cond_both (nat_lt (open_at log) p) _ _ (TurnOk u h soup x) (λ e. still u h soup x log log _ None k k.state (λ g same m. (tt, tt)))
     (λ high. cond_both (is_below b log.promised) _ _ (TurnOk u h soup x) (λ e. idle_ok u h soup x log (Stale _) k)
     (λ le. cond_both (has_ballot b log.accepted) _ _ (TurnOk u h soup x)
-    (λ e. still u h soup x log log _ None k k.state (λ g same m. again_ok u h soup x b p log.accepted k.few k.inside c.0 k.history (rw (between p (open_at log) low high ∙ ap length k.state.learned) (accepted_vote u h soup x log k)) e g m))
+    (λ e. still u h soup x log log _ None k k.state
+    (λ g same m. again_ok u h soup x b p log.accepted k.few k.inside c.0 k.history
+    (rw (between p (open_at log) low high ∙ ap length k.state.learned) (accepted_vote u h soup x log k)) e g m))
     (λ e. accepts_ok u h soup x log s b p v k c (between p (open_at log) low high) (not_below_key b log.promised (promised_small u h soup x log k) le) e))))
 
 -- LEARNING
 
-learned_ok : {V : Type 0} (u : ℕ) (h : ℕ → List (Fact V)) (soup : List (Packet V)) (x : ℕ) (log : LogState V) (p : ℕ) (v : V) (ks : List (ℕ × PaxMsg V)) → Known u h soup x log → p ≡ open_at log → Meets u soup p v
+learned_ok : {V : Type 0} (u : ℕ) (h : ℕ → List (Fact V)) (soup : List (Packet V)) (x : ℕ) (log : LogState V) (p : ℕ)
+    (v : V) (ks : List (ℕ × PaxMsg V)) → Known u h soup x log → p ≡ open_at log → Meets u soup p v
     → ((g : ℕ → List (Fact V)) → Every (SendOk u g soup x) ks) → TurnOk u h soup x (learned_turn log p v ks)
 learned_ok {V} u h soup x log p v ks k at meets sends = record { orderly = (here, o); rest = after }
   where
@@ -198,7 +218,8 @@ learned_ok {V} u h soup x log p v ks k at meets sends = record { orderly = (here
     here : p ≡ opening F
     here = at ∙ ap length k.state.learned
 
-    leader : (g : ℕ → List (Fact V)) → AllGrew h g → (l : Option (Leader V)) → IfSome l (λ l. LeaderOk u h F x log l) → IfSome l (λ l. LeaderOk u g (Learned p v ∷ F) x (learns log v) l)
+    leader : (g : ℕ → List (Fact V)) → AllGrew h g → (l : Option (Leader V)) → IfSome l (λ l. LeaderOk u h F x log l)
+        → IfSome l (λ l. LeaderOk u g (Learned p v ∷ F) x (learns log v) l)
     leader g m None lo = tt
     leader g m (Some l) lo = record {
       is_promised = lo.is_promised;
@@ -230,14 +251,17 @@ learned_ok {V} u h soup x log p v ks k at meets sends = record { orderly = (here
       };
     }
 
-pub on_learn_ok : {V : Type 0} (u : ℕ) (h : ℕ → List (Fact V)) (soup : List (Packet V)) (x : ℕ) (log : LogState V) (s p : ℕ) (v : V) → Known u h soup x log → MsgOk u h soup s (Learn p v) → TurnOk u h soup x (on_learn log s p v)
+pub on_learn_ok : {V : Type 0} (u : ℕ) (h : ℕ → List (Fact V)) (soup : List (Packet V)) (x : ℕ) (log : LogState V)
+    (s p : ℕ) (v : V) → Known u h soup x log → MsgOk u h soup s (Learn p v) → TurnOk u h soup x (on_learn log s p v)
 on_learn_ok u h soup x log s p v k c =
     cond_both (nat_lt p (open_at log)) _ _ (TurnOk u h soup x) (λ e. idle_ok u h soup x log Nothing k)
     (λ a. cond_both (nat_lt (open_at log) p) _ _ (TurnOk u h soup x) (λ e. idle_ok u h soup x log (IsBehind _) k)
     (λ b. learned_ok u h soup x log p v _ k (between p (open_at log) a b) c (λ g. (tt, tt))))
 
-pub on_ask_ok : {V : Type 0} (u : ℕ) (h : ℕ → List (Fact V)) (soup : List (Packet V)) (x : ℕ) (log : LogState V) (s p : ℕ) → Known u h soup x log → TurnOk u h soup x (on_ask log s p)
-on_ask_ok u h soup x log s p k = cond_both (nat_lt p (open_at log)) _ _ (TurnOk u h soup x) (λ e. tell_ok u h soup x log s p k) (λ e. idle_ok u h soup x log Nothing k)
+pub on_ask_ok : {V : Type 0} (u : ℕ) (h : ℕ → List (Fact V)) (soup : List (Packet V)) (x : ℕ) (log : LogState V)
+    (s p : ℕ) → Known u h soup x log → TurnOk u h soup x (on_ask log s p)
+on_ask_ok u h soup x log s p k = cond_both (nat_lt p (open_at log)) _ _ (TurnOk u h soup x)
+    (λ e. tell_ok u h soup x log s p k) (λ e. idle_ok u h soup x log Nothing k)
 
 -- NOTING
 
@@ -248,14 +272,16 @@ skip_one : (t a : Bool) → a ≡ true → cond t true a ≡ true
 skip_one true a e = refl
 skip_one false a e = e
 
-pub has_sent_at : {V : Type 0} (ks : List (Packet V)) (place : ℕ) (k : Packet V) (p : ℕ) (b : Ballot) (v : V) → slice_get ks place ≡ Some k → k.msg ≡ Accepted b p v → has_sent ks p b k.from ≡ true
+pub has_sent_at : {V : Type 0} (ks : List (Packet V)) (place : ℕ) (k : Packet V) (p : ℕ) (b : Ballot) (v : V)
+    → slice_get ks place ≡ Some k → k.msg ≡ Accepted b p v → has_sent ks p b k.from ≡ true
 has_sent_at [] place k p b v e m = absurd (cc)
 has_sent_at (j ∷ ks) zero k p b v e m =
     let same : j ≡ k = cc in
     cond-true (is_vote p b k.from j.msg j.from) true (has_sent ks p b k.from) (rw (same, m) (says_self p b k.from v))
 has_sent_at (j ∷ ks) (suc i) k p b v e m = skip_one (is_vote p b k.from j.msg j.from) (has_sent ks p b k.from) (has_sent_at ks i k p b v e m)
 
-on_accepted_ok : {V : Type 0} (u : ℕ) (h : ℕ → List (Fact V)) (soup : List (Packet V)) (x : ℕ) (log : LogState V) (place : ℕ) (j : Packet V) (b : Ballot) (p : ℕ) (v : V) → Known u h soup x log
+on_accepted_ok : {V : Type 0} (u : ℕ) (h : ℕ → List (Fact V)) (soup : List (Packet V)) (x : ℕ) (log : LogState V)
+    (place : ℕ) (j : Packet V) (b : Ballot) (p : ℕ) (v : V) → Known u h soup x log
     → slice_get soup place ≡ Some j → j.msg ≡ Accepted b p v → MsgOk u h soup j.from (Accepted b p v) → TurnOk u h soup x (on_accepted u log j.from b p v)
 on_accepted_ok {V} u h soup x log place j b p v k is_at_place is_msg c =
     cond_both (nat_lt p (open_at log)) _ _ (TurnOk u h soup x) (λ e. idle_ok u h soup x log Nothing k)
@@ -276,7 +302,8 @@ on_accepted_ok {V} u h soup x log place j b p v k is_at_place is_msg c =
     sent : has_sent soup p b j.from ≡ true
     sent = has_sent_at soup place j p b v is_at_place is_msg
 
-    seen_sent : (y : ℕ) (d : Ballot) → p ≡ open_at log → ((y ≡ j.from) × (Some b ≡ Some d)) ⊎ (seen_at log.seen y ≡ Some d) → has_sent soup (open_at log) d y ≡ true
+    seen_sent : (y : ℕ) (d : Ballot) → p ≡ open_at log → ((y ≡ j.from) × (Some b ≡ Some d))
+        ⊎ (seen_at log.seen y ≡ Some d) → has_sent soup (open_at log) d y ≡ true
     seen_sent y d at (inl e) = let f : b ≡ d = cc in rw (← at, ← f, e.0) sent
     seen_sent y d at (inr q) = k.state.seen y d q
 
@@ -309,7 +336,9 @@ on_accepted_ok {V} u h soup x log place j b p v k is_at_place is_msg c =
       is_reached_by = lt-ltb _ _ (omega (arith, many, count-more (2 * u + 1) (with_ballot log.seen j.from b) (has_sent soup p b) (counted at)));
     }
 
-pub on_msg_ok : {V : Type 0} (u : ℕ) (h : ℕ → List (Fact V)) (soup : List (Packet V)) (x : ℕ) (log : LogState V) (place : ℕ) (j : Packet V) (m : PaxMsg V) → Known u h soup x log → slice_get soup place ≡ Some j → j.msg ≡ m → MsgOk u h soup j.from m
+pub on_msg_ok : {V : Type 0} (u : ℕ) (h : ℕ → List (Fact V)) (soup : List (Packet V)) (x : ℕ) (log : LogState V)
+    (place : ℕ) (j : Packet V) (m : PaxMsg V) → Known u h soup x log → slice_get soup place ≡ Some j → j.msg ≡ m
+    → MsgOk u h soup j.from m
     → TurnOk u h soup x (on_msg u log j.from m)
 on_msg_ok u h soup x log place j (Prepare b p) k at is c = on_prepare_ok u h soup x log j.from b p k c
 on_msg_ok u h soup x log place j (Promise b p a) k at is c = on_promise_ok u h soup x log log.leader j.from b p a k k.state.leader c

@@ -1,5 +1,6 @@
 -- Chosen values, and what agreement says of packets and disks.
-use Rattle.std.specs.Prelude.{◌≡◌, ℕ, ◌+◌, ◌*◌, ◌<◌, ◌⊎◌, Bool, true, false, ◌&&◌, List, [], ◌∷◌, length, nat_lt, ◌==◌, if◌then◌else◌, Option, Some, None, IsTrue, slice_get}
+use Rattle.std.specs.Prelude.{◌≡◌, ℕ, ◌+◌, ◌*◌, ◌<◌, ◌⊎◌, Bool, true, false, ◌&&◌, List, [], ◌∷◌, length, nat_lt, ◌==◌}
+use Rattle.std.specs.Prelude.{if◌then◌else◌, Option, Some, None, IsTrue, slice_get}
 use Rattle.aeg_base.specs.Ballots.{same_ballot, is_at_most}
 use Rattle.aeg_base.specs.declared.names.Ballot.{Ballot}
 use Rattle.log_model.specs.declared.message.PaxMsg.{PaxMsg}

@@ -1,5 +1,6 @@
 -- The log of one node of a tier of 2u+1: its state, and what an event makes of it.
-use Rattle.std.specs.Prelude.{ℕ, zero, suc, ◌+◌, Bool, true, false, List, [], ◌∷◌, ◌++◌, length, ◌==◌, if◌then◌else◌, Option, Some, None, slice_set, slice_index_or}
+use Rattle.std.specs.Prelude.{ℕ, zero, suc, ◌+◌, Bool, true, false, List, [], ◌∷◌, ◌++◌, length, ◌==◌, if◌then◌else◌}
+use Rattle.std.specs.Prelude.{Option, Some, None, slice_set, slice_index_or}
 use Rattle.aeg_base.specs.Ballots.{same_ballot, is_below, is_at_most}
 use Rattle.aeg_base.specs.declared.names.Ballot.{Ballot}
 use Rattle.log_model.specs.declared.fact.Fact.{Fact}

@@ -1,5 +1,6 @@
 -- The rows of one node's log: what each message and command does, in the order in which its cases are tried.
-use Rattle.std.specs.Prelude.{ℕ, ◌+◌, ◌*◌, Bool, true, false, ◌&&◌, not, List, [], ◌∷◌, ◌++◌, length, nat_lt, nat_le, ◌==◌, if◌then◌else◌, Option, Some, None, slice_get, slice_set, replicate}
+use Rattle.std.specs.Prelude.{ℕ, ◌+◌, ◌*◌, Bool, true, false, ◌&&◌, not, List, [], ◌∷◌, ◌++◌, length, nat_lt, nat_le}
+use Rattle.std.specs.Prelude.{◌==◌, if◌then◌else◌, Option, Some, None, slice_get, slice_set, replicate}
 use Rattle.aeg_base.specs.Ballots.{same_ballot, is_below, is_at_most}
 use Rattle.aeg_base.specs.declared.names.Ballot.{Ballot}
 use Rattle.aeg_base.specs.declared.limits.TheConstants.{POSITIONS}
@@ -9,7 +10,8 @@ use Rattle.log_model.specs.declared.message.PaxMsg.TheVariants.{Prepare, Promise
 use Rattle.log_model.specs.declared.turn.LogIdle.TheVariants.{BallotSpent, Stale, Behind as IsBehind, Nothing}
 use Rattle.log_model.specs.declared.turn.Offering.{Offering}
 use Rattle.log_model.specs.declared.turn.Offering.TheVariants.{NotLeader, NoPromises, InFlight, LogFull, Taken, Free}
-use Rattle.log_model.specs.Log.{Leader, LogState, Turn, open_at, idles, stays, says, has, seen_at, count_below, to_each, nobody, is, is_none, is_at, is_better, has_ballot, is_from, noted, with_ballot}
+use Rattle.log_model.specs.Log.{Leader, LogState, Turn, open_at, idles, stays, says, has, seen_at, count_below, to_each}
+use Rattle.log_model.specs.Log.{nobody, is, is_none, is_at, is_better, has_ballot, is_from, noted, with_ballot}
 
 -- TELLING WHAT IS LEARNED
 
@@ -40,7 +42,13 @@ leads u x log = record {
     accepted = log.accepted;
     learned = log.learned;
     seen = log.seen;
-    leader = Some (record { ballot = next_ballot x log; led_at = open_at log; promisers = slice_set (replicate (2 * u + 1) false) x true; best = log.accepted; last = None });
+    leader = Some (record {
+      ballot = next_ballot x log;
+      led_at = open_at log;
+      promisers = slice_set (replicate (2 * u + 1) false) x true;
+      best = log.accepted;
+      last = None;
+    });
   };
   facts = Promised (next_ballot x log) ∷ [];
   sends = to_each (2 * u + 1) (is x) (Prepare (next_ballot x log) (open_at log));
@@ -87,7 +95,13 @@ join leader s p a = record {
 
 -- s joins the promisers
 abbrev pub joins : {V : Type 0} → LogState V → Leader V → ℕ → ℕ → Option (Ballot × V) → Turn V
-joins log leader s p a = says (record { promised = log.promised; accepted = log.accepted; learned = log.learned; seen = log.seen; leader = Some (join leader s p a) }) []
+joins log leader s p a = says (record {
+  promised = log.promised;
+  accepted = log.accepted;
+  learned = log.learned;
+  seen = log.seen;
+  leader = Some (join leader s p a);
+}) []
 
 -- the rows of Promise(b, p, a) from s
 abbrev pub on_promise : {V : Type 0} → LogState V → Option (Leader V) → ℕ → Ballot → ℕ → Option (Ballot × V) → Turn V
@@ -190,7 +204,13 @@ on_accept u log s b p v =
 
 -- the open position is learned: what was accepted and noted there is forgotten
 abbrev pub learns : {V : Type 0} → LogState V → V → LogState V
-learns log v = record { promised = log.promised; accepted = None; learned = log.learned ++ v ∷ []; seen = replicate (length log.seen) None; leader = log.leader }
+learns log v = record {
+  promised = log.promised;
+  accepted = None;
+  learned = log.learned ++ v ∷ [];
+  seen = replicate (length log.seen) None;
+  leader = log.leader;
+}
 
 abbrev pub learned_turn : {V : Type 0} → LogState V → ℕ → V → List (ℕ × PaxMsg V) → Turn V
 learned_turn log p v sends = record { state = learns log v; facts = Learned p v ∷ []; sends = sends; learned = Some p; idle = None }

@@ -24,9 +24,11 @@ numbers_grammar = record {
 
 order_grammar : (n : ℕ) → IsGrammar (λ o. (length o < 256) × (((length o == n) && is_order (length o) o) ≡ true)) (λ o. order_text o) (order_at n)
 unfolding order_at
-order_grammar n = kept_grammar (λ o. length o < 256) (λ o. order_text o) (λ bytes. byte_at bytes >>= λ k. bytes_at k.0 k.1) (λ o. (length o == n) && is_order (length o) o) numbers_grammar
+order_grammar n = kept_grammar (λ o. length o < 256) (λ o. order_text o)
+    (λ bytes. byte_at bytes >>= λ k. bytes_at k.0 k.1) (λ o. (length o == n) && is_order (length o) o) numbers_grammar
 
-commit_takes : (bytes : List ℕ) (c : List ℕ × List ℕ) (rest : List ℕ) → IsBytes bytes → commit_at bytes ≡ Some (c, rest) → Takes bytes (commit c) rest × IsCommit c.0 c.1
+commit_takes : (bytes : List ℕ) (c : List ℕ × List ℕ) (rest : List ℕ) → IsBytes bytes → commit_at bytes ≡ Some (c, rest)
+    → Takes bytes (commit c) rest × IsCommit c.0 c.1
 unfolding commit_at token_at
 commit_takes bytes c rest are e =
     let b = bind_some (made token_of (outcome_at bytes)) (λ t. made (λ order. (t.0.0, order)) (order_at t.0.1 t.1)) (c, rest) e in
@@ -38,24 +40,36 @@ commit_takes bytes c rest are e =
     let second = (order_grammar (length o.ends)).takes m.0.1 k.0.0 k.0.1 first.0.rest_fits k.1 in
     let tests = and_parts (length k.0.0 == length o.ends) (is_order (length k.0.0) k.0.0) second.1.1 in
     let all = Takes-then bytes (outcome o) m.0.1 (order_text k.0.0) k.0.1 first.0 second.0 in
-    let is : IsCommit (outcome o) k.0.0 = record { told = o; fits = first.1; spelled = refl; count = eqb-true (length k.0.0) (length o.ends) tests.0; permutes = tests.1 } in
+    let is : IsCommit (outcome o) k.0.0 = record {
+      told = o;
+      fits = first.1;
+      spelled = refl;
+      count = eqb-true (length k.0.0) (length o.ends) tests.0;
+      permutes = tests.1;
+    } in
     subst (λ (p : (List ℕ × List ℕ) × List ℕ). Takes bytes (commit p.0) p.1 × IsCommit p.0.0 p.0.1) k.2 (all, is)
   where
     token_of : Outcome → List ℕ × ℕ
     token_of o = (outcome o, length o.ends)
 
-commit_again_told : (o : Outcome) (order rest : List ℕ) → FitsOutcome o → length order ≡ length o.ends → is_order (length order) order ≡ true → commit_at (commit (outcome o, order) ++ rest) ≡ Some ((outcome o, order), rest)
+commit_again_told : (o : Outcome) (order rest : List ℕ) → FitsOutcome o → length order ≡ length o.ends
+    → is_order (length order) order ≡ true → commit_at (commit (outcome o, order) ++ rest) ≡ Some ((outcome o, order), rest)
 unfolding commit_at token_at
 commit_again_told o order rest fits count permutes =
     let small : length order < 256 = omega (arith, count, fits.end_count) in
     let regrouped : commit (outcome o, order) ++ rest ≡ outcome o ++ (order_text order ++ rest) = append_assoc (outcome o) (order_text order) rest in
     let first = outcome_grammar.again o (order_text order ++ rest) fits in
-    let second = (order_grammar (length o.ends)).again order rest (small, and_from (length order == length o.ends) (is_order (length order) order) (eq-eqb (length order) (length o.ends) count) permutes) in
+    let second = (order_grammar (length o.ends)).again order rest (
+      small,
+      and_from (length order == length o.ends) (is_order (length order) order)
+          (eq-eqb (length order) (length o.ends) count) permutes,
+    ) in
     ap (λ (w : List ℕ). commit_at w) regrouped ∙ rw (first, second) refl
 
 commit_again : (c : List ℕ × List ℕ) (rest : List ℕ) → IsCommit c.0 c.1 → commit_at (commit c ++ rest) ≡ Some (c, rest)
 commit_again c rest is =
-    subst (λ (token : List ℕ). commit_at (commit (token, c.1) ++ rest) ≡ Some ((token, c.1), rest)) (sym is.spelled) (commit_again_told is.told c.1 rest is.fits is.count is.permutes)
+    subst (λ (token : List ℕ). commit_at (commit (token, c.1) ++ rest) ≡ Some ((token, c.1), rest)) (sym is.spelled)
+    (commit_again_told is.told c.1 rest is.fits is.count is.permutes)
 
 pub commit_grammar : IsGrammar (λ c. IsCommit c.0 c.1) commit commit_at
 commit_grammar = record { takes = commit_takes; again = commit_again }

@@ -13,7 +13,8 @@ use Rattle.aeg_wire.specs.Formats.{kept, both}
 use Rattle.aeg_wire.proofs.Grammar.{IsBytes, Takes, IsGrammar, bind_some, refit, kept_grammar, made_grammar, both_grammar}
 use Rattle.aeg_wire.proofs.Numbers.{one_byte, two_bytes, four_bytes}
 use Rattle.log_values.specs.declared.format.TheConstants.{LAST_INDEX, LAST_STAGE}
-use Rattle.log_values.specs.Fields.{tier_number, backend_at, client_at, seq_at, call_number_at, floor_at, position_at, stage_at, ballot, ballot_at, FitsBallot, IsClient, IsSeq, IsCallNumber, IsFloor}
+use Rattle.log_values.specs.Fields.{tier_number, backend_at, client_at, seq_at, call_number_at, floor_at, position_at}
+use Rattle.log_values.specs.Fields.{stage_at, ballot, ballot_at, FitsBallot, IsClient, IsSeq, IsCallNumber, IsFloor}
 use Rattle.log_values.proofs.Leads.{chosen}
 use Rattle.log_values.proofs.Within.{within, is_within}
 
@@ -68,17 +69,23 @@ ballot_grammar =
     (λ b h. ((h.high, le-leb 1 b.counter h.low), (omega (arith, h.node), le-leb b.node LAST_INDEX h.node)))
 
 backend_case : (n : ℕ) (bytes after : List ℕ) (t : Tier) (rest : List ℕ) → Takes bytes (n ∷ []) after
-    → cond {A = Read Tier} (eqb n 1) (Some (Inv, after)) (cond (eqb n 2) (Some (Pay, after)) None) ≡ Some (t, rest) → Takes bytes (tier_number t ∷ []) rest × IsBackend t
+    → cond {A = Read Tier} (eqb n 1) (Some (Inv, after)) (cond (eqb n 2) (Some (Pay, after)) None) ≡ Some (t, rest)
+    → Takes bytes (tier_number t ∷ []) rest × IsBackend t
 backend_case n bytes after t rest taken e =
     elim (chosen {A = Read Tier} (eqb n 1) (Some (Inv, after)) (cond (eqb n 2) (Some (Pay, after)) None) (Some (t, rest)) e) [
-      | inl h ↦ subst (λ (p : Tier × List ℕ). Takes bytes (tier_number p.0 ∷ []) p.1 × IsBackend p.0) (same_Some (Inv, after) (t, rest) h.1) (subst (λ (k : ℕ). Takes bytes (k ∷ []) after) (eqb-true n 1 h.0) taken, tt)
+      | inl h ↦ subst (λ (p : Tier × List ℕ). Takes bytes (tier_number p.0 ∷ []) p.1
+          × IsBackend p.0) (same_Some (Inv, after) (t, rest) h.1)
+          (subst (λ (k : ℕ). Takes bytes (k ∷ []) after) (eqb-true n 1 h.0) taken, tt)
       | inr h ↦ elim (chosen {A = Read Tier} (eqb n 2) (Some (Pay, after)) None (Some (t, rest)) h.1) [
-        | inl k ↦ subst (λ (p : Tier × List ℕ). Takes bytes (tier_number p.0 ∷ []) p.1 × IsBackend p.0) (same_Some (Pay, after) (t, rest) k.1) (subst (λ (m : ℕ). Takes bytes (m ∷ []) after) (eqb-true n 2 k.0) taken, tt)
+        | inl k ↦ subst (λ (p : Tier × List ℕ). Takes bytes (tier_number p.0 ∷ []) p.1
+            × IsBackend p.0) (same_Some (Pay, after) (t, rest) k.1)
+            (subst (λ (m : ℕ). Takes bytes (m ∷ []) after) (eqb-true n 2 k.0) taken, tt)
         | inr k ↦ absurd (none-some (t, rest) k.1)
       ]
     ]
 
-backend_takes : (bytes : List ℕ) (t : Tier) (rest : List ℕ) → IsBytes bytes → backend_at bytes ≡ Some (t, rest) → Takes bytes (tier_number t ∷ []) rest × IsBackend t
+backend_takes : (bytes : List ℕ) (t : Tier) (rest : List ℕ) → IsBytes bytes → backend_at bytes ≡ Some (t, rest)
+    → Takes bytes (tier_number t ∷ []) rest × IsBackend t
 unfolding backend_at
 backend_takes bytes t rest are e =
     let b = bind_some (byte_at bytes) (λ n. cond {A = Read Tier} (eqb n.0 1) (Some (Inv, n.1)) (cond (eqb n.0 2) (Some (Pay, n.1)) None)) (t, rest) e in

@@ -13,7 +13,8 @@ chosen false x y z e = inr (refl, e)
 -- a case of a value: its lead byte, and what its field spells
 pub case_of : {A B : Type 0} (key : ℕ) (f : A → B) (fits : A → Type 0) (spelling : A → List ℕ) (read : List ℕ → Read A) → IsGrammar fits spelling read
     → (all_fit : B → Type 0) (text : B → List ℕ) → ((x : A) → fits x → all_fit (f x)) → ((x : A) → text (f x) ≡ key ∷ spelling x)
-    → (bytes : List ℕ) (lead : ℕ) (after : List ℕ) (v : B) (rest : List ℕ) → Takes bytes (lead ∷ []) after → eqb lead key ≡ true → made f (read after) ≡ Some (v, rest)
+    → (bytes : List ℕ) (lead : ℕ) (after : List ℕ) (v : B) (rest : List ℕ) → Takes bytes (lead ∷ []) after
+    → eqb lead key ≡ true → made f (read after) ≡ Some (v, rest)
     → Takes bytes (text v) rest × all_fit v
 case_of key f fits spelling read g all_fit text fit spell bytes lead after v rest first same e =
     let m = made_some f (read after) (v, rest) e in

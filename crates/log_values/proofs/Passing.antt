@@ -14,12 +14,16 @@ pub none_left : {A : Type 0} (read : Read A) → left_after read ≡ None → re
 none_left None e = refl
 none_left (Some field) e = absurd cc
 
-pub pass_on : {A : Type 0} (one : List ℕ → Read A) (count i : ℕ) (bytes : List ℕ) (x : A) (after : List ℕ) (total : Option (List ℕ)) → i < count → one bytes ≡ Some (x, after)
+pub pass_on : {A : Type 0} (one : List ℕ → Read A) (count i : ℕ) (bytes : List ℕ) (x : A) (after : List ℕ)
+    (total : Option (List ℕ)) → i < count → one bytes ≡ Some (x, after)
     → left_after (list_at one (count - i) bytes) ≡ total → left_after (list_at one (count - (i + 1)) after) ≡ total
 unfolding list_at
 pass_on one count i bytes x after total lt h so_far =
     let k : count - i ≡ suc (count - (i + 1)) = omega arith in
-    let step : left_after (list_at one (count - i) bytes) ≡ left_after (list_at one (count - (i + 1)) after) = rw (k, h) (left_made (λ others. x ∷ others) (list_at one (count - (i + 1)) after)) in
+    let step : left_after (list_at one (count - i) bytes) ≡ left_after (list_at one (count - (i + 1)) after) = rw (
+      k,
+      h,
+    ) (left_made (λ others. x ∷ others) (list_at one (count - (i + 1)) after)) in
     sym step ∙ so_far
 
 pub pass_end : {A : Type 0} (one : List ℕ → Read A) (count i : ℕ) (bytes : List ℕ) (total : Read (List A)) → i < count → one bytes ≡ None
@@ -30,7 +34,8 @@ pass_end one count i bytes total lt h so_far =
     let step : left_after (list_at one (count - i) bytes) ≡ None = rw (k, h) refl in
     none_left total (sym so_far ∙ step)
 
-pub pass_done : {A : Type 0} (one : List ℕ → Read A) (count i : ℕ) (bytes : List ℕ) (total : Option (List ℕ)) → count ≤ i → left_after (list_at one (count - i) bytes) ≡ total → total ≡ Some bytes
+pub pass_done : {A : Type 0} (one : List ℕ → Read A) (count i : ℕ) (bytes : List ℕ) (total : Option (List ℕ))
+    → count ≤ i → left_after (list_at one (count - i) bytes) ≡ total → total ≡ Some bytes
 unfolding list_at
 pass_done one count i bytes total le so_far =
     let k : count - i ≡ 0 = omega arith in
@@ -38,7 +43,8 @@ pass_done one count i bytes total le so_far =
     sym so_far ∙ step
 
 -- so many fields are so many
-pub list_length : {A : Type 0} (one : List ℕ → Read A) (n : ℕ) (bytes : List ℕ) (xs : List A) (rest : List ℕ) → list_at one n bytes ≡ Some (xs, rest) → length xs ≡ n
+pub list_length : {A : Type 0} (one : List ℕ → Read A) (n : ℕ) (bytes : List ℕ) (xs : List A) (rest : List ℕ)
+    → list_at one n bytes ≡ Some (xs, rest) → length xs ≡ n
 unfolding list_at
 list_length one zero bytes xs rest e = ap (λ (p : List _ × List ℕ). length p.0) (sym (same_Some ([], bytes) (xs, rest) e))
 list_length one (suc n) bytes xs rest e =

@@ -28,4 +28,5 @@ rises_after last (e ∷ es) b s =
 
 pub rises_sorted : (es : List (Key × ℕ)) → T (is_sorted key_cmp es) → rises None es ≡ true
 rises_sorted [] s = refl
-rises_sorted (e ∷ es) s = rises_after e.0 es (first (below_all key_cmp e.0 es) (is_sorted key_cmp es) s) (second (below_all key_cmp e.0 es) (is_sorted key_cmp es) s)
+rises_sorted (e ∷ es) s = rises_after e.0 es (first (below_all key_cmp e.0 es) (is_sorted key_cmp es) s)
+    (second (below_all key_cmp e.0 es) (is_sorted key_cmp es) s)

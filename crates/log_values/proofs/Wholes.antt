@@ -18,7 +18,8 @@ pub record IsEndGrammar {A : Type 0} (fits : A → Type 0) (spelling : A → Lis
   pub takes : (bytes : List ℕ) (x : A) (rest : List ℕ) → IsBytes bytes → read bytes ≡ Some (x, rest) → Takes bytes (spelling x) rest × fits x
   pub ends : (x : A) → fits x → read (spelling x) ≡ Some (x, [])
 
-pub from_grammar : {A : Type 0} (fits : A → Type 0) (spelling : A → List ℕ) (read : List ℕ → Read A) → IsGrammar fits spelling read → IsEndGrammar fits spelling read
+pub from_grammar : {A : Type 0} (fits : A → Type 0) (spelling : A → List ℕ) (read : List ℕ → Read A)
+    → IsGrammar fits spelling read → IsEndGrammar fits spelling read
 from_grammar fits spelling read g = record {
   takes = g.takes;
   ends = λ x fit. ap (λ (w : List ℕ). read w) (sym (append-nil (spelling x))) ∙ g.again x [] fit;
@@ -35,19 +36,23 @@ pub spelled_is_whole : {A : Type 0} (fits : A → Type 0) (spelling : A → List
 spelled_is_whole fits spelling read g bytes x s =
     ap (λ (w : List ℕ). whole (read w)) s.parts ∙ ap (λ (r : Read _). whole r) (g.ends x s.fit)
 
-found_by : {A : Type 0} (fits : A → Type 0) (spelling : A → List ℕ) (bytes : List ℕ) (all found : Option A) → ((x : A) → all ≡ Some x → Spells fits spelling bytes x) → found ≡ all
+found_by : {A : Type 0} (fits : A → Type 0) (spelling : A → List ℕ) (bytes : List ℕ) (all found : Option A)
+    → ((x : A) → all ≡ Some x → Spells fits spelling bytes x) → found ≡ all
     → IfSome found (λ x. Spells fits spelling bytes x)
 found_by fits spelling bytes all None h e = tt
 found_by fits spelling bytes all (Some x) h e = h x (sym e)
 
 -- what decoding answers is spelled so
 pub is_found : {A : Type 0} (fits : A → Type 0) (spelling : A → List ℕ) (read : List ℕ → Read A) → IsEndGrammar fits spelling read
-    → (bytes : List ℕ) (r : Result (Option A) Memory) → IsBytes bytes → IfOk r (λ found. found ≡ whole (read bytes)) → IfOk r (λ found. IfSome found (λ x. Spells fits spelling bytes x))
-is_found fits spelling read g bytes (Ok found) are e = found_by fits spelling bytes (whole (read bytes)) found (λ x h. whole_is_spelled fits spelling read g bytes x are h) e
+    → (bytes : List ℕ) (r : Result (Option A) Memory) → IsBytes bytes → IfOk r (λ found. found ≡ whole (read bytes))
+    → IfOk r (λ found. IfSome found (λ x. Spells fits spelling bytes x))
+is_found fits spelling read g bytes (Ok found) are e = found_by fits spelling bytes (whole (read bytes)) found
+    (λ x h. whole_is_spelled fits spelling read g bytes x are h) e
 is_found fits spelling read g bytes (Err m) are e = tt
 
 -- what is spelled so is what decoding answers
 pub is_only : {A : Type 0} (fits : A → Type 0) (spelling : A → List ℕ) (read : List ℕ → Read A) → IsEndGrammar fits spelling read
-    → (bytes : List ℕ) (r : Result (Option A) Memory) → IfOk r (λ found. found ≡ whole (read bytes)) → (x : A) → Spells fits spelling bytes x → IfOk r (λ found. found ≡ Some x)
+    → (bytes : List ℕ) (r : Result (Option A) Memory) → IfOk r (λ found. found ≡ whole (read bytes)) → (x : A)
+    → Spells fits spelling bytes x → IfOk r (λ found. found ≡ Some x)
 is_only fits spelling read g bytes (Ok found) e x s = e ∙ spelled_is_whole fits spelling read g bytes x s
 is_only fits spelling read g bytes (Err m) e x s = tt

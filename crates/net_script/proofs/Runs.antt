@@ -62,20 +62,26 @@ put_range run bytes =
 
 -- ---- a packet more, or none
 
-pub err_view : {T E : Type 0} → (r : Result T E) (old new : List ℕ) (xs ys : List Sent) (now : List (End × List ℕ)) → packets_of old xs ≡ now → HasGrown old new → AllByRecursion (IsIn old) xs → ys ≡ xs → OnErr r (packets_of new ys ≡ now)
+pub err_view : {T E : Type 0} → (r : Result T E) (old new : List ℕ) (xs ys : List Sent) (now : List (End × List ℕ))
+    → packets_of old xs ≡ now → HasGrown old new → AllByRecursion (IsIn old) xs → ys ≡ xs → OnErr r (packets_of new ys ≡ now)
 err_view (Ok x) old new xs ys now v g k e = tt
 err_view (Err x) old new xs ys now v g k e = ap (λ z. packets_of new z) e ∙ packets_kept old new xs g k ∙ v
 
-pub inside_kept : (old new : List ℕ) (xs ys : List Sent) → (length xs ≤ PACKETS) × AllByRecursion (IsIn old) xs → HasGrown old new → ys ≡ xs → (length ys ≤ PACKETS) × AllByRecursion (IsIn new) ys
+pub inside_kept : (old new : List ℕ) (xs ys : List Sent) → (length xs ≤ PACKETS) × AllByRecursion (IsIn old) xs
+    → HasGrown old new → ys ≡ xs → (length ys ≤ PACKETS) × AllByRecursion (IsIn new) ys
 inside_kept old new xs ys k g e = subst (λ z. (length z ≤ PACKETS) × AllByRecursion (IsIn new) z) (sym e) (k.0, in_kept old new xs g k.1)
 
-pub inside_more : (old new : List ℕ) (xs ys : List Sent) (s : Sent) (now : List (End × List ℕ)) → packets_of old xs ≡ now → length now < PACKETS → AllByRecursion (IsIn old) xs → HasGrown old new → IsIn new s → ys ≡ xs ++ s ∷ [] → (length ys ≤ PACKETS) × AllByRecursion (IsIn new) ys
+pub inside_more : (old new : List ℕ) (xs ys : List Sent) (s : Sent) (now : List (End × List ℕ))
+    → packets_of old xs ≡ now → length now < PACKETS → AllByRecursion (IsIn old) xs → HasGrown old new → IsIn new s
+    → ys ≡ xs ++ s ∷ [] → (length ys ≤ PACKETS) × AllByRecursion (IsIn new) ys
 inside_more old new xs ys s now v l k g h e =
     let count : length now ≡ length xs = ap length (sym v) ∙ length-map xs (packet_of old) in
     let size : length (xs ++ s ∷ []) ≡ length xs + 1 = length-append xs (s ∷ []) in
     let few : length (xs ++ s ∷ []) ≤ PACKETS = omega (arith, count, size, l) in
     subst (λ z. (length z ≤ PACKETS) × AllByRecursion (IsIn new) z) (sym e) (few, in_more new xs s (in_kept old new xs g k) h)
 
-pub ok_view : (old new : List ℕ) (xs ys : List Sent) (s : Sent) (p : End × List ℕ) (now : List (End × List ℕ)) → packets_of old xs ≡ now → AllByRecursion (IsIn old) xs → HasGrown old new → packet_of new s ≡ p → ys ≡ xs ++ s ∷ [] → packets_of new ys ≡ now ++ p ∷ []
+pub ok_view : (old new : List ℕ) (xs ys : List Sent) (s : Sent) (p : End × List ℕ) (now : List (End × List ℕ))
+    → packets_of old xs ≡ now → AllByRecursion (IsIn old) xs → HasGrown old new → packet_of new s ≡ p
+    → ys ≡ xs ++ s ∷ [] → packets_of new ys ≡ now ++ p ∷ []
 ok_view old new xs ys s p now v k g h e =
     ap (λ z. packets_of new z) e ∙ packets_more new xs s ∙ ap (λ z. z ++ packet_of new s ∷ []) (packets_kept old new xs g k ∙ v) ∙ ap (λ z. now ++ z ∷ []) h

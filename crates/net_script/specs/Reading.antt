@@ -46,4 +46,5 @@ IsRead read (Err scripts.Memory) = Unit {0}
 
 -- a command of a node's or a disk's power
 abbrev pub is_power : List ℕ → Bool
-is_power command = bytes_eq command (codes "cut") || (bytes_eq command (codes "crash") || (bytes_eq command (codes "restart") || bytes_eq command (codes "wipe")))
+is_power command = bytes_eq command (codes "cut")
+    || (bytes_eq command (codes "crash") || (bytes_eq command (codes "restart") || bytes_eq command (codes "wipe")))

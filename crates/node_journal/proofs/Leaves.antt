@@ -39,13 +39,16 @@ module _ (a : DiskState) (P : List ℕ → Type 0) where
   lost : (left : List ℕ) (s z : DiskState) → LeavesOnly a s P → P left → Lost left s z → LeavesOnly a z P
   lost left s z so p l = moves s z so l.past (λ c h. subst P (sym (image_lost left s z c l h)) (either P s.keep left s.kept p (kept_has s so)))
 
-  pub write_done : (at : ℕ) (piece : List ℕ) (s z : DiskState) → LeavesOnly a s P → ((c d : List ℕ) → Image s c → Torn at (length piece) c d → P d) → Put at piece s z → LeavesOnly a z P
+  pub write_done : (at : ℕ) (piece : List ℕ) (s z : DiskState) → LeavesOnly a s P
+      → ((c d : List ℕ) → Image s c → Torn at (length piece) c d → P d) → Put at piece s z → LeavesOnly a z P
   write_done at piece s z so torn put = moves s z so put.past (λ c h. let from = image_put at piece s z c put h in torn from.0 c from.1 from.2)
 
   pub sync_done : (s z : DiskState) → LeavesOnly a s P → P s.bytes → Settled s z → LeavesOnly a z P
   sync_done s z so p settled = moves s z so settled.past (λ c h. subst P (sym (image_settled s z c settled h)) p)
 
-  pub write_failed : (at : ℕ) (piece : List ℕ) (s z : DiskState) (e : DiskErr) → s.tells ≡ true → LeavesOnly a s P → ((c d : List ℕ) → Image s c → Torn at (length piece) c d → P d) → P (written at piece s.bytes) → Writes at piece s z (Err e) → LeavesOnly a z P
+  pub write_failed : (at : ℕ) (piece : List ℕ) (s z : DiskState) (e : DiskErr) → s.tells ≡ true → LeavesOnly a s P
+      → ((c d : List ℕ) → Image s c → Torn at (length piece) c d → P d) → P (written at piece s.bytes)
+      → Writes at piece s z (Err e) → LeavesOnly a z P
   write_failed at piece s z Memory tells so torn p same = stays s z so same
   write_failed at piece s z Failed tells so torn p (inl stood) = stays s z so stood.same
   write_failed at piece s z Failed tells so torn p (inr (inl stop)) = lost (written at piece s.bytes) s z so p (stop.content tells)

@@ -1,5 +1,6 @@
 -- What each call of an opening leaves.
-use Rattle.std.proofs.Common.{◌≡◌, inl, inr, ℕ, ◌+◌, ◌<◌, ◌≤◌, Bool, false, cond, List, [], ◌∷◌, length, get_or, true, false, Result, Ok, Err, ◌&&◌, ◌==◌, nat_lt, nat_le, refl, sym, ◌∙◌, ap, subst, arith}
+use Rattle.std.proofs.Common.{◌≡◌, inl, inr, ℕ, ◌+◌, ◌<◌, ◌≤◌, Bool, false, cond, List, [], ◌∷◌, length, get_or, true}
+use Rattle.std.proofs.Common.{false, Result, Ok, Err, ◌&&◌, ◌==◌, nat_lt, nat_le, refl, sym, ◌∙◌, ap, subst, arith}
 use Rattle.std.proofs.lemmas.Bool.Decides.{nat_tests}
 use Rattle.std.proofs.lemmas.List.{drop_all}
 use Rattle.std.proofs.lemmas.Bool.{le-ltb, lt-ltb}
@@ -97,7 +98,8 @@ module _ (a : DiskState) (telling : a.tells ≡ true) (lawful : Lawful a) where
         let put = w.1.content s.tells in
         let mid = write_done a P 0 (0 ∷ []) b w.0 s.leaves (torn_short b s) put in
         sync_done a P w.0 z mid (subst P (sym (put.bytes ∙ zero)) (short_there (0 ∷ []) (omega arith))) (w.2.content (w.1.passed.tells ∙ s.tells))
-    shut_leaves b z (Err e) s (inl w) = write_failed a P 0 (0 ∷ []) b z e s.tells s.leaves (torn_short b s) (subst P (sym (zero_written b s)) (short_there (0 ∷ []) (omega arith))) w
+    shut_leaves b z (Err e) s (inl w) = write_failed a P 0 (0 ∷ []) b z e s.tells s.leaves (torn_short b s)
+        (subst P (sym (zero_written b s)) (short_there (0 ∷ []) (omega arith))) w
     shut_leaves b z (Err e) s (inr w) =
         let put = w.1.content s.tells in
         let mid = write_done a P 0 (0 ∷ []) b w.0 s.leaves (torn_short b s) put in

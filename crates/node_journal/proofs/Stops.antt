@@ -1,5 +1,6 @@
 -- Where an armed stop is met in an append, and what it leaves.
-use Rattle.std.proofs.Common.{◌≡◌, ◌⊎◌, inl, inr, ℕ, ◌+◌, ◌-◌, ◌<◌, ◌≤◌, List, [], ◌∷◌, ◌++◌, length, Bool, true, false, cond, Result, Ok, Err, refl, sym, ◌∙◌, ap, subst, arith}
+use Rattle.std.proofs.Common.{◌≡◌, ◌⊎◌, inl, inr, ℕ, ◌+◌, ◌-◌, ◌<◌, ◌≤◌, List, [], ◌∷◌, ◌++◌, length, Bool, true, false}
+use Rattle.std.proofs.Common.{cond, Result, Ok, Err, refl, sym, ◌∙◌, ap, subst, arith}
 use Rattle.aeg_disk.specs.declared.disk.DiskErr.{DiskErr}
 use Rattle.aeg_disk.specs.declared.disk.DiskErr.TheVariants.{Failed, Memory}
 use Rattle.aeg_disk.specs.Disk.{DiskState, Image, Lost, Stop, Passed, Writes, Syncs, written, Rose}
@@ -19,7 +20,8 @@ by_keep rs1 rs at1 at false x y p q = q
 early : (rs : List (List ℕ)) (at : ℕ) (left : List ℕ) (s z : DiskState) → Lost left s z → Ends rs at left → Ends rs at s.kept → Holds rs at z
 early rs at left s z l p q x h = subst (Ends rs at) (sym (image_lost left s z x l h)) (either (Ends rs at) s.keep left s.kept p q)
 
-late : (rs1 rs : List (List ℕ)) (at1 at : ℕ) (left : List ℕ) (s z : DiskState) (keep : Bool) → s.keep ≡ keep → Lost left s z → Ends rs1 at1 left → Ends rs at s.kept
+late : (rs1 rs : List (List ℕ)) (at1 at : ℕ) (left : List ℕ) (s z : DiskState) (keep : Bool) → s.keep ≡ keep
+    → Lost left s z → Ends rs1 at1 left → Ends rs at s.kept
     → Holds (cond keep rs1 rs) (cond keep at1 at) z
 late rs1 rs at1 at left s z keep k l p q = subst (λ (b : Bool). Holds (cond b rs1 rs) (cond b at1 at) z) k
     (λ x h. subst (Ends (cond s.keep rs1 rs) (cond s.keep at1 at)) (sym (image_lost left s z x l h)) (by_keep rs1 rs at1 at s.keep left s.kept p q))
@@ -28,7 +30,8 @@ late rs1 rs at1 at left s z keep k l p q = subst (λ (b : Bool). Holds (cond b r
 abbrev Left : List (List ℕ) → ℕ → List ℕ → Bool → DiskState → ℕ → Type 0
 Left rs at body keep z nth = Holds (cond (is_kept nth keep) (rs ++ body ∷ []) rs) (cond (is_kept nth keep) (at + 5 + length body) at) z
 
-met : (rs : List (List ℕ)) (at : ℕ) (body : List ℕ) (a z : DiskState) (nth : ℕ) → a.armed ≡ nth → 1 ≤ nth → nth ≤ 4 → z.faults ≡ a.faults → (a.tells ≡ true → Left rs at body a.keep z nth) → StopMet rs at body a z
+met : (rs : List (List ℕ)) (at : ℕ) (body : List ℕ) (a z : DiskState) (nth : ℕ) → a.armed ≡ nth → 1 ≤ nth → nth ≤ 4
+    → z.faults ≡ a.faults → (a.tells ≡ true → Left rs at body a.keep z nth) → StopMet rs at body a z
 met rs at body a z nth is low high faults left = record {
   first = omega (arith, is);
   last = omega (arith, is);
@@ -41,7 +44,8 @@ module _ (body : List ℕ) (low : 0 < length body) (high : length body ≤ RECOR
   abbrev S : DiskState → Type 0
   S z = z.stopped ≡ true → StopMet rs at body a z
 
-  stopped_write : (n : ℕ) (piece : List ℕ) (s z : DiskState) (e : DiskErr) → s.stopped ≡ false → (Stop s z (written n piece s.bytes) → StopMet rs at body a z) → Writes n piece s z (Err e) → S z
+  stopped_write : (n : ℕ) (piece : List ℕ) (s z : DiskState) (e : DiskErr) → s.stopped ≡ false
+      → (Stop s z (written n piece s.bytes) → StopMet rs at body a z) → Writes n piece s z (Err e) → S z
   stopped_write n piece s z Memory run stop same stands = cc
   stopped_write n piece s z Failed run stop (inl stood) stands = let e = stood.stopped in cc
   stopped_write n piece s z Failed run stop (inr (inl met)) stands = stop met
@@ -75,7 +79,8 @@ module _ (body : List ℕ) (low : 0 < length body) (high : length body ≤ RECOR
     run = p.runs;
   }
 
-  stop_at : (n : ℕ) (s z : DiskState) (left : List ℕ) → Far n s → Stop s z left → n < 4 → (a.tells ≡ true → s.tells ≡ true → Lost left s z → Left rs at body a.keep z (n + 1)) → StopMet rs at body a z
+  stop_at : (n : ℕ) (s z : DiskState) (left : List ℕ) → Far n s → Stop s z left → n < 4
+      → (a.tells ≡ true → s.tells ≡ true → Lost left s z → Left rs at body a.keep z (n + 1)) → StopMet rs at body a z
   stop_at n s z left f stop le after =
       let is : a.armed ≡ n + 1 = omega (arith, stop.met, f.armed) in
       met rs at body a z (n + 1) is (omega arith) (omega arith) (stop.faults ∙ f.faults) (λ t. after t (f.tells ∙ t) (stop.content (f.tells ∙ t)))
@@ -87,7 +92,8 @@ module _ (body : List ℕ) (low : 0 < length body) (high : length body ≤ RECOR
     G : (b c : DiskState) → Writes (at + 1) (entry body) a b (Ok tt) → Syncs b c (Ok tt) → Second body low high rs at a t (holds t) (reads t) c
     G b c w s = second body low high rs at a t (holds t) (reads t) b c (F b w) s
 
-    H : (b c d : DiskState) → Writes (at + 1) (entry body) a b (Ok tt) → Syncs b c (Ok tt) → Writes at (1 ∷ []) c d (Ok tt) → Third body low high rs at a t (holds t) (reads t) d
+    H : (b c d : DiskState) → Writes (at + 1) (entry body) a b (Ok tt) → Syncs b c (Ok tt)
+        → Writes at (1 ∷ []) c d (Ok tt) → Third body low high rs at a t (holds t) (reads t) d
     H b c d w s v = third body low high rs at a t (holds t) (reads t) c d (G b c w s) v
 
   pub stops : (z : DiskState) (r : Result (Unit {0}) DiskErr) → Ran at (entry body) a z r → S z
@@ -124,7 +130,8 @@ module _ (body : List ℕ) (low : 0 < length body) (high : length body ≤ RECOR
   risen : (s z : DiskState) → s.faults ≡ a.faults → Rose s.faults z.faults → Rose a.faults z.faults
   risen s z e h = subst (λ (n : ℕ). Rose n z.faults) e h
 
-  after_write : (n : ℕ) (piece : List ℕ) (s z : DiskState) → s.stopped ≡ false → s.faults ≡ a.faults → Writes n piece s z (Err Failed) → (z.stopped ≡ true) ⊎ Rose a.faults z.faults
+  after_write : (n : ℕ) (piece : List ℕ) (s z : DiskState) → s.stopped ≡ false → s.faults ≡ a.faults
+      → Writes n piece s z (Err Failed) → (z.stopped ≡ true) ⊎ Rose a.faults z.faults
   after_write n piece s z run e (inl stood) = let y = stood.stopped in cc
   after_write n piece s z run e (inr (inl stop)) = inl stop.stopped
   after_write n piece s z run e (inr (inr fault)) = inr (risen s z e fault.faults)

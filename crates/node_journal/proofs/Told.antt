@@ -60,16 +60,19 @@ pub len_told : {T : Type 0} (a b z : DiskState) (e : DiskErr) (r : Result T Open
 len_told a b z DiskErrs.Failed r is s w = inl (error_is r DiskErrs.Failed is)
 len_told a b z DiskErrs.Memory r is s same = inr (then_well a b z (sync_well a b s) (none_failed b z same))
 
-pub reads_told : {T : Type 0} (X : Type 0) (a b d z : DiskState) (e : OpenErr) → Syncs a b (Ok tt) → d ≡ b → LooksTo {T = X} d z (Err e) → Tells {T = T} (Err e) a z
+pub reads_told : {T : Type 0} (X : Type 0) (a b d z : DiskState) (e : OpenErr) → Syncs a b (Ok tt) → d ≡ b
+    → LooksTo {T = X} d z (Err e) → Tells {T = T} (Err e) a z
 reads_told X a b d z Disk s same w = inl refl
 reads_told X a b d z Memory s same w = inr (then_well a b z (sync_well a b s) (none_failed b z (w ∙ same)))
 reads_told X a b d z (BadRecord at) s same w = inr (then_well a b z (sync_well a b s) (none_failed b z (w ∙ same)))
 
-pub shut_told : {T : Type 0} (a b d z : DiskState) (e : DiskErr) (r : Result T OpenErr) → IsError r e → Syncs a b (Ok tt) → d ≡ b → Shuts d z (Err e) → Tells r a z
+pub shut_told : {T : Type 0} (a b d z : DiskState) (e : DiskErr) (r : Result T OpenErr) → IsError r e
+    → Syncs a b (Ok tt) → d ≡ b → Shuts d z (Err e) → Tells r a z
 shut_told a b d z DiskErrs.Failed r is s same w = inl (error_is r DiskErrs.Failed is)
 shut_told a b d z DiskErrs.Memory r is s same (inl w) = inr (then_well a b z (sync_well a b s) (none_failed b z (w ∙ same)))
 shut_told a b d z DiskErrs.Memory r is s same (inr w) =
-    inr (then_well a b z (sync_well a b s) (then_well b d z (none_failed b d same) (then_well d w.0 z (write_well 0 (0 ∷ []) d w.0 w.1) (none_failed w.0 z w.2))))
+    inr (then_well a b z (sync_well a b s)
+    (then_well b d z (none_failed b d same) (then_well d w.0 z (write_well 0 (0 ∷ []) d w.0 w.1) (none_failed w.0 z w.2))))
 
 -- an opening that went well
 pub read_well : (a b d z : DiskState) → Syncs a b (Ok tt) → d ≡ b → z ≡ d → IsFaultless a z

@@ -7,12 +7,14 @@ use Rattle.node_journal.specs.Journal.{Ends, records}
 -- the four calls, up to the first that failed
 abbrev pub Ran : ℕ → List ℕ → DiskState → DiskState → Result (Unit {0}) DiskErr → Type 0
 Ran at piece a z (Ok _) =
-    (b : DiskState) × (c : DiskState) × (d : DiskState) × Writes (at + 1) piece a b (Ok tt) × Syncs b c (Ok tt) × Writes at (1 ∷ []) c d (Ok tt) × Syncs d z (Ok tt)
+    (b : DiskState) × (c : DiskState) × (d : DiskState) × Writes (at + 1) piece a b (Ok tt) × Syncs b c (Ok tt)
+    × Writes at (1 ∷ []) c d (Ok tt) × Syncs d z (Ok tt)
 Ran at piece a z (Err e) =
     Writes (at + 1) piece a z (Err e)
     ⊎ ((b : DiskState) × Writes (at + 1) piece a b (Ok tt) × Syncs b z (Err e))
     ⊎ ((b : DiskState) × (c : DiskState) × Writes (at + 1) piece a b (Ok tt) × Syncs b c (Ok tt) × Writes at (1 ∷ []) c z (Err e))
-    ⊎ ((b : DiskState) × (c : DiskState) × (d : DiskState) × Writes (at + 1) piece a b (Ok tt) × Syncs b c (Ok tt) × Writes at (1 ∷ []) c d (Ok tt) × Syncs d z (Err e))
+    ⊎ ((b : DiskState) × (c : DiskState) × (d : DiskState) × Writes (at + 1) piece a b (Ok tt) × Syncs b c (Ok tt)
+    × Writes at (1 ∷ []) c d (Ok tt) × Syncs d z (Err e))
 
 -- neither a fault of the disk nor a stop came
 pub record IsFaultless (a b : DiskState) : Type 0 where

@@ -1,5 +1,6 @@
 -- What opening a journal reads.
-use Rattle.std.specs.Prelude.{◌≡◌, ◌≢◌, ◌⊎◌, ◌+◌, ◌≤◌, ◌++◌, [], ◌∷◌, get_or, drop, ℕ, List, length, true, false, cond, nat_lt, Option, Some, None, Result, Ok, Err}
+use Rattle.std.specs.Prelude.{◌≡◌, ◌≢◌, ◌⊎◌, ◌+◌, ◌≤◌, ◌++◌, [], ◌∷◌, get_or, drop, ℕ, List, length, true, false, cond}
+use Rattle.std.specs.Prelude.{nat_lt, Option, Some, None, Result, Ok, Err}
 use Rattle.aeg_disk.specs.declared.disk.DiskErr.{DiskErr}
 use Rattle.aeg_disk.specs.declared.disk.DiskErr.TheVariants as DiskErrs
 use Rattle.aeg_disk.specs.Disk.{DiskState, Image, Writes, Syncs, Rose}

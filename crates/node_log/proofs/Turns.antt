@@ -1,5 +1,6 @@
 -- What a turn of a node's log writes and sends can be written and sent. It writes at most one fact.
-use Rattle.std.proofs.Common.{◌≡◌, ℕ, ◌+◌, ◌*◌, ◌<◌, ◌≤◌, Bool, true, false, cond, List, [], ◌∷◌, length, map, sym, ap, ◌∙◌, subst, inl, inr, arith, Option, Some, None}
+use Rattle.std.proofs.Common.{◌≡◌, ℕ, ◌+◌, ◌*◌, ◌<◌, ◌≤◌, Bool, true, false, cond, List, [], ◌∷◌, length, map, sym, ap}
+use Rattle.std.proofs.Common.{◌∙◌, subst, inl, inr, arith, Option, Some, None}
 use Rattle.std.specs.Prelude.{slice_get, nat_lt, nat_le, ◌==◌}
 use Rattle.std.specs.List.{AllByRecursion}
 use Rattle.std.proofs.lemmas.List.{length-map}
@@ -14,7 +15,9 @@ use Rattle.log_model.specs.declared.turn.LogTurn.{LogTurn}
 use Rattle.log_model.specs.declared.turn.LogIdle.{LogIdle}
 use Rattle.log_model.specs.declared.turn.LogIdle.TheVariants.{BallotSpent, Stale, Behind as IsBehind, Nothing}
 use Rattle.log_model.specs.Log.{Leader, LogState, Turn, told, open_at, idles, stays, says, seen_at, count_below, is_at, is_from, with_ballot}
-use Rattle.log_model.specs.Rows.{tells, leads, lead, promises, joins, on_prepare, on_promise, promised_by, to_offer, offers, offer_as, offer, accepts, says_again, on_accept, learned_turn, notes, on_accepted, on_learn, on_ask, on_msg}
+use Rattle.log_model.specs.Rows.{tells, leads, lead, promises, joins, on_prepare, on_promise, promised_by, to_offer}
+use Rattle.log_model.specs.Rows.{offers, offer_as, offer, accepts, says_again, on_accept, learned_turn, notes}
+use Rattle.log_model.specs.Rows.{on_accepted, on_learn, on_ask, on_msg}
 use Rattle.log_model.specs.Ranges.{IsFactIn, IsLogIn, IsMessageIn, IsSendIn, IsOwnIn, MayRaise}
 use Rattle.log_model.proofs.Ranged.{msg_in, lead_in, offer_in}
 use Rattle.log_values.specs.declared.any_value.AnyValue.{AnyValue}

@@ -1,5 +1,6 @@
 -- What contracts see of a node, and what an event makes of it, of its disk and of the packets.
-use Rattle.std.specs.Prelude.{◌≡◌, ◌⊎◌, ℕ, ◌+◌, ◌-◌, ◌^◌, ◌≤◌, min, Bool, true, false, List, [], ◌++◌, Option, Some, None, is_some, option_map, IfSome, IfOk, OnOk, OnErr}
+use Rattle.std.specs.Prelude.{◌≡◌, ◌⊎◌, ℕ, ◌+◌, ◌-◌, ◌^◌, ◌≤◌, min, Bool, true, false, List, [], ◌++◌, Option, Some}
+use Rattle.std.specs.Prelude.{None, is_some, option_map, IfSome, IfOk, OnOk, OnErr}
 use Rattle.std.specs.declared.result.Result.{Result}
 use Rattle.std.specs.declared.result.Result.TheVariants.{Err}
 use Rattle.aeg_base.specs.declared.names.Tier.{Tier}

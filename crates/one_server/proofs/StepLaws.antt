@@ -36,14 +36,16 @@ resumed s who body number code None ran h = absurd h
 resumed s who body number code (Some segment) ran h = λ i. ended s who body number (h.1 i) (h.0 i)
 
 -- a request in progress whose call was served goes on, and ends as its segment does
-pub resume_ends : {B : Type 0} (m : Meaning B) (s new : Server B) (who : ReqId) (number : ℕ) (progress : Progress) (body : List ℕ) (code : ℕ) (ran : Ran) (result : Result Told StepErr)
+pub resume_ends : {B : Type 0} (m : Meaning B) (s new : Server B) (who : ReqId) (number : ℕ) (progress : Progress)
+    (body : List ℕ) (code : ℕ) (ran : Ran) (result : Result Told StepErr)
     → progress_of s who.client ≡ Some progress → progress.seq ≡ who.seq → body ≡ progress.body → code_of s progress.tier progress.number ≡ Some code
     → Runs (m.table who body progress.stage) (Some code) s.store (Some ran)
     → Answers (ended s who body number (after s.store ran.writes.items) ran.ending) s new result → Answers (step m s (Resume who number) []) s new result
 resume_ends {B} m s new who number progress body code ran result there same_seq text served runs h =
     let same : step m s (Resume who number) [] ≡ ended s who body number (after s.store ran.writes.items) ran.ending =
     ap (λ (p : Option Progress). resume m s who number p) there
-    ∙ ap (λ (b : Bool). if b then resumes m s who number progress (code_of s progress.tier progress.number) else Refused 5) (eq-eqb progress.seq who.seq same_seq)
+    ∙ ap (λ (b : Bool). if b then resumes m s who number progress (code_of s progress.tier progress.number) else Refused
+    5) (eq-eqb progress.seq who.seq same_seq)
     ∙ ap (λ (o : Option ℕ). resumes m s who number progress o) served
     ∙ ap (λ (b : List ℕ). goes_on s who b number code (m.table who b progress.stage)) (sym text)
     ∙ resumed s who body number code (m.table who body progress.stage) ran runs in

@@ -9,4 +9,6 @@ pub record Kept : Type 0 where
   pub progress : List (Option Progress)
 
 abbrev pub kept_code : Coded Kept
-kept_code = code_by (List ℕ × List (Option Progress)) (coded× (coded_list coded_ℕ) (coded_list (coded_option progress_code))) (λ k. (k.last, k.progress)) (λ p. record { last = p.0; progress = p.1 }) (λ _. refl)
+kept_code = code_by (List ℕ × List (Option Progress))
+    (coded× (coded_list coded_ℕ) (coded_list (coded_option progress_code))) (λ k. (k.last, k.progress))
+    (λ p. record { last = p.0; progress = p.1 }) (λ _. refl)

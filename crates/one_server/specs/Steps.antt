@@ -30,7 +30,9 @@ IsNamed (Resume who number) = IsRequest who
 
 -- the request waits for its call, or nothing has changed
 abbrev pub Calls : {B : Type 0} → Server B → Server B → ReqId → Progress → Store → List ℕ → Result Told StepErr → Type 0
-Calls old new who progress store text (Ok told) = (new ≡ called old who progress.body progress.number store progress.tier progress.stage text) × (told ≡ Called progress.tier progress.number text)
+Calls old new who progress store text (Ok told) = (new
+    ≡ called old who progress.body progress.number store progress.tier progress.stage text)
+    × (told ≡ Called progress.tier progress.number text)
 Calls old new who progress store text (Err (Illegal row)) = ⊥
 Calls old new who progress store text (Err Memory) = new ≡ old
 

@@ -1,5 +1,6 @@
 -- Rows by the parts of a log that they change.
-use Rattle.std.proofs.Common.{◌≡◌, ℕ, ◌+◌, ◌*◌, ◌≤◌, Bool, true, false, cond, [], ◌∷◌, ◌++◌, length, refl, sym, ap, subst, ◌∙◌, inl, inr, arith, Option, Some, None}
+use Rattle.std.proofs.Common.{◌≡◌, ℕ, ◌+◌, ◌*◌, ◌≤◌, Bool, true, false, cond, [], ◌∷◌, ◌++◌, length, refl, sym, ap}
+use Rattle.std.proofs.Common.{subst, ◌∙◌, inl, inr, arith, Option, Some, None}
 use Rattle.std.specs.Prelude.{nat_le, ◌==◌, ◌&&◌, not, ◌⊎◌, IfSome, IsSome, option_map, if◌then◌else◌}
 use Rattle.std.proofs.lemmas.Bool.{cond-true, eq-eqb}
 use Rattle.aeg_base.specs.Ballots.{same_ballot}
@@ -20,7 +21,8 @@ use Rattle.paxos_log.specs.Parts.{offered_by, offer_out}
 use Rattle.paxos_log.specs.TierLog.{NodeLog, with_state, as_leader, kept, sent, joined, IsLed, CanOffer}
 
 -- what an acceptor reports at a position that isn't before the open one
-pub report_is : {V : Type 0} (vote : Option (Vote V)) (f p : ℕ) → IfSome vote (λ v. v.at ≤ f) → f ≤ p → voted_at vote p ≡ (if f == p then voted_at vote f else None)
+pub report_is : {V : Type 0} (vote : Option (Vote V)) (f p : ℕ) → IfSome vote (λ v. v.at ≤ f) → f ≤ p
+    → voted_at vote p ≡ (if f == p then voted_at vote f else None)
 report_is None f p k l = grind arith
 report_is (Some v) f p k l = grind arith
 
@@ -36,7 +38,8 @@ kept_is {V} (Some l) b = go (same_ballot l.ballot b)
     go true = refl
     go false = refl
 
-pub kept_led : {V : Type 0} (a : AcceptorState V) (n : LearnerState V) (o : Option (Leading V)) (b : Ballot) (p : ℕ) (v : V) → IsLed a n o → IsLed (voted b p v) n (kept o b)
+pub kept_led : {V : Type 0} (a : AcceptorState V) (n : LearnerState V) (o : Option (Leading V)) (b : Ballot) (p : ℕ)
+    (v : V) → IsLed a n o → IsLed (voted b p v) n (kept o b)
 kept_led a n None b p v k = tt
 kept_led {V} a n (Some l) b p v k = go (same_ballot l.ballot b) refl
   where
@@ -45,7 +48,8 @@ kept_led {V} a n (Some l) b p v k = go (same_ballot l.ballot b) refl
     go false e = tt
 
 -- the state after a vote at the open position, whose leader is kept only where it leads with that ballot
-pub accepted_state : {V : Type 0} (u : ℕ) (a c : AcceptorState V) (n : LearnerState V) (o k : Option (Leading V)) (b : Ballot) (p : ℕ) (v w : V) → c ≡ voted b p w → w ≡ v → k ≡ kept o b → p ≡ length n.learned
+pub accepted_state : {V : Type 0} (u : ℕ) (a c : AcceptorState V) (n : LearnerState V) (o k : Option (Leading V))
+    (b : Ballot) (p : ℕ) (v w : V) → c ≡ voted b p w → w ≡ v → k ≡ kept o b → p ≡ length n.learned
     → joined c n k ≡ (accepts u (joined a n o) b p v).state
 accepted_state u a c n o k b p v w e f h at = rw (e, f, h) (rw (voted_here p (length n.learned) b v at, kept_is o b) refl)
 
@@ -67,12 +71,17 @@ pair_of : {V : Type 0} (b c : Ballot) (v w : V) → ◌≡◌ {A = Option (Ballo
 pair_of {V} b c v w e = let q : ◌≡◌ {A = Ballot × V} (b, v) (c, w) = cc in (ap (λ (z : Ballot × V). z.0) q, ap (λ (z : Ballot × V). z.1) q)
 
 -- where a value is wanted and there, it is offered
-pub offer_is : {V : Type 0} (u x : ℕ) (log : LogState V) (o : Option (Leader V)) (own : Option V) (b : Ballot) (v : V) → CanOffer (wants_as u log o) own → offered_by o (open_at log) own ≡ Some (b, v)
+pub offer_is : {V : Type 0} (u x : ℕ) (log : LogState V) (o : Option (Leader V)) (own : Option V) (b : Ballot) (v : V)
+    → CanOffer (wants_as u log o) own → offered_by o (open_at log) own ≡ Some (b, v)
     → offer_as u x log o own ≡ offer_turn u x log (sent_at o (open_at log)) b v
 offer_is u x log None own b v c e = absurd c
-offer_is {V} u x log (Some l) own b v c e = go (nat_le (promised_by u l) u) (open_at log == POSITIONS) (is_at l.last (open_at log)) (is_taken (open_at log) l) c (to_offer (open_at log) l own) e
+offer_is {V} u x log (Some l) own b v c e = go (nat_le (promised_by u l) u) (open_at log == POSITIONS)
+    (is_at l.last (open_at log)) (is_taken (open_at log) l) c (to_offer (open_at log) l own) e
   where
-    go : (a d f g : Bool) → CanOffer (cond a (NoPromises (promised_by u l)) (cond d LogFull (cond f (InFlight (open_at log)) (cond g Taken (Free (open_at log)))))) own → (w : Option V) → option_map {T = V} {U = Ballot × V} (λ v. (l.ballot, v)) w ≡ Some (b, v)
+    go : (a d f g : Bool)
+        → CanOffer (cond a (NoPromises (promised_by u l))
+        (cond d LogFull (cond f (InFlight (open_at log)) (cond g Taken (Free (open_at log)))))) own → (w : Option V)
+        → option_map {T = V} {U = Ballot × V} (λ v. (l.ballot, v)) w ≡ Some (b, v)
         → cond a (stays log) (cond d (stays log) (cond f (stays log) (offers u x log l w))) ≡ offer_turn u x log (sent_at (Some l) (open_at log)) b v
     go true d f g c w e = absurd c
     go false true f g c w e = absurd c
@@ -80,7 +89,8 @@ offer_is {V} u x log (Some l) own b v c e = go (nat_le (promised_by u l) u) (ope
     go false false false g c None e = absurd (cc)
     go false false false g c (Some w) e = rw ((pair_of l.ballot b w v e).0, (pair_of l.ballot b w v e).1) refl
 
-own_or : {V : Type 0} (t : Bool) (best : Option (Ballot × V)) (own : Option V) → (t && not (is_none best) ≡ true) ⊎ IsSome own → IsSome (cond t (value_or best own) own)
+own_or : {V : Type 0} (t : Bool) (best : Option (Ballot × V)) (own : Option V) → (t && not (is_none best) ≡ true)
+    ⊎ IsSome own → IsSome (cond t (value_or best own) own)
 own_or true None own (inl e) = absurd (cc)
 own_or true None own (inr s) = s
 own_or true (Some a) own s = refl
@@ -91,11 +101,18 @@ some_mapped : {A B : Type 0} (f : A → B) (o : Option A) → IsSome o → IsSom
 some_mapped f None s = s
 some_mapped f (Some a) s = refl
 
-pub can_offer : {V : Type 0} (u : ℕ) (log : LogState V) (o : Option (Leader V)) (own : Option V) → CanOffer (wants_as u log o) own → IsSome (offered_by o (open_at log) own)
+pub can_offer : {V : Type 0} (u : ℕ) (log : LogState V) (o : Option (Leader V)) (own : Option V)
+    → CanOffer (wants_as u log o) own → IsSome (offered_by o (open_at log) own)
 can_offer u log None own c = absurd c
-can_offer {V} u log (Some l) own c = some_mapped {A = V} {B = Ballot × V} (λ v. (l.ballot, v)) (to_offer (open_at log) l own) (own_or (open_at log == l.led_at) l.best own (go (nat_le (promised_by u l) u) (open_at log == POSITIONS) (is_at l.last (open_at log)) (is_taken (open_at log) l) refl c))
+can_offer {V} u log (Some l) own c = some_mapped {A = V} {B = Ballot × V} (λ v. (l.ballot, v))
+    (to_offer (open_at log) l own)
+    (own_or (open_at log == l.led_at) l.best own
+    (go (nat_le (promised_by u l) u) (open_at log == POSITIONS) (is_at l.last (open_at log)) (is_taken (open_at log) l) refl c))
   where
-    go : (a d f g : Bool) → is_taken (open_at log) l ≡ g → CanOffer (cond a (NoPromises (promised_by u l)) (cond d LogFull (cond f (InFlight (open_at log)) (cond g Taken (Free (open_at log)))))) own → (is_taken (open_at log) l ≡ true) ⊎ IsSome own
+    go : (a d f g : Bool) → is_taken (open_at log) l ≡ g
+        → CanOffer (cond a (NoPromises (promised_by u l))
+        (cond d LogFull (cond f (InFlight (open_at log)) (cond g Taken (Free (open_at log)))))) own
+        → (is_taken (open_at log) l ≡ true) ⊎ IsSome own
     go true d f g e c = absurd c
     go false true f g e c = absurd c
     go false false true g e c = absurd c
@@ -103,7 +120,8 @@ can_offer {V} u log (Some l) own c = some_mapped {A = V} {B = Ballot × V} (λ v
     go false false false false e c = inr c
 
 -- a leader offers with the promised ballot
-pub offer_ballot : {V : Type 0} (a : AcceptorState V) (n : LearnerState V) (o : Option (Leading V)) (f : ℕ) (own : Option V) (b : Ballot) (v : V) → IsLed a n o → offered_by (option_map as_leader o) f own ≡ Some (b, v) → b ≡ a.promised
+pub offer_ballot : {V : Type 0} (a : AcceptorState V) (n : LearnerState V) (o : Option (Leading V)) (f : ℕ)
+    (own : Option V) (b : Ballot) (v : V) → IsLed a n o → offered_by (option_map as_leader o) f own ≡ Some (b, v) → b ≡ a.promised
 offer_ballot a n None f own b v k e = absurd (cc)
 offer_ballot {V} a n (Some l) f own b v k e = go (to_offer f (as_leader l) own) e
   where
@@ -111,7 +129,8 @@ offer_ballot {V} a n (Some l) f own b v k e = go (to_offer f (as_leader l) own) 
     go None e = absurd (cc)
     go (Some w) e = sym (pair_of l.ballot b w v e).0 ∙ k.1
 
-pub sent_led : {V : Type 0} (a : AcceptorState V) (n : LearnerState V) (o : Option (Leading V)) (b : Ballot) (p : ℕ) (v : V) → IsLed a n o → b ≡ a.promised → IsLed (voted b p v) n (sent o p)
+pub sent_led : {V : Type 0} (a : AcceptorState V) (n : LearnerState V) (o : Option (Leading V)) (b : Ballot) (p : ℕ)
+    (v : V) → IsLed a n o → b ≡ a.promised → IsLed (voted b p v) n (sent o p)
 sent_led a n None b p v k e = tt
 sent_led a n (Some l) b p v k e = (k.0, k.1 ∙ sym e)
 
@@ -120,30 +139,39 @@ sent_is None p = refl
 sent_is (Some l) p = refl
 
 -- the state after an offer
-pub offered_state : {V : Type 0} (u x : ℕ) (a c : AcceptorState V) (n : LearnerState V) (o k : Option (Leading V)) (own : Option V) (b : Ballot) (p : ℕ) (v : V) → CanOffer (wants u (joined a n o)) own → IsLed a n o
-    → Some (b, v) ≡ offered_by (option_map as_leader o) p own → p ≡ length n.learned → c ≡ voted b p v → k ≡ sent o p → joined c n k ≡ (offer u x (joined a n o) own).state
+pub offered_state : {V : Type 0} (u x : ℕ) (a c : AcceptorState V) (n : LearnerState V) (o k : Option (Leading V))
+    (own : Option V) (b : Ballot) (p : ℕ) (v : V) → CanOffer (wants u (joined a n o)) own → IsLed a n o
+    → Some (b, v) ≡ offered_by (option_map as_leader o) p own → p ≡ length n.learned → c ≡ voted b p v → k ≡ sent o p
+    → joined c n k ≡ (offer u x (joined a n o) own).state
 offered_state u x a c n o k own b p v can led e at f h =
     let there : offered_by (option_map as_leader o) (length n.learned) own ≡ Some (b, v) = rw at at (sym e) in
     let same : b ≡ a.promised = offer_ballot a n o p own b v led (sym e) in
     rw (f, h, offer_is u x (joined a n o) (option_map as_leader o) own b v can there) (rw (voted_here p (length n.learned) b v at, sent_is o p, at, same) refl)
 
 offered_out : {V : Type 0} (u x : ℕ) (a : AcceptorState V) (n : LearnerState V) (o : Option (Leading V)) (own : Option V) (b : Ballot) (p : ℕ) (v : V)
-    → CanOffer (wants u (joined a n o)) own → Some (b, v) ≡ offered_by (option_map as_leader o) p own → p ≡ length n.learned → offer_out u x b p v ≡ told (offer u x (joined a n o) own)
+    → CanOffer (wants u (joined a n o)) own → Some (b, v) ≡ offered_by (option_map as_leader o) p own
+    → p ≡ length n.learned → offer_out u x b p v ≡ told (offer u x (joined a n o) own)
 offered_out u x a n o own b p v can e at =
     let there : offered_by (option_map as_leader o) (length n.learned) own ≡ Some (b, v) = rw at at (sym e) in
     rw (offer_is u x (joined a n o) (option_map as_leader o) own b v can there) (rw at refl)
 
 -- what an offer writes down and sends
 pub offered_turn : {V : Type 0} (u x : ℕ) (a : AcceptorState V) (n : LearnerState V) (o : Option (Leading V)) (own : Option V) (b : Ballot) (p : ℕ) (v : V)
-    → CanOffer (wants u (joined a n o)) own → Some (b, v) ≡ offered_by (option_map as_leader o) p own → p ≡ length n.learned → (m : ℕ) (out : LogTurn V) → m ≡ u → out ≡ offer_out m x b p v → out ≡ told (offer u x (joined a n o) own)
+    → CanOffer (wants u (joined a n o)) own → Some (b, v) ≡ offered_by (option_map as_leader o) p own
+    → p ≡ length n.learned → (m : ℕ) (out : LogTurn V) → m ≡ u → out ≡ offer_out m x b p v
+    → out ≡ told (offer u x (joined a n o) own)
 offered_turn u x a n o own b p v can e at m out same is = is ∙ rw same (offered_out u x a n o own b p v can e at)
 
 -- what is asked of the log as contracts see it is asked of its parts
-pub can_at : {V : Type 0} (view now : NodeLog V) (own : Option V) → view ≡ now → CanOffer (wants now.faults now.state) own → CanOffer (wants view.faults view.state) own
+pub can_at : {V : Type 0} (view now : NodeLog V) (own : Option V) → view ≡ now
+    → CanOffer (wants now.faults now.state) own → CanOffer (wants view.faults view.state) own
 can_at {V} view now own e can = subst (λ (log : NodeLog V). CanOffer (wants log.faults log.state) own) (sym e) can
 
-pub offer_after : {V : Type 0} (view now new : NodeLog V) (own : Option V) → view ≡ now → new ≡ with_state view (offer view.faults view.me view.state own).state → new ≡ with_state now (offer now.faults now.me now.state own).state
+pub offer_after : {V : Type 0} (view now new : NodeLog V) (own : Option V) → view ≡ now
+    → new ≡ with_state view (offer view.faults view.me view.state own).state
+    → new ≡ with_state now (offer now.faults now.me now.state own).state
 offer_after {V} view now new own e k = subst (λ (log : NodeLog V). new ≡ with_state log (offer log.faults log.me log.state own).state) e k
 
-pub offer_told : {V : Type 0} (view now : NodeLog V) (out : LogTurn V) (own : Option V) → view ≡ now → out ≡ told (offer view.faults view.me view.state own) → out ≡ told (offer now.faults now.me now.state own)
+pub offer_told : {V : Type 0} (view now : NodeLog V) (out : LogTurn V) (own : Option V) → view ≡ now
+    → out ≡ told (offer view.faults view.me view.state own) → out ≡ told (offer now.faults now.me now.state own)
 offer_told {V} view now out own e k = subst (λ (log : NodeLog V). out ≡ told (offer log.faults log.me log.state own)) e k

@@ -44,7 +44,13 @@ sent (Some l) p = Some (record { ballot = l.ballot; led_at = l.led_at; promisers
 
 -- the state that acceptor, learner and leader make
 abbrev pub joined : {V : Type 0} → AcceptorState V → LearnerState V → Option (Leading V) → LogState V
-joined a n leader = record { promised = a.promised; accepted = voted_at a.vote (length n.learned); learned = n.learned; seen = n.seen; leader = option_map as_leader leader }
+joined a n leader = record {
+  promised = a.promised;
+  accepted = voted_at a.vote (length n.learned);
+  learned = n.learned;
+  seen = n.seen;
+  leader = option_map as_leader leader;
+}
 
 -- a leader leads with the promised ballot, and has a place for what each node promised
 abbrev pub IsLed : {V : Type 0} → AcceptorState V → LearnerState V → Option (Leading V) → Type 0

@@ -15,7 +15,8 @@ read_front n i xs v d e l = rw (← e) (get_or-take n xs i d (omega (arith, leng
 
 count_same : (n : ℕ) (f g : ℕ → Bool) → ((i : ℕ) → i < n → f i ≡ g i) → count_below n f ≡ count_below n g
 count_same zero f g h = refl
-count_same (suc n) f g h = let here : f n ≡ g n = h n (omega arith) in let r : count_below n f ≡ count_below n g = count_same n f g (λ i l. h i (omega arith)) in rw (here, r) refl
+count_same (suc n) f g h = let here : f n ≡ g n = h n (omega arith) in let r : count_below n f
+    ≡ count_below n g = count_same n f g (λ i l. h i (omega arith)) in rw (here, r) refl
 
 -- the count over the front
 pub count_front : {A : Type 0} (test : A → Bool) (n : ℕ) (xs v : List A) (d : A) → n ≤ length xs → take n xs ≡ v

@@ -1,5 +1,7 @@
 -- What segments within their limits write, and how they end.
-use Rattle.std.proofs.Common.{◌≡◌, ℕ, zero, suc, ◌-◌, ◌*◌, ◌<◌, ◌≤◌, ◌^◌, ◌==◌, Bool, true, false, cond, List, [], ◌∷◌, ◌++◌, length, length-append, Option, Some, None, unwrap_or, refl, sym, ap, subst, ◌∙◌, arith}
+use Rattle.std.proofs.Common.{◌≡◌, ℕ, zero, suc, ◌-◌, ◌*◌, ◌<◌, ◌≤◌, ◌^◌, ◌==◌, Bool, true, false, cond, List, [], ◌∷◌}
+use Rattle.std.proofs.Common.{◌++◌, length, length-append, Option, Some, None, unwrap_or, refl, sym, ap, subst, ◌∙◌}
+use Rattle.std.proofs.Common.{arith}
 use Rattle.std.specs.List.{All, AllByRecursion}
 use Rattle.aeg_base.specs.declared.names.Key.{Key}
 use Rattle.aeg_base.specs.Store.{Store, same_key, value_at, written}
@@ -90,7 +92,9 @@ do_all plan s (i ∷ is) h n =
       ends = λ j. at j (i == j) (rest.ends j) one.ends;
     }
   where
-    at : (j : ℕ) (b : Bool) → IsEnding (unwrap_or (serial_end plan (store_after (plan i) s) is j) said_nothing) → IsEnding (ending_of (plan i) s) → IsEnding (unwrap_or (cond b (Some (ending_of (plan i) s)) (serial_end plan (store_after (plan i) s) is j)) said_nothing)
+    at : (j : ℕ) (b : Bool) → IsEnding (unwrap_or (serial_end plan (store_after (plan i) s) is j) said_nothing)
+        → IsEnding (ending_of (plan i) s)
+        → IsEnding (unwrap_or (cond b (Some (ending_of (plan i) s)) (serial_end plan (store_after (plan i) s) is j)) said_nothing)
     at j true r e = e
     at j false r e = r
 
@@ -108,7 +112,9 @@ bounded_at begins (x ∷ xs) proper each zero = at (begins x.who x.body x.stage)
 bounded_at begins (x ∷ xs) proper each (suc i) = bounded_at begins xs proper (λ k d lt. each (suc k) d (omega arith)) i
 
 -- a run leaves numbers that a store can hold
-pub numbers_after : (begins : Beginnings) (segs : List Seg) (s : Store) (schedule : List ℕ) → AreProper begins → All (BeginsWell begins) segs → AreNumbers s → AreNumbers (run_job begins segs s schedule).store
+pub numbers_after : (begins : Beginnings) (segs : List Seg) (s : Store) (schedule : List ℕ) → AreProper begins
+    → All (BeginsWell begins) segs → AreNumbers s → AreNumbers (run_job begins segs s schedule).store
 unfolding serial_store
 numbers_after begins segs s schedule proper each numbers =
-    subst AreNumbers (sym (run_job-store begins segs s schedule)) (do_all (plan_at begins segs) s (run_job begins segs s schedule).order (bounded_at begins segs proper each) numbers).numbers
+    subst AreNumbers (sym (run_job-store begins segs s schedule))
+    (do_all (plan_at begins segs) s (run_job begins segs s schedule).order (bounded_at begins segs proper each) numbers).numbers

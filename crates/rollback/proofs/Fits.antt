@@ -1,5 +1,6 @@
 -- The outcome of a run has a token.
-use Rattle.std.proofs.Common.{◌≡◌, ℕ, zero, suc, ◌≤◌, ◌==◌, Bool, true, false, cond, List, [], ◌∷◌, length, map, unwrap_or, refl, sym, ap, ◌∙◌, subst, length-append, arith}
+use Rattle.std.proofs.Common.{◌≡◌, ℕ, zero, suc, ◌≤◌, ◌==◌, Bool, true, false, cond, List, [], ◌∷◌, length, map}
+use Rattle.std.proofs.Common.{unwrap_or, refl, sym, ap, ◌∙◌, subst, length-append, arith}
 use Rattle.std.proofs.lemmas.List.{length-map}
 use Rattle.std.specs.List.{All, AllByRecursion}
 use Rattle.std.specs.declared.cmp.Ordering.{Ordering}
@@ -39,14 +40,17 @@ keys_put : (P : Key → Type 0) (k : Key) (v : ℕ) (es : List (Key × ℕ)) →
 keys_put P k v [] p h = (p, tt)
 keys_put P k v (e ∷ es) p h = at (key_cmp k e.0) (keys_put P k v es p h.1)
   where
-    at : (o : Ordering) → AllByRecursion (λ e. P e.0) (put key_cmp k v es) → AllByRecursion (λ e. P e.0) (by_order o ((k, v) ∷ e ∷ es) ((e.0, v) ∷ es) (e ∷ put key_cmp k v es))
+    at : (o : Ordering) → AllByRecursion (λ e. P e.0) (put key_cmp k v es)
+        → AllByRecursion (λ e. P e.0) (by_order o ((k, v) ∷ e ∷ es) ((e.0, v) ∷ es) (e ∷ put key_cmp k v es))
     at Less r = (p, h)
     at Equal r = (h.0, h.1)
     at Greater r = (h.0, r)
 
 keys_touched : (P : Key → Type 0) (es : List (Key × ℕ)) → AllByRecursion (λ e. P e.0) es → AllByRecursion (λ e. P e.0) (pairs_of (touched es empty))
 keys_touched P [] h = tt
-keys_touched P (e ∷ es) h = subst (AllByRecursion (λ e. P e.0)) (sym (entries-with_number key_cmp_total (touched es empty) e.0 1)) (keys_put P e.0 1 (pairs_of (touched es empty)) h.0 (keys_touched P es h.1))
+keys_touched P (e ∷ es) h = subst (AllByRecursion (λ e. P e.0))
+    (sym (entries-with_number key_cmp_total (touched es empty) e.0 1))
+    (keys_put P e.0 1 (pairs_of (touched es empty)) h.0 (keys_touched P es h.1))
 
 size_touched : (es : List (Key × ℕ)) → size (touched es empty) ≤ length es
 size_touched [] = omega arith
@@ -80,7 +84,8 @@ all_map P f (x ∷ xs) h = (h x, all_map P f xs h)
 
 -- THE OUTCOME
 
-pub serial_fits : (begins : Beginnings) (segs : List Seg) (s : Store) (order : List ℕ) → AreProper begins → All (BeginsWell begins) segs → length segs ≤ 32 → AreNumbers s → IsOrder (length segs) order
+pub serial_fits : (begins : Beginnings) (segs : List Seg) (s : Store) (order : List ℕ) → AreProper begins
+    → All (BeginsWell begins) segs → length segs ≤ 32 → AreNumbers s → IsOrder (length segs) order
     → FitsOutcome (serial_outcome begins segs s order)
 unfolding serial_store serial_ends
 serial_fits begins segs s order proper each few numbers is_order =
@@ -94,7 +99,8 @@ serial_fits begins segs s order proper each few numbers is_order =
     let n = length segs in
     let f : ℕ → Ending = λ i. unwrap_or (serial_end plan s order i) said_nothing in
     record {
-      count = (let a = length_picked (unwound es empty) t (pairs_of (touched es empty)) in let b = size_touched es in let c = d.few in let e = ap (λ (xs : List (Key × ℕ)). length xs) same in omega arith);
+      count = (let a = length_picked (unwound es empty) t (pairs_of (touched es empty)) in let b = size_touched
+          es in let c = d.few in let e = ap (λ (xs : List (Key × ℕ)). length xs) same in omega arith);
       pairs = subst (AllByRecursion FitsPair) same (pairs_picked (unwound es empty) t (pairs_of (touched es empty)) d.numbers (keys_touched IsKey es d.keys));
       sorted = rises_sorted (changes s t) (sorted_changes s t);
       end_count = (let a = length-map (below n) f in let b = length_below n in omega arith);
@@ -108,4 +114,6 @@ run_fits job ran w =
     let ends : run.ends ≡ serial_ends w.begins job.segs w.start run.order = run_job-ends w.begins job.segs w.start w.schedule in
     let same : ran.outcome ≡ serial_outcome w.begins job.segs w.start run.order =
     w.made.outcome_is ∙ ap (λ t. outcome w.start t run.ends) store ∙ ap (outcome w.start (serial_store w.begins job.segs w.start run.order)) ends in
-    subst FitsOutcome (sym same) (serial_fits w.begins job.segs w.start run.order w.proper w.each w.few w.numbers (run_job-order w.begins job.segs w.start w.schedule))
+    subst FitsOutcome (sym same)
+    (serial_fits w.begins job.segs w.start run.order w.proper w.each w.few w.numbers
+    (run_job-order w.begins job.segs w.start w.schedule))

@@ -55,7 +55,8 @@ entry client seq body = record { client = client; seq = seq; body = body }
 
 -- A client's second entry isn't looked at, a number that isn't the next is passed over, and so is a text that is no
 -- request.
-fresh_ones : fresh_entries m (tables0 1) (entry 2 1 (codes "look 5") ∷ entry 2 1 (codes "look 6") ∷ entry 1 2 (codes "look 5") ∷ entry 3 1 (codes "open 1 5 10") ∷ entry 4 1 (codes "open 1 5 10 0") ∷ [])
+fresh_ones : fresh_entries m (tables0 1) (entry 2 1 (codes "look 5") ∷ entry 2 1 (codes "look 6")
+    ∷ entry 1 2 (codes "look 5") ∷ entry 3 1 (codes "open 1 5 10") ∷ entry 4 1 (codes "open 1 5 10 0") ∷ [])
     ≡ entry 2 1 (codes "look 5") ∷ entry 4 1 (codes "open 1 5 10 0") ∷ []
 fresh_ones = refl
 
@@ -64,13 +65,15 @@ pends client = Some (entry client 1 (codes "look 5"))
 
 -- the ninth client waits
 eight_of_nine : batch_of m (tables0 1) (None ∷ pends 1 ∷ pends 2 ∷ pends 3 ∷ pends 4 ∷ pends 5 ∷ pends 6 ∷ pends 7 ∷ pends 8 ∷ pends 9 ∷ [])
-    ≡ entry 1 1 (codes "look 5") ∷ entry 2 1 (codes "look 5") ∷ entry 3 1 (codes "look 5") ∷ entry 4 1 (codes "look 5") ∷ entry 5 1 (codes "look 5") ∷ entry 6 1 (codes "look 5") ∷ entry 7 1 (codes "look 5") ∷ entry 8 1 (codes "look 5") ∷ []
+    ≡ entry 1 1 (codes "look 5") ∷ entry 2 1 (codes "look 5") ∷ entry 3 1 (codes "look 5") ∷ entry 4 1 (codes "look 5")
+    ∷ entry 5 1 (codes "look 5") ∷ entry 6 1 (codes "look 5") ∷ entry 7 1 (codes "look 5") ∷ entry 8 1 (codes "look 5") ∷ []
 eight_of_nine = refl
 
 -- ROUNDS
 
 abbrev log : List AnyValue
-log = InMid (Batch (entry 1 1 (codes "open 1 5 10 0") ∷ [])) ∷ InMid (Decided Serial) ∷ InMid (Batch (entry 1 2 (codes "book 1 2") ∷ [])) ∷ InMid (Decided Serial) ∷ InMid (Batch []) ∷ []
+log = InMid (Batch (entry 1 1 (codes "open 1 5 10 0") ∷ [])) ∷ InMid (Decided Serial)
+    ∷ InMid (Batch (entry 1 2 (codes "book 1 2") ∷ [])) ∷ InMid (Decided Serial) ∷ InMid (Batch []) ∷ []
 
 abbrev no_codes : Codes
 no_codes tier num = None
@@ -89,7 +92,16 @@ unfolding digits checked number_at with_number
 opened = refl
 
 -- the booking waits for its first call to inventory
-reserves : parked (after m 1 log no_codes 2) ≡ (record { client = 1; seq = 2; body = codes "book 1 2"; stage = 1; tier = Inv; num = 1; text = codes "reserve 1 2" } ∷ []) ∷ []
+reserves : parked (after m 1 log no_codes 2)
+    ≡ (record {
+      client = 1;
+      seq = 2;
+      body = codes "book 1 2";
+      stage = 1;
+      tier = Inv;
+      num = 1;
+      text = codes "reserve 1 2";
+    } ∷ []) ∷ []
 unfolding digits checked number_at with_number
 reserves = refl
 
@@ -107,7 +119,8 @@ numbers_of [] = []
 numbers_of (ps ∷ pss) = map (λ p. p.num) ps ++ numbers_of pss
 
 abbrev two_bookings : List AnyValue
-two_bookings = InMid (Batch (entry 1 1 (codes "open 1 5 10 0") ∷ [])) ∷ InMid (Decided Serial) ∷ InMid (Batch (entry 1 2 (codes "book 1 2") ∷ entry 2 1 (codes "book 1 2") ∷ [])) ∷ InMid (Decided Serial) ∷ []
+two_bookings = InMid (Batch (entry 1 1 (codes "open 1 5 10 0") ∷ [])) ∷ InMid (Decided Serial)
+    ∷ InMid (Batch (entry 1 2 (codes "book 1 2") ∷ entry 2 1 (codes "book 1 2") ∷ [])) ∷ InMid (Decided Serial) ∷ []
 
 -- the calls of a round have numbers of their own
 two_numbers : numbers_of (parked (after m 1 two_bookings no_codes 2)) ≡ 1 ∷ 2 ∷ []
@@ -172,7 +185,9 @@ codes_ascending = refl
 -- COPIES AND FLOORS AT A BACKEND
 
 abbrev three_copies : ShimState
-three_copies = takes_copy (takes_copy (takes_copy (takes_copy (new_shim 1) 0 2 (codes "release 1 2")) 1 1 (codes "reserve 1 2")) 1 1 (codes "reserve 1 2")) 2 2 (codes "release 1 3")
+three_copies = takes_copy
+    (takes_copy (takes_copy (takes_copy (new_shim 1) 0 2 (codes "release 1 2")) 1 1 (codes "reserve 1 2")) 1 1
+    (codes "reserve 1 2")) 2 2 (codes "release 1 3")
 
 no_equal_copies : shims.ready three_copies ≡ None
 no_equal_copies = refl
@@ -184,7 +199,9 @@ different_copies_are_not_enough : shims.ready (takes_copy (takes_copy (new_shim 
 different_copies_are_not_enough = refl
 
 abbrev four_copies : ShimState
-four_copies = takes_copy (takes_copy (takes_copy (takes_copy (new_shim 1) 0 2 (codes "release 1 2")) 0 1 (codes "reserve 1 2")) 2 2 (codes "release 1 2")) 1 1 (codes "reserve 1 2")
+four_copies = takes_copy
+    (takes_copy (takes_copy (takes_copy (new_shim 1) 0 2 (codes "release 1 2")) 0 1 (codes "reserve 1 2")) 2 2
+    (codes "release 1 2")) 1 1 (codes "reserve 1 2")
 
 the_least_ready : shims.ready four_copies ≡ Some (1, codes "reserve 1 2")
 the_least_ready = refl

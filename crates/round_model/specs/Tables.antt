@@ -32,7 +32,13 @@ pub record Tables : Type 0 where
   pub next : OfTiers ℕ
 
 abbrev pub tables0 : ℕ → Tables
-tables0 depth = record { store = empty; last = replicate 17 0; kept = replicate 17 None; queue = replicate depth []; next = record { mid = 1; inv = 1; pay = 1 } }
+tables0 depth = record {
+  store = empty;
+  last = replicate 17 0;
+  kept = replicate 17 None;
+  queue = replicate depth [];
+  next = record { mid = 1; inv = 1; pay = 1 };
+}
 
 abbrev pub last_of : List ℕ → ℕ → ℕ
 last_of last client = at 0 last client
@@ -165,7 +171,15 @@ abbrev pub parks : OfTiers ℕ → List Want → List Ending → List Parked
 parks next [] es = []
 parks next (w ∷ ws) [] = []
 parks next (w ∷ ws) (Reply text ∷ es) = parks next ws es
-parks next (w ∷ ws) (Call t stage text ∷ es) = record { client = w.client; seq = w.seq; body = w.body; stage = stage; tier = t; num = of_tier next t; text = text } ∷ parks (bump next t) ws es
+parks next (w ∷ ws) (Call t stage text ∷ es) = record {
+  client = w.client;
+  seq = w.seq;
+  body = w.body;
+  stage = stage;
+  tier = t;
+  num = of_tier next t;
+  text = text;
+} ∷ parks (bump next t) ws es
 
 abbrev pub next_after : OfTiers ℕ → List Ending → OfTiers ℕ
 next_after next [] = next

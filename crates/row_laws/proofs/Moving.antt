@@ -13,7 +13,15 @@ module _ {S : Type 0} (IsIn : S → Type 0) (log_in : S → LogState AnyValue) (
   pub telling : (new : S) (ks : List Packet) (answer : Turn) → IsIn new → log_in new ≡ log_in σ
       → AllByRecursion GoesWell ks × AllByRecursion (IsSealable (node t x)) ks → length ks ≤ most_sent
       → IsMoveTo IsIn log_in GoesWell t x σ (record { state = new; facts = []; sends = ks; answer = answer })
-  telling new ks answer k same good few = record { state = k; taken = good.0; sealable = good.1; few = few; short = omega arith; facts = tt; opens = ap open_at same }
+  telling new ks answer k same good few = record {
+    state = k;
+    taken = good.0;
+    sealable = good.1;
+    few = few;
+    short = omega arith;
+    facts = tt;
+    opens = ap open_at same;
+  }
 
   -- a move that sends nothing
   pub quiet : (new : S) (answer : Turn) → IsIn new → log_in new ≡ log_in σ

@@ -9,4 +9,6 @@ first_row (number ∷ numbers) (held ∷ holds) = if held then Some number else 
 
 -- there is one, none is 0, and no two are equal
 abbrev pub AreRows : List ℕ → Type 0
-AreRows numbers = (0 < length numbers) × (((k : ℕ) → k < length numbers → slice_index numbers k ≢ 0) × ((j k : ℕ) → j < k → k < length numbers → slice_index numbers j ≢ slice_index numbers k))
+AreRows numbers = (0 < length numbers)
+    × (((k : ℕ) → k < length numbers → slice_index numbers k ≢ 0)
+    × ((j k : ℕ) → j < k → k < length numbers → slice_index numbers j ≢ slice_index numbers k))

@@ -9,7 +9,8 @@ pub run-append : {B : Type 0} (c : Config B) (es fs : List TraceEvent) (w : Worl
 run-append c [] fs w = refl
 run-append c (e ∷ es) fs w = run-append c es fs (grows c (happens c w e))
 
-pub text-append : {B : Type 0} (c : Config B) (es fs : List TraceEvent) (w : World B) → text_from c w (es ++ fs) ≡ text_from c w es ++ text_from c (run c es w) fs
+pub text-append : {B : Type 0} (c : Config B) (es fs : List TraceEvent) (w : World B)
+    → text_from c w (es ++ fs) ≡ text_from c w es ++ text_from c (run c es w) fs
 text-append c [] fs w = refl
 text-append c (e ∷ es) fs w =
     ap (λ z. event_text c w e ++ z) (text-append c es fs (after c w e))

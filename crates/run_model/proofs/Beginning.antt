@@ -1,5 +1,6 @@
 -- The restarts before a script's first line send nothing.
-use Rattle.std.proofs.Common.{◌≡◌, ◌+◌, ◌*◌, ◌&&◌, nat_le, Bool, true, false, ℕ, List, [], ◌∷◌, length, map, refl, sym, ap, ◌∙◌, append-nil, arith, if◌then◌else◌}
+use Rattle.std.proofs.Common.{◌≡◌, ◌+◌, ◌*◌, ◌&&◌, nat_le, Bool, true, false, ℕ, List, [], ◌∷◌, length, map, refl, sym}
+use Rattle.std.proofs.Common.{ap, ◌∙◌, append-nil, arith, if◌then◌else◌}
 use Rattle.std.specs.Prelude.{nat_lt, Option, Some, None}
 use Rattle.aeg_base.specs.declared.limits.TheConstants.{PACKETS_BEFORE}
 use Rattle.aeg_base.specs.declared.names.NodeId.{NodeId}
@@ -69,7 +70,8 @@ became-sends c w n e h = let r = becomes_restart n e h in ap (λ (z : TraceEvent
 
 -- THE FIRST RESTARTS
 
-first_keeps : {B : Type 0} (c : Config B) (ns : List NodeId) (es : List TraceEvent) (w : World B) → AllBecome (map (λ n. Restart n (Reads 0)) ns) es → w.soup ≡ [] → keeps_limit c w es ≡ true
+first_keeps : {B : Type 0} (c : Config B) (ns : List NodeId) (es : List TraceEvent) (w : World B)
+    → AllBecome (map (λ n. Restart n (Reads 0)) ns) es → w.soup ≡ [] → keeps_limit c w es ≡ true
 first_keeps c [] [] w h s = refl
 first_keeps c [] (e ∷ es) w h s = absurd h
 first_keeps c (n ∷ ns) [] w h s = absurd h

@@ -44,7 +44,8 @@ on u a es = record { cursor = a.cursor; world = all u a.world es }
 -- every packet is delivered, and those that this sends
 abbrev pub flow : ℕ → ℕ → At → At
 flow u zero a = a
-flow u (suc n) a = elim (nat_lt a.cursor (length a.world.soup)) [ true ↦ flow u n (record { cursor = suc a.cursor; world = all u a.world (Deliver a.cursor Fine ∷ []) }) | false ↦ a ]
+flow u (suc n) a = elim (nat_lt a.cursor (length a.world.soup))
+    [ true ↦ flow u n (record { cursor = suc a.cursor; world = all u a.world (Deliver a.cursor Fine ∷ []) }) | false ↦ a ]
 
 -- events in order, and all that they lead to
 abbrev pub flows : ℕ → List TraceEvent → At → At
@@ -122,7 +123,10 @@ pub record Sums : Type 0 where
   pub packets : ℕ
 
 abbrev pub sums : World Amounts → Sums → Bool
-sums w s = same_history w.hist s.hist && (same_replies w.told s.told && ((length (w.logs Mid) == s.mid) && ((length (w.logs Inv) == s.inv) && ((length (w.logs Pay) == s.pay) && (length w.soup == s.packets)))))
+sums w s = same_history w.hist s.hist
+    && (same_replies w.told s.told
+    && ((length (w.logs Mid) == s.mid)
+    && ((length (w.logs Inv) == s.inv) && ((length (w.logs Pay) == s.pay) && (length w.soup == s.packets)))))
 
 abbrev pub came_to : At → Sums → Bool
 came_to a s = sums a.world s

@@ -32,7 +32,8 @@ open_and_look_on_one_replica : came_to (looked 3) (record {
   pay = 0;
   packets = 8;
 }) ≡ true
-unfolding digits checked number_at with_number no_locks run_job outcome_at all_pairs_at all_ends_at pairs_at pair_at ending_at backend_at stage_at text_at list_at
+unfolding digits checked number_at with_number no_locks run_job outcome_at all_pairs_at all_ends_at pairs_at pair_at
+    ending_at backend_at stage_at text_at list_at
 open_and_look_on_one_replica = refl
 
 -- THREE REPLICAS A TIER
@@ -47,12 +48,14 @@ abbrev booked : ℕ → At
 booked turns = calm 1 turns (on 1 (opened 3) (Submit 1 (codes "book 1 2") ∷ []))
 
 ordinary_use : came_to (booked 13) (record {
-  hist = (Start (request 1) 0, codes "open 1 5 10 0") ∷ (Start (request 2) 1, codes "book 1 2") ∷ (Serve Inv 1, []) ∷ (Resume (request 2) 1, []) ∷ (Serve Pay 1, []) ∷ (Resume (request 2) 0, []) ∷ [];
+  hist = (Start (request 1) 0, codes "open 1 5 10 0") ∷ (Start (request 2) 1, codes "book 1 2") ∷ (Serve Inv 1, [])
+      ∷ (Resume (request 2) 1, []) ∷ (Serve Pay 1, []) ∷ (Resume (request 2) 0, []) ∷ [];
   told = reply 1 (codes "opened 1") ∷ reply 2 (codes "booked 17") ∷ [];
   mid = 8;
   inv = 1;
   pay = 1;
   packets = 206;
 }) ≡ true
-unfolding digits checked number_at with_number no_locks run_job outcome_at all_pairs_at all_ends_at pairs_at pair_at ending_at backend_at stage_at text_at list_at
+unfolding digits checked number_at with_number no_locks run_job outcome_at all_pairs_at all_ends_at pairs_at pair_at
+    ending_at backend_at stage_at text_at list_at
 ordinary_use = refl

@@ -65,6 +65,7 @@ some_events :
       u = 1;
       depth = 2;
       events =
-          (3, Lead (record { tier = Mid; index = 0 })) ∷ (5, Submit 1 (codes "look 5")) ∷ (6, Deliver 3) ∷ (7, Short 4 10) ∷ (8, Retry (Client 1)) ∷ (9, Lose) ∷ (10, Flow) ∷ [];
+          (3, Lead (record { tier = Mid; index = 0 })) ∷ (5, Submit 1 (codes "look 5")) ∷ (6, Deliver 3)
+          ∷ (7, Short 4 10) ∷ (8, Retry (Client 1)) ∷ (9, Lose) ∷ (10, Flow) ∷ [];
     })
 some_events = refl

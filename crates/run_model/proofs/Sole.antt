@@ -25,7 +25,10 @@ use Rattle.run_model.specs.declared.trace.Found.{Found}
 use Rattle.run_model.specs.declared.trace.Found.TheVariants.{Reads, Fault as Fails}
 use Rattle.run_model.specs.declared.trace.TraceEvent.{TraceEvent}
 use Rattle.run_model.specs.declared.trace.TraceEvent.TheVariants.{Submit, Deliver, Short, Lead, Offer, Work, Retry, Crash, Restart, Wipe}
-use Rattle.run_model.specs.World.{Config, World, Nodes, Fate, put_nodes, kind_at, with_node, node_up, at_node, moves, placed, start, device_of, fate, unwritten, can_fare, ran, opens, submits, reopens, takes_reply, client_gets, node_gets, arrives, delivered, shortened, leads, offers, works, node_retries, retries, crashes, list_of, restarts, wipes, if_can, happens}
+use Rattle.run_model.specs.World.{Config, World, Nodes, Fate, put_nodes, kind_at, with_node, node_up, at_node, moves}
+use Rattle.run_model.specs.World.{placed, start, device_of, fate, unwritten, can_fare, ran, opens, submits, reopens}
+use Rattle.run_model.specs.World.{takes_reply, client_gets, node_gets, arrives, delivered, shortened, leads, offers}
+use Rattle.run_model.specs.World.{works, node_retries, retries, crashes, list_of, restarts, wipes, if_can, happens}
 use Rattle.run_model.specs.Runs.{grown, chosen_next, grows_at}
 use Rattle.run_model.specs.Text.{after}
 use Rattle.run_model.specs.Resolving.{is_fine as fares_well, is_sure, others_at}
@@ -101,10 +104,13 @@ sole_failed n facts CutKeep h k = refl
 sole_failed n facts CutDrop h k = refl
 sole_failed n facts WasFault h k = absurd (cc)
 
-sole_moved : {S : Type 0} (n : Node S Fact) (d : Device) (state : S) (facts : List Fact) → is_safe d ≡ true → n.others ≡ [] → (moved n d state facts).others ≡ []
-sole_moved n d state facts h k = sole_either (is_well d facts) (stands (Up state) (recorded n.records facts)) (failed n facts d) refl (sole_failed n facts d h k)
+sole_moved : {S : Type 0} (n : Node S Fact) (d : Device) (state : S) (facts : List Fact) → is_safe d ≡ true
+    → n.others ≡ [] → (moved n d state facts).others ≡ []
+sole_moved n d state facts h k = sole_either (is_well d facts) (stands (Up state) (recorded n.records facts))
+    (failed n facts d) refl (sole_failed n facts d h k)
 
-sole_up : {B : Type 0} (w : World B) (t : Tier) (x : ℕ) (d : Fate) (move : State B t → Move (State B t)) (ran : State B t → List Vote) (mode : Mode (State B t)) → AreSafe d → IsSole w
+sole_up : {B : Type 0} (w : World B) (t : Tier) (x : ℕ) (d : Fate) (move : State B t → Move (State B t))
+    (ran : State B t → List Vote) (mode : Mode (State B t)) → AreSafe d → IsSole w
     → IsSole (node_up w t x d move ran mode)
 sole_up w t x d move ran (Up σ) h s =
     let facts : List Fact = (move σ).facts in
@@ -114,11 +120,14 @@ sole_up w t x d move ran (Up σ) h s =
 sole_up w t x d move ran Down h s = s
 sole_up w t x d move ran Gone h s = s
 
-sole_at_node : {B : Type 0} (c : Config B) (w : World B) (t : Tier) (x : ℕ) (d : Fate) (move : State B t → Move (State B t)) (ran : State B t → List Vote) → AreSafe d → IsSole w
+sole_at_node : {B : Type 0} (c : Config B) (w : World B) (t : Tier) (x : ℕ) (d : Fate) (move : State B t
+    → Move (State B t)) (ran : State B t → List Vote) → AreSafe d → IsSole w
     → IsSole (at_node c w t x d move ran)
-sole_at_node c w t x d move ran h s = sole_if (nat_lt x (2 * c.u + 1)) (node_up w t x d move ran (w.nodes t x).mode) w (sole_up w t x d move ran (w.nodes t x).mode h s) s
+sole_at_node c w t x d move ran h s = sole_if (nat_lt x (2 * c.u + 1)) (node_up w t x d move ran (w.nodes t x).mode) w
+    (sole_up w t x d move ran (w.nodes t x).mode h s) s
 
-sole_moves : {B : Type 0} (c : Config B) (w : World B) (t : Tier) (x : ℕ) (d : Fate) (move : State B t → Move (State B t)) → AreSafe d → IsSole w → IsSole (moves c w t x d move)
+sole_moves : {B : Type 0} (c : Config B) (w : World B) (t : Tier) (x : ℕ) (d : Fate) (move : State B t
+    → Move (State B t)) → AreSafe d → IsSole w → IsSole (moves c w t x d move)
 sole_moves c w t x d move h s = sole_at_node c w t x d move (λ σ. []) h s
 
 -- CLIENTS
@@ -148,18 +157,22 @@ sole_client w y (msgs.Settle g) s = s
 
 -- DELIVERIES AND COMMANDS
 
-sole_gets : {B : Type 0} (c : Config B) (w : World B) (fared : Fared) (from : End) (m : Msg) (t : Tier) (x : ℕ) → fares_well fared ≡ true → IsSole w → IsSole (node_gets c w fared from m t x)
+sole_gets : {B : Type 0} (c : Config B) (w : World B) (fared : Fared) (from : End) (m : Msg) (t : Tier) (x : ℕ)
+    → fares_well fared ≡ true → IsSole w → IsSole (node_gets c w fared from m t x)
 sole_gets c w fared from m t x h s = sole_moves c w t x (fate c fared) ((kind_at c t x).on_frame from m) (safe_fate c fared h) s
 
-sole_arrives : {B : Type 0} (c : Config B) (w : World B) (fared : Fared) (from : End) (m : Msg) (to : End) → fares_well fared ≡ true → IsSole w → IsSole (arrives c w fared from m to)
+sole_arrives : {B : Type 0} (c : Config B) (w : World B) (fared : Fared) (from : End) (m : Msg) (to : End)
+    → fares_well fared ≡ true → IsSole w → IsSole (arrives c w fared from m to)
 sole_arrives c w fared from m (NodeEnd n) h s = sole_gets c w fared from m n.tier n.index h s
 sole_arrives c w fared from m (Client y) h s = sole_client w y m s
 
-sole_delivered : {B : Type 0} (c : Config B) (w : World B) (fared : Fared) (o : Option Packet) → fares_well fared ≡ true → IsSole w → IsSole (delivered c w fared o)
+sole_delivered : {B : Type 0} (c : Config B) (w : World B) (fared : Fared) (o : Option Packet) → fares_well fared ≡ true
+    → IsSole w → IsSole (delivered c w fared o)
 sole_delivered c w fared None h s = s
 sole_delivered c w fared (Some k) h s = sole_arrives c w fared k.from k.message k.to h s
 
-sole_shortened : {B : Type 0} (c : Config B) (w : World B) (fared : Fared) (bytes : ℕ) (o : Option Packet) → fares_well fared ≡ true → IsSole w → IsSole (shortened c w fared bytes o)
+sole_shortened : {B : Type 0} (c : Config B) (w : World B) (fared : Fared) (bytes : ℕ) (o : Option Packet)
+    → fares_well fared ≡ true → IsSole w → IsSole (shortened c w fared bytes o)
 sole_shortened c w fared bytes None h s = s
 sole_shortened c w fared bytes (Some k) h s =
     sole_if (nat_le (c.frame_length k.from k.message) bytes) (arrives c w fared k.from k.message k.to) w (sole_arrives c w fared k.from k.message k.to h s) s
@@ -203,7 +216,8 @@ sole_found : {S : Type 0} (recover : List Fact → S) (n : Node S Fact) (k : ℕ
 sole_found recover n zero h = refl
 sole_found recover n (suc k) h = sole_as recover n (slice_get n.others k) h
 
-sole_restarted : {S : Type 0} (recover : List Fact → S) (n : Node S Fact) (found : Option ℕ) (m : Mode S) → n.others ≡ [] → (restarted recover n found m).others ≡ []
+sole_restarted : {S : Type 0} (recover : List Fact → S) (n : Node S Fact) (found : Option ℕ) (m : Mode S)
+    → n.others ≡ [] → (restarted recover n found m).others ≡ []
 sole_restarted recover n (Some k) Down h = sole_found recover n k h
 sole_restarted recover n None Down h = h
 sole_restarted recover n (Some k) (Up s) h = h
@@ -227,7 +241,8 @@ sole_can fared new w h s = sole_if (can_fare fared) new w h s
 sole_happens : {B : Type 0} (c : Config B) (w : World B) (e : TraceEvent) → is_sure e ≡ true → IsSole w → IsSole (happens c w e)
 sole_happens c w (Submit y text) h s = sole_submits c w y text s
 sole_happens c w (Deliver k fared) h s = sole_can fared (delivered c w fared (slice_get w.soup k)) w (sole_delivered c w fared (slice_get w.soup k) h s) s
-sole_happens c w (Short k bytes fared) h s = sole_can fared (shortened c w fared bytes (slice_get w.soup k)) w (sole_shortened c w fared bytes (slice_get w.soup k) h s) s
+sole_happens c w (Short k bytes fared) h s = sole_can fared (shortened c w fared bytes (slice_get w.soup k)) w
+    (sole_shortened c w fared bytes (slice_get w.soup k) h s) s
 sole_happens c w (Lead n fared) h s = sole_can fared (leads c w fared n.tier n.index) w (sole_leads c w fared n.tier n.index h s) s
 sole_happens c w (Offer n fared) h s = sole_can fared (offers c w fared n.tier n.index) w (sole_offers c w fared n.tier n.index h s) s
 sole_happens c w (Work n schedule) h s = sole_works c w n.tier n.index schedule s
@@ -246,4 +261,5 @@ sole_grows c t w s = sole_grown c w t (chosen_next c w t) s
 -- an event in which no disk met a fault leaves one list to each
 pub sole_after : {B : Type 0} (c : Config B) (w : World B) (e : TraceEvent) → is_sure e ≡ true → IsSole w → IsSole (after c w e)
 sole_after c w e h s =
-    sole_grows c Pay (grows_at c Inv (grows_at c Mid (happens c w e))) (sole_grows c Inv (grows_at c Mid (happens c w e)) (sole_grows c Mid (happens c w e) (sole_happens c w e h s)))
+    sole_grows c Pay (grows_at c Inv (grows_at c Mid (happens c w e)))
+    (sole_grows c Inv (grows_at c Mid (happens c w e)) (sole_grows c Mid (happens c w e) (sole_happens c w e h s)))

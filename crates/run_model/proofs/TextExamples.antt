@@ -21,7 +21,11 @@ use Rattle.run_model.proofs.Driving.{conf}
 -- at most so many events
 abbrev plays : ℕ → ℕ → Standing Amounts → List ℕ
 plays zero u s = closing s.world
-plays (suc n) u s = elim (next (conf u) s) [ None ↦ closing s.world | Some d ↦ event_text (conf u) s.world d.event ++ plays n u (stands_after (conf u) s.world d d.event) ]
+plays (suc n) u s = elim (next (conf u) s) [
+  | None ↦ closing s.world
+  | Some d ↦ event_text (conf u) s.world d.event
+      ++ plays n u (stands_after (conf u) s.world d d.event)
+]
 
 abbrev plays_script : ℕ → Script → List ℕ
 plays_script n script = plays n script.u (first_standing (world (conf script.u) (starts script.u)) script)
@@ -58,5 +62,6 @@ opens_and_looks = record {
 
 open_and_look_on_one_replica : plays_script 40 opens_and_looks
     ≡ codes "exec m0 0 steps 0x5 order 0 redo 0\nverdict 0 commit order 0\nstart 1.1 0 open 1 5 10 0\nreply 1.1 opened 1\nexec m0 1 steps 0x4 order 0 redo 0\nverdict 1 commit order 0\nstart 1.2 0 look 5\nreply 1.2 refused 9 NoBooking\nlog mid 4\nlog inv 0\nlog pay 0\npackets 8\n"
-unfolding digits checked number_at with_number no_locks run_job outcome_at all_pairs_at all_ends_at pairs_at pair_at ending_at backend_at stage_at text_at list_at
+unfolding digits checked number_at with_number no_locks run_job outcome_at all_pairs_at all_ends_at pairs_at pair_at
+    ending_at backend_at stage_at text_at list_at
 open_and_look_on_one_replica = refl

@@ -15,7 +15,13 @@ booking_service = spelled booking_meaning booking_beginning
 
 -- tiers of 2u+1 nodes and a pipeline of this depth
 abbrev pub config : ℕ → ℕ → Config Amounts
-config u depth = record { u = u; depth = depth; service = booking_service; frame_length = λ from message. length (frame from message); record_length = λ facts. length (record_text facts) }
+config u depth = record {
+  u = u;
+  depth = depth;
+  service = booking_service;
+  frame_length = λ from message. length (frame from message);
+  record_length = λ facts. length (record_text facts);
+}
 
 abbrev pub BookingWorld : Type 0
 BookingWorld = World Amounts

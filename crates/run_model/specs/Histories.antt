@@ -21,7 +21,13 @@ HistoryStep = Hist × List ℕ
 
 -- a segment starts its request, or goes on with it; the number is that of its call
 abbrev pub want_step : Want → ℕ → HistoryStep
-want_step w num = elim w.call [ None ↦ (Start (record { client = w.client; seq = w.seq }) num, w.body) | Some k ↦ (Resume (record { client = w.client; seq = w.seq }) num, []) ]
+want_step w num = elim w.call [
+  | None ↦ (
+    Start (record { client = w.client; seq = w.seq }) num,
+    w.body,
+  )
+  | Some k ↦ (Resume (record { client = w.client; seq = w.seq }) num, [])
+]
 
 abbrev pub step_of : Option Want → ℕ → HistoryStep
 step_of None num = (Serve Inv 0, [])
@@ -37,7 +43,8 @@ no_step = (Serve Inv 0, []) ∷ []
 
 -- one step for each segment of a round, in the verdict's order, with the numbers that the tables give
 abbrev pub ordered_steps : Programs → Round → List ℕ → History
-ordered_steps m R order = if is_order (length R.job) order then steps_by R.wants (numbers R.tables.next (finish m R.job order R.tables.store).ends) order else no_step
+ordered_steps m R order = if is_order (length R.job) order then steps_by R.wants
+    (numbers R.tables.next (finish m R.job order R.tables.store).ends) order else no_step
 
 abbrev pub verdict_steps : Programs → Option Round → Verdict → History
 verdict_steps m None v = no_step

@@ -1,5 +1,6 @@
 -- What a script comes to: the events that its lines make, one after another.
-use Rattle.std.specs.Prelude.{◌≡◌, ℕ, zero, suc, ◌≤◌, ◌+◌, ◌*◌, Bool, true, false, List, [], ◌∷◌, ◌++◌, drop, length, map, replicate, Option, Some, None, if◌then◌else◌}
+use Rattle.std.specs.Prelude.{◌≡◌, ℕ, zero, suc, ◌≤◌, ◌+◌, ◌*◌, Bool, true, false, List, [], ◌∷◌, ◌++◌, drop, length}
+use Rattle.std.specs.Prelude.{map, replicate, Option, Some, None, if◌then◌else◌}
 use Rattle.std.specs.List.{flat_map}
 use Rattle.aeg_base.specs.declared.names.Tier.{Tier}
 use Rattle.aeg_base.specs.declared.names.Tier.TheVariants.{Mid, Inv, Pay}
@@ -336,7 +337,8 @@ first_standing w script = record { world = w; place = first_place; left = script
 
 -- the run has come so far
 abbrev pub Reaches : {B : Type 0} → Config B → Script → List TraceEvent → Standing B → Type 0
-Reaches c script es t = (first : List TraceEvent) × (front : List TraceEvent) × (es ≡ first ++ front) × AllBecome (starts c.u) first × AllFind c start first × Goes c (first_standing (world c first) script) front t
+Reaches c script es t = (first : List TraceEvent) × (front : List TraceEvent) × (es ≡ first ++ front)
+    × AllBecome (starts c.u) first × AllFind c start first × Goes c (first_standing (world c first) script) front t
 
 -- the events are all that the script comes to
 abbrev pub Resolves : {B : Type 0} → Config B → Script → List TraceEvent → Type 0

@@ -1,7 +1,8 @@
 -- Scripts as texts. A line is refused by the first of: 2, its first word is unknown; 3, its words, their number or a range
 -- are wrong; 4, a node is not in the tiers, or the node that works is no middle node; 5, the text of a submit is no request.
 -- Rule 1 is the header's.
-use Rattle.std.specs.Prelude.{ℕ, ◌+◌, ◌*◌, ◌==◌, ◌&&◌, ◌||◌, not, nat_lt, nat_le, Bool, true, false, List, [], ◌∷◌, length, Option, None, Some, codes, if◌then◌else◌, option_and_then}
+use Rattle.std.specs.Prelude.{ℕ, ◌+◌, ◌*◌, ◌==◌, ◌&&◌, ◌||◌, not, nat_lt, nat_le, Bool, true, false, List, [], ◌∷◌}
+use Rattle.std.specs.Prelude.{length, Option, None, Some, codes, if◌then◌else◌, option_and_then}
 use Rattle.std.specs.Option.{option_map}
 use Rattle.std.specs.Str.{bytes_eq}
 use Rattle.std.specs.List.{join_with_byte}
@@ -249,7 +250,9 @@ pub record Header : Type 0 where
 
 abbrev pub header_in : List (List ℕ) → Option Header
 header_in (tiers ∷ u ∷ depth ∷ d ∷ []) =
-    if bytes_eq tiers (codes "tiers") && bytes_eq depth (codes "depth") then option_and_then (λ n. option_map (λ k. record { u = n; depth = k }) (number_in 1 4 d)) (number_in 0 2 u)
+    if bytes_eq tiers (codes "tiers")
+    && bytes_eq depth (codes "depth") then option_and_then
+    (λ n. option_map (λ k. record { u = n; depth = k }) (number_in 1 4 d)) (number_in 0 2 u)
     else None
 header_in _ = None
 

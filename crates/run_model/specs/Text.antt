@@ -1,5 +1,6 @@
 -- The text of a run: what each event prints, and the closing lines.
-use Rattle.std.specs.Prelude.{ℕ, ◌+◌, ◌==◌, ◌&&◌, nat_lt, nat_le, Bool, true, false, List, [], ◌∷◌, ◌++◌, drop, length, map, codes, Option, Some, None, slice_get, if◌then◌else◌}
+use Rattle.std.specs.Prelude.{ℕ, ◌+◌, ◌==◌, ◌&&◌, nat_lt, nat_le, Bool, true, false, List, [], ◌∷◌, ◌++◌, drop, length}
+use Rattle.std.specs.Prelude.{map, codes, Option, Some, None, slice_get, if◌then◌else◌}
 use Rattle.std.specs.List.{flat_map, join_with_byte}
 use Rattle.std.specs.Fmt.{decimal}
 use Rattle.aeg_base.specs.declared.names.Tier.{Tier}
@@ -186,14 +187,16 @@ frames_text c n k fared node move Gone = lost_line k
 -- PACKETS
 
 abbrev pub node_frame_text : {B : Type 0} → Config B → World B → ℕ → Fared → End → Msg → NodeId → Tier → List ℕ
-node_frame_text c w k fared from message n t = frames_text c n k fared (w.nodes t n.index) ((kind_at c t n.index).on_frame from message) (w.nodes t n.index).mode
+node_frame_text c w k fared from message n t = frames_text c n k fared (w.nodes t n.index)
+    ((kind_at c t n.index).on_frame from message) (w.nodes t n.index).mode
 
 -- reply CLIENT.SEQ TEXT
 abbrev pub reply_line : ReqId → List ℕ → List ℕ
 reply_line who text = then_word (codes "reply") (then_word (request_name who) (text ++ line_end))
 
 abbrev pub takes_reply_text : {B : Type 0} → World B → ℕ → ReqId → List ℕ → List ℕ
-takes_reply_text w y who text = if is_some (w.clients y).opened && (who.seq == (w.clients y).last) then reply_line (record { client = y; seq = who.seq }) text else []
+takes_reply_text w y who text = if is_some (w.clients y).opened
+    && (who.seq == (w.clients y).last) then reply_line (record { client = y; seq = who.seq }) text else []
 
 -- a client takes replies alone
 abbrev pub client_frame_text : {B : Type 0} → World B → ℕ → Msg → List ℕ
@@ -241,7 +244,8 @@ abbrev pub offers_text : {B : Type 0} → Config B → World B → Fared → Nod
 offers_text c w fared n t = commands_text c n fared (w.nodes t n.index) (kind_at c t n.index).offers (w.nodes t n.index).mode
 
 abbrev pub works_text : {B : Type 0} → Config B → World B → List ℕ → NodeId → Tier → List ℕ
-works_text c w schedule n Mid = commands_text c n Fine (w.nodes Mid n.index) (λ s. mids.work c.u c.service.programs n.index s schedule) (w.nodes Mid n.index).mode
+works_text c w schedule n Mid = commands_text c n Fine (w.nodes Mid n.index)
+    (λ s. mids.work c.u c.service.programs n.index s schedule) (w.nodes Mid n.index).mode
 works_text c w schedule n Inv = []
 works_text c w schedule n Pay = []
 
@@ -346,4 +350,6 @@ log_line t count = then_word (codes "log") (then_word (tier_name t) (decimal cou
 
 -- how many positions of each tier are chosen, and how many packets were sent
 abbrev pub closing : {B : Type 0} → World B → List ℕ
-closing w = log_line Mid (length (w.logs Mid)) ++ (log_line Inv (length (w.logs Inv)) ++ (log_line Pay (length (w.logs Pay)) ++ then_word (codes "packets") (decimal (length w.soup) ++ line_end)))
+closing w = log_line Mid (length (w.logs Mid))
+    ++ (log_line Inv (length (w.logs Inv))
+    ++ (log_line Pay (length (w.logs Pay)) ++ then_word (codes "packets") (decimal (length w.soup) ++ line_end)))

@@ -1,5 +1,6 @@
 -- Three tiers, their clients, and all packets ever sent: what an event makes of them.
-use Rattle.std.specs.Prelude.{ℕ, zero, suc, ◌+◌, ◌*◌, Bool, true, ◌&&◌, ◌||◌, not, ◌==◌, nat_lt, nat_le, List, [], ◌∷◌, ◌++◌, Option, Some, None, slice_get, if◌then◌else◌}
+use Rattle.std.specs.Prelude.{ℕ, zero, suc, ◌+◌, ◌*◌, Bool, true, ◌&&◌, ◌||◌, not, ◌==◌, nat_lt, nat_le, List, [], ◌∷◌}
+use Rattle.std.specs.Prelude.{◌++◌, Option, Some, None, slice_get, if◌then◌else◌}
 use Rattle.aeg_base.specs.declared.limits.TheConstants.{JOURNAL_BYTES}
 use Rattle.aeg_base.specs.declared.names.Tier.{Tier}
 use Rattle.aeg_base.specs.declared.names.Tier.TheVariants.{Mid, Inv, Pay}
@@ -139,7 +140,8 @@ Fate = List (List Fact) → List Fact → Device
 
 abbrev pub node_up : {B : Type 0} → World B → (t : Tier) → ℕ → Fate → (State B t → Move (State B t)) → (State B t → List Vote) → Mode (State B t) → World B
 node_up w t x d move ran (Up σ) =
-    with_node w t x (moved (w.nodes t x) (d (w.nodes t x).records (move σ).facts) (move σ).state (move σ).facts) (sent (d (w.nodes t x).records (move σ).facts) (move σ).facts (move σ).sends) (ran σ)
+    with_node w t x (moved (w.nodes t x) (d (w.nodes t x).records (move σ).facts) (move σ).state (move σ).facts)
+    (sent (d (w.nodes t x).records (move σ).facts) (move σ).facts (move σ).sends) (ran σ)
 node_up w t x d move ran Down = w
 node_up w t x d move ran Gone = w
 
@@ -177,7 +179,8 @@ is_client_number y = nat_le 1 y && nat_le y 16
 -- a client without an open request opens its next one
 abbrev pub submits : {B : Type 0} → Config B → World B → ℕ → List ℕ → World B
 submits c w y text =
-    if is_client_number y && (is_request c.service.programs (record { client = y; seq = suc (w.clients y).last }) text && (not (is_some (w.clients y).opened) && nat_lt (w.clients y).last 65536)) then opens c.u w y text
+    if is_client_number y && (is_request c.service.programs (record { client = y; seq = suc (w.clients y).last }) text
+    && (not (is_some (w.clients y).opened) && nat_lt (w.clients y).last 65536)) then opens c.u w y text
     else w
 
 -- the open request is sent again

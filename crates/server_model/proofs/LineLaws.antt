@@ -11,7 +11,8 @@ ended_lines-cons : (x : List ℕ) (xs : List (List ℕ)) (y : List ℕ) (ys : Li
 ended_lines-cons x xs y ys e = ap (λ zs. ended_lines (x ∷ zs)) e ∙ ap (λ zs. x ∷ ended_lines zs) (sym e)
 
 pub lines_of-first : (text first : List ℕ) (rest : Option (Bor (List ℕ))) → (length text ≡ 0 → ⊥)
-    → MatchOption rest (parts_of 10 text ≡ first ∷ []) (λ r. parts_of 10 text ≡ first ∷ parts_of 10 r.now) → IfNone rest (first ≡ text) → lines_of text ≡ first ∷ lines_left rest
+    → MatchOption rest (parts_of 10 text ≡ first ∷ []) (λ r. parts_of 10 text ≡ first ∷ parts_of 10 r.now)
+    → IfNone rest (first ≡ text) → lines_of text ≡ first ∷ lines_left rest
 lines_of-first text first None some parts whole =
     ap ended_lines parts ∙ ap (λ b. cond b [] (first ∷ [])) (other_than (length first) 0 (λ e. some (sym (ap length whole) ∙ e)))
 lines_of-first text first (Some r) some parts whole =

@@ -1,5 +1,6 @@
 -- A request's text is short: its words are a name and numbers of at most seven digits.
-use Rattle.std.proofs.Common.{◌≡◌, ℕ, ◌+◌, ◌-◌, ◌*◌, ◌<◌, ◌≤◌, Bool, true, false, cond, List, [], ◌∷◌, refl, ap, length, fold, arith, suc, Option, Some, None, Ok, Err}
+use Rattle.std.proofs.Common.{◌≡◌, ℕ, ◌+◌, ◌-◌, ◌*◌, ◌<◌, ◌≤◌, Bool, true, false, cond, List, [], ◌∷◌, refl, ap, length}
+use Rattle.std.proofs.Common.{fold, arith, suc, Option, Some, None, Ok, Err}
 use Rattle.std.specs.Prelude.{◌==◌, ◌&&◌, nat_le, codes, option_and_then}
 use Rattle.std.specs.Option.{option_map}
 use Rattle.std.specs.Char.{is_ascii_digit}
@@ -23,7 +24,8 @@ lengths (w ∷ ws) = suc (length w + lengths ws)
 lengths_onto : (x : ℕ) (y : List ℕ) (ys : List (List ℕ)) → lengths (onto_first x (y ∷ ys)) ≡ suc (lengths (y ∷ ys))
 lengths_onto x y ys = omega arith
 
-onto_length : (x p : ℕ) (xs : List ℕ) (y : List ℕ) (ys : List (List ℕ)) → parts_of p xs ≡ y ∷ ys → lengths (parts_of p xs) ≡ suc (length xs) → lengths (onto_first x (parts_of p xs)) ≡ suc (suc (length xs))
+onto_length : (x p : ℕ) (xs : List ℕ) (y : List ℕ) (ys : List (List ℕ)) → parts_of p xs ≡ y ∷ ys
+    → lengths (parts_of p xs) ≡ suc (length xs) → lengths (onto_first x (parts_of p xs)) ≡ suc (suc (length xs))
 onto_length x p xs y ys e f = rw e (let g : lengths (y ∷ ys) ≡ suc (length xs) = rw e at f in omega (arith, lengths_onto x y ys, g))
 
 parts_length : (p : ℕ) (xs : List ℕ) → lengths (parts_of p xs) ≡ suc (length xs)
@@ -56,7 +58,8 @@ numeral_short : (word : List ℕ) → is_numeral word ≡ true → value_of word
 numeral_short [] e h = omega arith
 numeral_short (d ∷ ds) e h = go (length (d ∷ ds) == 0) (d == 48) refl e
   where
-    go : (z t : Bool) → (d == 48) ≡ t → cond z false (cond t (length (d ∷ ds) == 1) (is_ascii_digit d && list_all is_ascii_digit ds)) ≡ true → suc (length ds) ≤ 7
+    go : (z t : Bool) → (d == 48) ≡ t
+        → cond z false (cond t (length (d ∷ ds) == 1) (is_ascii_digit d && list_all is_ascii_digit ds)) ≡ true → suc (length ds) ≤ 7
     go true t f k = absurd (cc)
     go false true f k = omega (arith, eqb-true (length (d ∷ ds)) 1 k)
     go false false f k =
@@ -91,11 +94,20 @@ open_short (a ∷ []) r e = absurd (cc)
 open_short (a ∷ b ∷ []) r e = absurd (cc)
 open_short (a ∷ b ∷ c ∷ []) r e = absurd (cc)
 open_short (trip ∷ cap ∷ price ∷ link ∷ []) r e =
-    let t = then_some (λ t. option_and_then (λ c. option_and_then (λ p. option_map (λ l. Open t c p l) (number_in 0 9999 link)) (number_in 1 1000000 price)) (number_in 1 1000 cap)) (trip_in trip) r (ok_some _ r e) in
-    let c = then_some (λ c. option_and_then (λ p. option_map (λ l. Open t.0 c p l) (number_in 0 9999 link)) (number_in 1 1000000 price)) (number_in 1 1000 cap) r t.2 in
+    let t = then_some (λ t. option_and_then
+    (λ c. option_and_then (λ p. option_map (λ l. Open t c p l) (number_in 0 9999 link)) (number_in 1 1000000 price))
+    (number_in 1 1000 cap)) (trip_in trip) r (ok_some _ r e) in
+    let c = then_some (λ c. option_and_then (λ p. option_map (λ l. Open t.0 c p l) (number_in 0 9999 link))
+    (number_in 1 1000000 price)) (number_in 1 1000 cap) r t.2 in
     let p = then_some (λ p. option_map (λ l. Open t.0 c.0 p l) (number_in 0 9999 link)) (number_in 1 1000000 price) r c.2 in
     let l = map_some (λ l. Open t.0 c.0 p.0 l) (number_in 0 9999 link) r p.2 in
-    omega (arith, number_short 1 9999 trip t.0 (omega arith) t.1, number_short 1 1000 cap c.0 (omega arith) c.1, number_short 1 1000000 price p.0 (omega arith) p.1, number_short 0 9999 link l.0 (omega arith) l.1)
+    omega (
+      arith,
+      number_short 1 9999 trip t.0 (omega arith) t.1,
+      number_short 1 1000 cap c.0 (omega arith) c.1,
+      number_short 1 1000000 price p.0 (omega arith) p.1,
+      number_short 0 9999 link l.0 (omega arith) l.1,
+    )
 open_short (a ∷ b ∷ c ∷ d ∷ x ∷ xs) r e = absurd (cc)
 
 book_short : (further : List (List ℕ)) (r : Request) → book_of further ≡ Ok r → lengths further ≤ 32
@@ -125,10 +137,14 @@ word_length : (first word : List ℕ) → bytes_eq first word ≡ true → lengt
 word_length first word e = ap (λ (z : List ℕ). length z) ((bytes_eq-Decides first word).0 e)
 
 with_short : (first : List ℕ) (further : List (List ℕ)) (r : Request) → request_with first further ≡ Ok r → (length first ≤ 6) × (lengths further ≤ 32)
-with_short first further r e = go (bytes_eq first (codes "open")) (bytes_eq first (codes "book")) (bytes_eq first (codes "cancel")) (bytes_eq first (codes "look")) refl refl refl refl e
+with_short first further r e = go (bytes_eq first (codes "open")) (bytes_eq first (codes "book"))
+    (bytes_eq first (codes "cancel")) (bytes_eq first (codes "look")) refl refl refl refl e
   where
-    go : (a b c d : Bool) → bytes_eq first (codes "open") ≡ a → bytes_eq first (codes "book") ≡ b → bytes_eq first (codes "cancel") ≡ c → bytes_eq first (codes "look") ≡ d
-        → cond a (open_of further) (cond b (book_of further) (cond c (cancel_of further) (cond d (look_of further) (Err 1)))) ≡ Ok r → (length first ≤ 6) × (lengths further ≤ 32)
+    go : (a b c d : Bool) → bytes_eq first (codes "open") ≡ a → bytes_eq first (codes "book") ≡ b
+        → bytes_eq first (codes "cancel") ≡ c → bytes_eq first (codes "look") ≡ d
+        → cond a (open_of further)
+        (cond b (book_of further) (cond c (cancel_of further) (cond d (look_of further) (Err 1)))) ≡ Ok r
+        → (length first ≤ 6) × (lengths further ≤ 32)
     go true b c d p q s t e = (omega (arith, word_length first (codes "open") p), open_short further r e)
     go false true c d p q s t e = (omega (arith, word_length first (codes "book") q), book_short further r e)
     go false false true d p q s t e = (omega (arith, word_length first (codes "cancel") s), cancel_short further r e)

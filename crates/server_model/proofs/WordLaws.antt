@@ -1,5 +1,6 @@
 -- The first word of a text, and what digits stand for.
-use Rattle.std.proofs.Common.{◌≡◌, ℕ, ◌+◌, ◌-◌, ◌*◌, ◌<◌, ◌≤◌, List, [], ◌∷◌, refl, ap, sym, ◌∙◌, take, drop, length, get_or, eqb, cond, true, false, arith, suc, zero, fold, subst}
+use Rattle.std.proofs.Common.{◌≡◌, ℕ, ◌+◌, ◌-◌, ◌*◌, ◌<◌, ◌≤◌, List, [], ◌∷◌, refl, ap, sym, ◌∙◌, take, drop, length}
+use Rattle.std.proofs.Common.{get_or, eqb, cond, true, false, arith, suc, zero, fold, subst}
 use Rattle.std.proofs.lemmas.Bool.{eqb-true, eq-eqb}
 use Rattle.std.specs.List.{onto_first}
 use Rattle.std.proofs.lemmas.List.Sums.{fold-append}
@@ -11,7 +12,8 @@ pub other_than : (x p : ℕ) → (x ≡ p → ⊥) → eqb x p ≡ false
 other_than x p n = (elim (eqb x p) as (λ b. eqb x p ≡ b → eqb x p ≡ false) [ true ↦ λ e. absurd (n (eqb-true x p e)) | false ↦ λ e. e ]) refl
 
 -- the text up to a first separator is the first part
-pub parts_of-at : (p : ℕ) (xs : List ℕ) (i : ℕ) → ((k : ℕ) → k < i → get_or xs k 0 ≡ p → ⊥) → i < length xs → get_or xs i 0 ≡ p → parts_of p xs ≡ take i xs ∷ parts_of p (drop (suc i) xs)
+pub parts_of-at : (p : ℕ) (xs : List ℕ) (i : ℕ) → ((k : ℕ) → k < i → get_or xs k 0 ≡ p → ⊥) → i < length xs
+    → get_or xs i 0 ≡ p → parts_of p xs ≡ take i xs ∷ parts_of p (drop (suc i) xs)
 parts_of-at p [] i before within here = absurd (omega arith)
 parts_of-at p (x ∷ xs) zero before within here = ap (λ b. cond b ([] ∷ parts_of p xs) (onto_first x (parts_of p xs))) (eq-eqb x p here)
 parts_of-at p (x ∷ xs) (suc i) before within here =
@@ -41,7 +43,8 @@ read_on-le n (c ∷ cs) = omega (arith, read_on-le (10 * n + (c - 48)) cs)
 pub value_of-take-le : (ds : List ℕ) (k : ℕ) → value_of (take k ds) ≤ value_of ds
 value_of-take-le ds k =
     let step : ℕ → ℕ → ℕ = λ n c. 10 * n + (c - 48) in
-    let whole : fold step (value_of (take k ds)) (drop k ds) ≡ value_of ds = sym (fold-append step 0 (take k ds) (drop k ds)) ∙ ap (fold step 0) (take-append-drop k ds) in
+    let whole : fold step (value_of (take k ds)) (drop k ds) ≡ value_of ds = sym
+    (fold-append step 0 (take k ds) (drop k ds)) ∙ ap (fold step 0) (take-append-drop k ds) in
     let P : ℕ → Type 0 = λ n. value_of (take k ds) ≤ n in
     subst P whole (read_on-le (value_of (take k ds)) (drop k ds))
 

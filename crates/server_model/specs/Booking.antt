@@ -2,7 +2,8 @@
 -- first rule that holds, else writes in order, and ends. Every value that it writes is made of what it read.
 -- Keys by class: 0 cap, 1 price, 2 link, 3 booked count (of a trip); 4 live bookings (of a client); 5 status, 6 trip,
 -- 7 quantity (of a booking). A status is 1 pending, 2 booked, 3 cancelling, and 0 where there is no booking.
-use Rattle.std.specs.Prelude.{ℕ, ◌+◌, ◌-◌, ◌*◌, ◌%◌, ◌^◌, ◌==◌, min, nat_lt, nat_le, not, ◌&&◌, Bool, List, [], ◌∷◌, ◌++◌, map, codes, if◌then◌else◌, Option, Some, None, unwrap_or}
+use Rattle.std.specs.Prelude.{ℕ, ◌+◌, ◌-◌, ◌*◌, ◌%◌, ◌^◌, ◌==◌, min, nat_lt, nat_le, not, ◌&&◌, Bool, List, [], ◌∷◌}
+use Rattle.std.specs.Prelude.{◌++◌, map, codes, if◌then◌else◌, Option, Some, None, unwrap_or}
 use Rattle.std.specs.Fmt.{decimal}
 use Rattle.std.specs.declared.result.Result.{Result}
 use Rattle.std.specs.declared.result.Result.TheVariants.{Ok, Err}
@@ -202,7 +203,8 @@ cancel_cancelled who booking s =
     let qty = value_at s (cell 7 booking) in
     let link = value_at s (cell 2 trip) in
     does s (cell 6 booking ∷ cell 7 booking ∷ cell 2 trip ∷ cell 3 trip ∷ cell 4 who.client ∷ where_linked link (cell 3 (narrow link) ∷ []))
-    (returned_writes who.client trip qty link (value_at s (cell 3 trip)) (value_at s (cell 3 (narrow link))) (value_at s (cell 4 who.client)) ++ cleared_writes booking)
+    (returned_writes who.client trip qty link (value_at s (cell 3 trip)) (value_at s (cell 3 (narrow link)))
+    (value_at s (cell 4 who.client)) ++ cleared_writes booking)
     (Reply (codes "cancelled" ++ shown booking))
 
 -- LOOK

@@ -44,7 +44,8 @@ Parts B = (Store × (List ℕ × List (Option Progress))) × ((List (Tier × ℕ
 abbrev pub server_code : {B : Type 0} → Coded B → Coded (Server B)
 server_code {B} backend = code_by (Parts B)
     (coded× (coded× store_code (coded× (coded_list coded_ℕ) (coded_list (coded_option progress_code))))
-    (coded× (coded× (coded_list (item_code text_code)) (coded_list (item_code coded_ℕ))) (coded× (coded× backend backend) (coded_list (coded× request_code text_code)))))
+    (coded× (coded× (coded_list (item_code text_code)) (coded_list (item_code coded_ℕ)))
+    (coded× (coded× backend backend) (coded_list (coded× request_code text_code)))))
     (λ s. ((s.store, (s.last, s.progress)), ((s.calls, s.served), ((s.inventory, s.payment), s.replies))))
     (λ p. record {
       store = p.0.0;

@@ -1,6 +1,7 @@
 -- One server that interleaves requests at nested calls: its state, and what a step does to it. It runs each segment
 -- whole and at once, and has no messages, replicas or rounds.
-use Rattle.std.specs.Prelude.{ℕ, ◌+◌, ◌==◌, ◌&&◌, Bool, true, false, List, [], ◌∷◌, ◌++◌, replicate, slice_index, slice_index_or, slice_set, Option, None, Some, if◌then◌else◌}
+use Rattle.std.specs.Prelude.{ℕ, ◌+◌, ◌==◌, ◌&&◌, Bool, true, false, List, [], ◌∷◌, ◌++◌, replicate, slice_index}
+use Rattle.std.specs.Prelude.{slice_index_or, slice_set, Option, None, Some, if◌then◌else◌}
 use Rattle.aeg_base.specs.Store.{Store, empty}
 use Rattle.aeg_base.specs.declared.names.ReqId.{ReqId}
 use Rattle.aeg_base.specs.declared.names.Tier.{Tier}

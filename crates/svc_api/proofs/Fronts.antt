@@ -15,7 +15,8 @@ ComesBy-here (Writes key value rest) s = inl refl
 ComesBy-here (Ends ending) s = refl
 
 -- before a read it comes by what it comes by afterwards
-pub ComesBy-read : (p : Plan) (key : Key) (left : Option ℕ → Plan) (stage : ℕ) (s t : Store) → Follows p (acts.Get key) left stage → ComesBy (left (Some (value_at s key))) s t → ComesBy p s t
+pub ComesBy-read : (p : Plan) (key : Key) (left : Option ℕ → Plan) (stage : ℕ) (s t : Store)
+    → Follows p (acts.Get key) left stage → ComesBy (left (Some (value_at s key))) s t → ComesBy p s t
 ComesBy-read (Reads k rest) key left stage s t (same, goes_on) comes =
     let P : Key → Type 0 = λ k. ComesBy (rest (value_at s k)) s t
     in subst P same (subst (λ q. ComesBy q s t) (goes_on (value_at s key)) comes)
@@ -23,7 +24,8 @@ ComesBy-read (Writes k value rest) key left stage s t follows comes = absurd fol
 ComesBy-read (Ends ending) key left stage s t follows comes = absurd follows
 
 -- and so before a write
-pub ComesBy-write : (p : Plan) (key : Key) (value : ℕ) (left : Option ℕ → Plan) (stage : ℕ) (s t : Store) → Follows p (acts.Put key value) left stage → ComesBy (left None) (written s key value) t → ComesBy p s t
+pub ComesBy-write : (p : Plan) (key : Key) (value : ℕ) (left : Option ℕ → Plan) (stage : ℕ) (s t : Store)
+    → Follows p (acts.Put key value) left stage → ComesBy (left None) (written s key value) t → ComesBy p s t
 ComesBy-write (Writes k v rest) key value left stage s t (same_key, same_value, goes_on) comes =
     let P : Key → Type 0 = λ k. ComesBy rest (written s k v) t in
     let Q : ℕ → Type 0 = λ v. ComesBy rest (written s key v) t

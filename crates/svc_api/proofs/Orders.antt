@@ -17,10 +17,13 @@ all_in n (x ∷ xs) h = and_from (nat_lt x n) (all_below n xs) (lt-ltb x n (h x 
 
 each_in : (n : ℕ) (order : List ℕ) → ((i : ℕ) → i < n → times i order ≡ 1) → each_once n order ≡ true
 each_in zero order h = refl
-each_in (suc n) order h = and_from (times n order == 1) (each_once n order) (eq-eqb (times n order) 1 (h n (omega arith))) (each_in n order (λ i l. h i (omega (arith, l))))
+each_in (suc n) order h = and_from (times n order == 1) (each_once n order)
+    (eq-eqb (times n order) 1 (h n (omega arith))) (each_in n order (λ i l. h i (omega (arith, l))))
 
 pub order_in : (n : ℕ) (order : List ℕ) → IsOrder n order → is_order n order ≡ true
-order_in n order h = and_from (all_below n order) (each_once n order) (all_in n order (λ i l. inside i (nat_lt i n) refl l)) (each_in n order (λ i l. h i ∙ ap {B = ℕ} (λ b. cond b 1 0) (lt-ltb i n l)))
+order_in n order h = and_from (all_below n order) (each_once n order)
+    (all_in n order (λ i l. inside i (nat_lt i n) refl l))
+    (each_in n order (λ i l. h i ∙ ap {B = ℕ} (λ b. cond b 1 0) (lt-ltb i n l)))
   where
     inside : (i : ℕ) (b : Bool) → nat_lt i n ≡ b → 0 < times i order → i < n
     inside i true e l = ltb-true i n e
@@ -30,7 +33,8 @@ pub once-at : (n i : ℕ) (order : List ℕ) → i < n → each_once n order ≡
 once-at zero i order l e = absurd (omega arith)
 once-at (suc n) i order l e = go (and_parts (times n order == 1) (each_once n order) e) (cases_eq i n) (once-at n i order)
   where
-    go : ((times n order == 1) ≡ true) × (each_once n order ≡ true) → (i ≡ n) ⊎ (i ≡ n → ⊥) → (i < n → each_once n order ≡ true → times i order ≡ 1) → times i order ≡ 1
+    go : ((times n order == 1) ≡ true) × (each_once n order ≡ true) → (i ≡ n) ⊎ (i ≡ n → ⊥)
+        → (i < n → each_once n order ≡ true → times i order ≡ 1) → times i order ≡ 1
     go p (inl f) r = ap (λ z. times z order) f ∙ eqb-true (times n order) 1 p.0
     go p (inr f) r = r (omega arith) p.1
 

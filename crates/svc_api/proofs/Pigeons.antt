@@ -26,11 +26,14 @@ length-without : {A : Type 0} (same : A → A → Bool) (ys : List A) (x : A) �
 length-without same [] x h = absurd (cc)
 length-without {A} same (y ∷ ys) x h = at (same x y) h (length-without same ys x)
   where
-    at : (b : Bool) → (b || has same ys x) ≡ true → (has same ys x ≡ true → length ys ≡ suc (length (without same ys x))) → suc (length ys) ≡ suc (length (cond b ys (y ∷ without same ys x)))
+    at : (b : Bool) → (b || has same ys x) ≡ true
+        → (has same ys x ≡ true → length ys ≡ suc (length (without same ys x)))
+        → suc (length ys) ≡ suc (length (cond b ys (y ∷ without same ys x)))
     at true h rec = refl
     at false h rec = ap suc (rec h)
 
-has-without : {A : Type 0} (same : A → A → Bool) → Tells same → (ys : List A) (x z : A) → has same ys z ≡ true → same z x ≡ false → has same (without same ys x) z ≡ true
+has-without : {A : Type 0} (same : A → A → Bool) → Tells same → (ys : List A) (x z : A) → has same ys z ≡ true
+    → same z x ≡ false → has same (without same ys x) z ≡ true
 has-without same t [] x z h n = h
 has-without {A} same t (y ∷ ys) x z h n = at (same x y) refl (has-without same t ys x z)
   where
@@ -38,19 +41,27 @@ has-without {A} same t (y ∷ ys) x z h n = at (same x y) refl (has-without same
     left true k e = absurd (k refl)
     left false k e = e
 
-    more : (b : Bool) → (b || has same ys z) ≡ true → (has same ys z ≡ true → has same (without same ys x) z ≡ true) → (b || has same (without same ys x) z) ≡ true
+    more : (b : Bool) → (b || has same ys z) ≡ true → (has same ys z ≡ true → has same (without same ys x) z ≡ true)
+        → (b || has same (without same ys x) z) ≡ true
     more true e rec = refl
     more false e rec = rec e
 
-    at : (b : Bool) → same x y ≡ b → (has same ys z ≡ true → same z x ≡ false → has same (without same ys x) z ≡ true) → has same (cond b ys (y ∷ without same ys x)) z ≡ true
+    at : (b : Bool) → same x y ≡ b → (has same ys z ≡ true → same z x ≡ false → has same (without same ys x) z ≡ true)
+        → has same (cond b ys (y ∷ without same ys x)) z ≡ true
     at true e rec = left (same z y) (λ f. both_ways (same z x) n (ap (same z) (t.equal x y e) ∙ f)) h
     at false e rec = more (same z y) h (λ k. rec k n)
 
-pub no_longer : {A : Type 0} (same : A → A → Bool) → Tells same → (xs ys : List A) → IsOnce same xs → ((z : A) → has same xs z ≡ true → has same ys z ≡ true) → length xs ≤ length ys
+pub no_longer : {A : Type 0} (same : A → A → Bool) → Tells same → (xs ys : List A) → IsOnce same xs
+    → ((z : A) → has same xs z ≡ true → has same ys z ≡ true) → length xs ≤ length ys
 no_longer same t [] ys o h = omega arith
 no_longer {A} same t (x ∷ xs) ys o h =
     let k : has same ys x ≡ true = h x (or_left (same x x) (has same xs x) (t.itself x)) in
-    omega (arith, length-without same ys x k, no_longer same t xs (without same ys x) o.1 (λ z g. has-without same t ys x z (h z (or_right (same z x) (has same xs z) g)) (apart z (same z x) refl g)))
+    omega (
+      arith,
+      length-without same ys x k,
+      no_longer same t xs (without same ys x) o.1
+          (λ z g. has-without same t ys x z (h z (or_right (same z x) (has same xs z) g)) (apart z (same z x) refl g)),
+    )
   where
     apart : (z : A) (b : Bool) → same z x ≡ b → has same xs z ≡ true → b ≡ false
     apart z false e g = refl

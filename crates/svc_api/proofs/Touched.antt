@@ -33,7 +33,8 @@ keys_same (Writes k v rest) s t locked h agree =
     ap (λ ks. k ∷ ks) (keys_same rest (written s k v) (written t k v) locked h.1 (written_agrees locked s t k v agree))
 keys_same (Ends e) s t locked h agree = refl
 
-pub changes_same : (p : Plan) (s t : Store) (locked : ℕ → Bool) → AreLocked locked (keys_of p s) → AgreeWhere locked s t → AgreeWhere locked (store_after p s) (store_after p t)
+pub changes_same : (p : Plan) (s t : Store) (locked : ℕ → Bool) → AreLocked locked (keys_of p s) → AgreeWhere locked s t
+    → AgreeWhere locked (store_after p s) (store_after p t)
 changes_same (Reads k rest) s t locked h agree =
     subst (λ (n : ℕ). AgreeWhere locked (store_after (rest (value_at s k)) s) (store_after (rest n) t)) (agree k h.0)
     (changes_same (rest (value_at s k)) s t locked h.1 agree)
@@ -42,14 +43,16 @@ changes_same (Writes k v rest) s t locked h agree =
 changes_same (Ends e) s t locked h agree = agree
 
 -- a key of another lock keeps its value at a write
-other_key : (locked : ℕ → Bool) (s : Store) (k : Key) (v : ℕ) (q : Key) → locked (lock_number k) ≡ true → locked (lock_number q) ≡ false → value_at (written s k v) q ≡ value_at s q
+other_key : (locked : ℕ → Bool) (s : Store) (k : Key) (v : ℕ) (q : Key) → locked (lock_number k) ≡ true
+    → locked (lock_number q) ≡ false → value_at (written s k v) q ≡ value_at s q
 other_key locked s k v q h n = value_at-written s k v q ∙ at (same_key q k) refl
   where
     at : (c : Bool) → same_key q k ≡ c → (if c then v else value_at s q) ≡ value_at s q
     at false e = refl
     at true e = absurd (locked_is locked (lock_number k) h (sym (ap locked (same_lock q k e)) ∙ n))
 
-pub elsewhere_same : (p : Plan) (s : Store) (locked : ℕ → Bool) (q : Key) → AreLocked locked (keys_of p s) → locked (lock_number q) ≡ false → value_at (store_after p s) q ≡ value_at s q
+pub elsewhere_same : (p : Plan) (s : Store) (locked : ℕ → Bool) (q : Key) → AreLocked locked (keys_of p s)
+    → locked (lock_number q) ≡ false → value_at (store_after p s) q ≡ value_at s q
 elsewhere_same (Reads k rest) s locked q h n = elsewhere_same (rest (value_at s k)) s locked q h.1 n
 elsewhere_same (Writes k v rest) s locked q h n =
     elsewhere_same rest (written s k v) locked q h.1 n ∙ other_key locked s k v q h.0 n

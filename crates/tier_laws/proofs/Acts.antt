@@ -50,7 +50,8 @@ next-raises next [] t = omega arith
 next-raises next (Reply text ∷ es) t = next-raises next es t
 next-raises next (Call v stage text ∷ es) t = omega (arith, next-raises (bump next v) es t, bump-raises next v t)
 
-pub num-low : (next : OfTiers ℕ) (ws : List Want) (es : List Ending) (i : ℕ) (a : Act) (t : Tier) (n : ℕ) → slice_get (acts next ws es) i ≡ Some a → Numbered a t n → of_tier next t ≤ n
+pub num-low : (next : OfTiers ℕ) (ws : List Want) (es : List Ending) (i : ℕ) (a : Act) (t : Tier) (n : ℕ)
+    → slice_get (acts next ws es) i ≡ Some a → Numbered a t n → of_tier next t ≤ n
 num-low next [] es i a t n e k = absurd (cc)
 num-low next (w ∷ ws) [] i a t n e k = absurd (cc)
 num-low next (w ∷ ws) (Reply text ∷ es) zero a t n e k = absurd (numbered_at (record { want = w; ending = Reply text; num = 0 }) a t n e k)
@@ -60,7 +61,8 @@ num-low next (w ∷ ws) (Call v stage text ∷ es) zero a t n e k =
     let r : of_tier next v ≡ of_tier next t = ap (of_tier next) q.0 in omega (arith, q.1)
 num-low next (w ∷ ws) (Call v stage text ∷ es) (suc i) a t n e k = omega (arith, num-low (bump next v) ws es i a t n e k, bump-raises next v t)
 
-pub num-high : (next : OfTiers ℕ) (ws : List Want) (es : List Ending) (i : ℕ) (a : Act) (t : Tier) (n : ℕ) → slice_get (acts next ws es) i ≡ Some a → Numbered a t n → n < of_tier (next_after next es) t
+pub num-high : (next : OfTiers ℕ) (ws : List Want) (es : List Ending) (i : ℕ) (a : Act) (t : Tier) (n : ℕ)
+    → slice_get (acts next ws es) i ≡ Some a → Numbered a t n → n < of_tier (next_after next es) t
 num-high next [] es i a t n e k = absurd (cc)
 num-high next (w ∷ ws) [] i a t n e k = absurd (cc)
 num-high next (w ∷ ws) (Reply text ∷ es) zero a t n e k = absurd (numbered_at (record { want = w; ending = Reply text; num = 0 }) a t n e k)
@@ -72,7 +74,8 @@ num-high next (w ∷ ws) (Call v stage text ∷ es) zero a t n e k =
 num-high next (w ∷ ws) (Call v stage text ∷ es) (suc i) a t n e k = num-high (bump next v) ws es i a t n e k
 
 -- each number of a tier is given once
-pub num-once : (next : OfTiers ℕ) (ws : List Want) (es : List Ending) (i j : ℕ) (a b : Act) (t : Tier) (n : ℕ) → slice_get (acts next ws es) i ≡ Some a → slice_get (acts next ws es) j ≡ Some b → Numbered a t n → Numbered b t n → i ≡ j
+pub num-once : (next : OfTiers ℕ) (ws : List Want) (es : List Ending) (i j : ℕ) (a b : Act) (t : Tier) (n : ℕ)
+    → slice_get (acts next ws es) i ≡ Some a → slice_get (acts next ws es) j ≡ Some b → Numbered a t n → Numbered b t n → i ≡ j
 num-once next [] es i j a b t n e f k l = absurd (cc)
 num-once next (w ∷ ws) [] i j a b t n e f k l = absurd (cc)
 num-once next (w ∷ ws) (Reply text ∷ es) zero j a b t n e f k l = absurd (numbered_at (record { want = w; ending = Reply text; num = 0 }) a t n e k)
@@ -89,16 +92,28 @@ num-once next (w ∷ ws) (Call v stage text ∷ es) (suc i) (suc j) a b t n e f 
 
 -- BY INDEX
 
-pub acts_want : (next : OfTiers ℕ) (ws : List Want) (es : List Ending) (i : ℕ) (a : Act) → slice_get (acts next ws es) i ≡ Some a → (slice_get ws i ≡ Some a.want) × (slice_get es i ≡ Some a.ending) × (at 0 (numbers next es) i ≡ a.num)
+pub acts_want : (next : OfTiers ℕ) (ws : List Want) (es : List Ending) (i : ℕ) (a : Act)
+    → slice_get (acts next ws es) i ≡ Some a → (slice_get ws i ≡ Some a.want) × (slice_get es i ≡ Some a.ending)
+    × (at 0 (numbers next es) i ≡ a.num)
 acts_want next [] es i a e = absurd (cc)
 acts_want next (w ∷ ws) [] i a e = absurd (cc)
-acts_want next (w ∷ ws) (Reply text ∷ es) zero a e = let s : record { want = w; ending = Reply text; num = 0 } ≡ a = cc in (ap (λ (z : Act). Some z.want) s, ap (λ (z : Act). Some z.ending) s, ap (λ (z : Act). z.num) s)
+acts_want next (w ∷ ws) (Reply text ∷ es) zero a e = let s : record { want = w; ending = Reply text; num = 0 }
+    ≡ a = cc in (ap (λ (z : Act). Some z.want) s, ap (λ (z : Act). Some z.ending) s, ap (λ (z : Act). z.num) s)
 acts_want next (w ∷ ws) (Reply text ∷ es) (suc i) a e = acts_want next ws es i a e
-acts_want next (w ∷ ws) (Call v stage text ∷ es) zero a e = let s : record { want = w; ending = Call v stage text; num = of_tier next v } ≡ a = cc in (ap (λ (z : Act). Some z.want) s, ap (λ (z : Act). Some z.ending) s, ap (λ (z : Act). z.num) s)
+acts_want next (w ∷ ws) (Call v stage text ∷ es) zero a e = let s : record {
+  want = w;
+  ending = Call v stage text;
+  num = of_tier next v;
+} ≡ a = cc in (
+  ap (λ (z : Act). Some z.want) s,
+  ap (λ (z : Act). Some z.ending) s,
+  ap (λ (z : Act). z.num) s,
+)
 acts_want next (w ∷ ws) (Call v stage text ∷ es) (suc i) a e = acts_want (bump next v) ws es i a e
 
 -- where there is an end for each, each want has its act
-pub want_acts : (next : OfTiers ℕ) (ws : List Want) (es : List Ending) (i : ℕ) (w : Want) → length ws ≡ length es → slice_get ws i ≡ Some w → (a : Act) × (slice_get (acts next ws es) i ≡ Some a) × (a.want ≡ w)
+pub want_acts : (next : OfTiers ℕ) (ws : List Want) (es : List Ending) (i : ℕ) (w : Want) → length ws ≡ length es
+    → slice_get ws i ≡ Some w → (a : Act) × (slice_get (acts next ws es) i ≡ Some a) × (a.want ≡ w)
 want_acts next [] es i w l e = absurd (cc)
 want_acts next (v ∷ ws) [] i w l e = absurd (omega arith)
 want_acts next (v ∷ ws) (Reply text ∷ es) zero w l e = (record { want = v; ending = Reply text; num = 0 }, refl, cc)
@@ -133,7 +148,8 @@ pub find_client : (c : ℕ) (ws : List Want) → ((i : ℕ) × (w : Want) × (sl
 find_client c [] = inr tt
 find_client c (w ∷ ws) = go (cases_eq w.client c) (find_client c ws)
   where
-    go : (w.client ≡ c) ⊎ (w.client ≡ c → ⊥) → ((i : ℕ) × (w : Want) × (slice_get ws i ≡ Some w) × (w.client ≡ c)) ⊎ NoneOf c ws → ((i : ℕ) × (v : Want) × (slice_get (w ∷ ws) i ≡ Some v) × (v.client ≡ c)) ⊎ NoneOf c (w ∷ ws)
+    go : (w.client ≡ c) ⊎ (w.client ≡ c → ⊥) → ((i : ℕ) × (w : Want) × (slice_get ws i ≡ Some w) × (w.client ≡ c))
+        ⊎ NoneOf c ws → ((i : ℕ) × (v : Want) × (slice_get (w ∷ ws) i ≡ Some v) × (v.client ≡ c)) ⊎ NoneOf c (w ∷ ws)
     go (inl e) r = inl (0, w, refl, e)
     go (inr n) (inl r) = inl (suc r.0, r.1, r.2, r.3)
     go (inr n) (inr r) = inr (n, r)
@@ -148,24 +164,30 @@ pub last-in : (ws : List Want) (last : List ℕ) (i : ℕ) (w : Want) → Distin
 last-in [] last i w d e = absurd (cc)
 last-in (v ∷ ws) last zero w d e =
     let s : v ≡ w = cc in
-    subst (λ (z : Want). last_of (last_after ws (put_at 0 last v.client v.seq)) z.client ≡ z.seq) s (last-out ws (put_at 0 last v.client v.seq) v.client d.0 ∙ at_here 0 last v.client v.seq)
+    subst (λ (z : Want). last_of (last_after ws (put_at 0 last v.client v.seq)) z.client ≡ z.seq) s
+    (last-out ws (put_at 0 last v.client v.seq) v.client d.0 ∙ at_here 0 last v.client v.seq)
 last-in (v ∷ ws) last (suc i) w d e = last-in ws (put_at 0 last v.client v.seq) i w d.1 e
 
 pub kept-out : (ws : List Want) (es : List Ending) (kept : List (Option (List ℕ))) (c : ℕ) → NoneOf c ws → kept_of (kept_after ws es kept) c ≡ kept_of kept c
 kept-out [] es kept c n = refl
 kept-out (w ∷ ws) [] kept c n = refl
-kept-out (w ∷ ws) (e ∷ es) kept c n = kept-out ws es (put_at None kept w.client (kept_by e)) c n.1 ∙ at_there None kept w.client (kept_by e) c (λ f. n.0 (sym f))
+kept-out (w ∷ ws) (e ∷ es) kept c n = kept-out ws es (put_at None kept w.client (kept_by e)) c n.1
+    ∙ at_there None kept w.client (kept_by e) c (λ f. n.0 (sym f))
 
-pub kept-in : (next : OfTiers ℕ) (ws : List Want) (es : List Ending) (kept : List (Option (List ℕ))) (i : ℕ) (a : Act) → Distinct ws → slice_get (acts next ws es) i ≡ Some a → kept_of (kept_after ws es kept) a.want.client ≡ kept_by a.ending
+pub kept-in : (next : OfTiers ℕ) (ws : List Want) (es : List Ending) (kept : List (Option (List ℕ))) (i : ℕ) (a : Act)
+    → Distinct ws → slice_get (acts next ws es) i ≡ Some a → kept_of (kept_after ws es kept) a.want.client ≡ kept_by a.ending
 kept-in next [] es kept i a d e = absurd (cc)
 kept-in next (w ∷ ws) [] kept i a d e = absurd (cc)
 kept-in next (w ∷ ws) (Reply text ∷ es) kept zero a d e =
     let s : record { want = w; ending = Reply text; num = 0 } ≡ a = cc in
-    subst (λ (z : Act). kept_of (kept_after ws es (put_at None kept w.client (Some text))) z.want.client ≡ kept_by z.ending) s (kept-out ws es (put_at None kept w.client (Some text)) w.client d.0 ∙ at_here None kept w.client (Some text))
+    subst (λ (z : Act). kept_of (kept_after ws es (put_at None kept w.client (Some text))) z.want.client
+    ≡ kept_by z.ending) s (kept-out ws es (put_at None kept w.client (Some text)) w.client d.0
+    ∙ at_here None kept w.client (Some text))
 kept-in next (w ∷ ws) (Reply text ∷ es) kept (suc i) a d e = kept-in next ws es (put_at None kept w.client (Some text)) i a d.1 e
 kept-in next (w ∷ ws) (Call t stage text ∷ es) kept zero a d e =
     let s : record { want = w; ending = Call t stage text; num = of_tier next t } ≡ a = cc in
-    subst (λ (z : Act). kept_of (kept_after ws es (put_at None kept w.client None)) z.want.client ≡ kept_by z.ending) s (kept-out ws es (put_at None kept w.client None) w.client d.0 ∙ at_here None kept w.client None)
+    subst (λ (z : Act). kept_of (kept_after ws es (put_at None kept w.client None)) z.want.client ≡ kept_by z.ending) s
+    (kept-out ws es (put_at None kept w.client None) w.client d.0 ∙ at_here None kept w.client None)
 kept-in next (w ∷ ws) (Call t stage text ∷ es) kept (suc i) a d e = kept-in (bump next t) ws es (put_at None kept w.client None) i a d.1 e
 
 -- what is parked for the act
@@ -177,9 +199,11 @@ pub parks-out : (next : OfTiers ℕ) (ws : List Want) (es : List Ending) (c : �
 parks-out next [] es c n = refl
 parks-out next (w ∷ ws) [] c n = refl
 parks-out next (w ∷ ws) (Reply text ∷ es) c n = parks-out next ws es c n.1
-parks-out next (w ∷ ws) (Call t stage text ∷ es) c n = cond-false (w.client == c) _ (parked_of c (parks (bump next t) ws es)) (ne_eqb w.client c n.0) ∙ parks-out (bump next t) ws es c n.1
+parks-out next (w ∷ ws) (Call t stage text ∷ es) c n = cond-false (w.client == c) _
+    (parked_of c (parks (bump next t) ws es)) (ne_eqb w.client c n.0) ∙ parks-out (bump next t) ws es c n.1
 
-pub parks-in : (next : OfTiers ℕ) (ws : List Want) (es : List Ending) (i : ℕ) (a : Act) → Distinct ws → slice_get (acts next ws es) i ≡ Some a → parked_of a.want.client (parks next ws es) ≡ parked_by a.want a.num a.ending
+pub parks-in : (next : OfTiers ℕ) (ws : List Want) (es : List Ending) (i : ℕ) (a : Act) → Distinct ws
+    → slice_get (acts next ws es) i ≡ Some a → parked_of a.want.client (parks next ws es) ≡ parked_by a.want a.num a.ending
 parks-in next [] es i a d e = absurd (cc)
 parks-in next (w ∷ ws) [] i a d e = absurd (cc)
 parks-in next (w ∷ ws) (Reply text ∷ es) zero a d e =
@@ -192,5 +216,6 @@ parks-in next (w ∷ ws) (Call t stage text ∷ es) zero a d e =
     (cond-true (w.client == w.client) _ (parked_of w.client (parks (bump next t) ws es)) (eq-eqb w.client w.client refl))
 parks-in next (w ∷ ws) (Call t stage text ∷ es) (suc i) a d e =
     let p = acts_want (bump next t) ws es i a e in
-    cond-false (w.client == a.want.client) _ (parked_of a.want.client (parks (bump next t) ws es)) (ne_eqb w.client a.want.client (λ f. none_not w.client ws i a.want d.0 p.0 (sym f)))
+    cond-false (w.client == a.want.client) _ (parked_of a.want.client (parks (bump next t) ws es))
+    (ne_eqb w.client a.want.client (λ f. none_not w.client ws i a.want d.0 p.0 (sym f)))
     ∙ parks-in (bump next t) ws es i a d.1 e

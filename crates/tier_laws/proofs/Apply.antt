@@ -1,5 +1,6 @@
 -- A round that a middle node can apply is the decided one.
-use Rattle.std.proofs.Common.{◌≡◌, ℕ, ◌+◌, ◌*◌, ◌<◌, Bool, true, false, cond, List, [], ◌∷◌, length, refl, sym, ap, ◌∙◌, subst, Option, Some, None, zero, suc, arith}
+use Rattle.std.proofs.Common.{◌≡◌, ℕ, ◌+◌, ◌*◌, ◌<◌, Bool, true, false, cond, List, [], ◌∷◌, length, refl, sym, ap, ◌∙◌}
+use Rattle.std.proofs.Common.{subst, Option, Some, None, zero, suc, arith}
 use Rattle.std.specs.Prelude.{slice_get, ◌==◌, nat_le, replicate, slice_index_or}
 use Rattle.std.proofs.lemmas.Bool.{cond-true, cond_both}
 use Rattle.std.proofs.lemmas.Option.{cond_some, slice_get_within}
@@ -40,7 +41,8 @@ use Rattle.tier_model.specs.Mid.{Mid, Ready, call_to, apply, calls_to, ready, te
 
 pub every-each : {A : Type 0} (P : A → Type 0) (n : ℕ) (skip : ℕ → Bool) (f : ℕ → A) → ((y : ℕ) → P (f y)) → Every P (each n skip f)
 every-each P zero skip f k = tt
-every-each P (suc n) skip f k = every-append P (each n skip f) _ (every-each P n skip f k) (cond_both (skip n) [] (f n ∷ []) (Every P) (λ e. tt) (λ e. (k n, tt)))
+every-each P (suc n) skip f k = every-append P (each n skip f) _ (every-each P n skip f k)
+    (cond_both (skip n) [] (f n ∷ []) (Every P) (λ e. tt) (λ e. (k n, tt)))
 
 -- the held answers are those of the history
 pub held_right : {B : Type 0} (c : Config B) (P : Past B) (x : ℕ) (σ : Mid) → Known c P → MidOther c P x σ → MoreAnswers (held_code σ.held) P.server.served
@@ -52,12 +54,21 @@ held_right {B} c P x σ k o = record { at = at }
         let s : P.server.served q.1.tier q.1.num ≡ Some q.1.code = k.codes MidTier x q.0 q.1 q.2 in
         subst (λ z. P.server.served z n ≡ Some code) q.3 (subst (λ z. P.server.served q.1.tier z ≡ Some code) q.4 (s ∙ ap Some q.5))
 
-pub tells_ok : {B : Type 0} (c : Config B) (P : Past B) (u x : ℕ) (next : OfTiers ℕ) (ws : List Want) (es : List Ending) → ((i : ℕ) (a : Act) → slice_get (acts next ws es) i ≡ Some a → ToldOne P.server a.want a.num a.ending) → Every (SentOk c P) (tells u x next ws es)
+pub tells_ok : {B : Type 0} (c : Config B) (P : Past B) (u x : ℕ) (next : OfTiers ℕ) (ws : List Want) (es : List Ending)
+    → ((i : ℕ) (a : Act) → slice_get (acts next ws es) i ≡ Some a → ToldOne P.server a.want a.num a.ending)
+    → Every (SentOk c P) (tells u x next ws es)
 tells_ok c P u x next [] es k = tt
 tells_ok c P u x next (w ∷ ws) [] k = tt
-tells_ok c P u x next (w ∷ ws) (Reply text ∷ es) k = ((refl, k 0 (record { want = w; ending = Reply text; num = 0 }) refl), tells_ok c P u x next ws es (λ i a e. k (suc i) a e))
+tells_ok c P u x next (w ∷ ws) (Reply text ∷ es) k = (
+  (
+    refl,
+    k 0 (record { want = w; ending = Reply text; num = 0 }) refl,
+  ),
+  tells_ok c P u x next ws es (λ i a e. k (suc i) a e),
+)
 tells_ok c P u x next (w ∷ ws) (Call t stage text ∷ es) k = every-append (SentOk c P) (calls_to u x t (of_tier next t) text) (tells u x (bump next t) ws es)
-    (every-each (SentOk c P) (2 * u + 1) nobody (call_to x t (of_tier next t) text) (λ y. k 0 (record { want = w; ending = Call t stage text; num = of_tier next t }) refl))
+    (every-each (SentOk c P) (2 * u + 1) nobody (call_to x t (of_tier next t) text)
+    (λ y. k 0 (record { want = w; ending = Call t stage text; num = of_tier next t }) refl))
     (tells_ok c P u x (bump next t) ws es (λ i a e. k (suc i) a e))
 
 -- nobody claims anything of a round without claims
@@ -67,7 +78,8 @@ no_claim (suc n) zero q e = cc
 no_claim (suc n) (suc y) q e = no_claim n y q e
 
 -- once a round's claims are dropped, each claim that is left stood before
-without_claim : (tally : List (ℕ × Claims)) (a r y : ℕ) (q : Claim) → rises 0 tally ≡ true → claim_of (claims_in (without tally a) r) y ≡ Some q → claim_of (claims_in tally r) y ≡ Some q
+without_claim : (tally : List (ℕ × Claims)) (a r y : ℕ) (q : Claim) → rises 0 tally ≡ true
+    → claim_of (claims_in (without tally a) r) y ≡ Some q → claim_of (claims_in tally r) y ≡ Some q
 without_claim tally a r y q h e = go (a == r) (sym (ap (λ z. claim_of (claims_or_none z) y) (find_without 0 tally a r h)) ∙ e)
   where
     go : (b : Bool) → claim_of (claims_or_none (cond b None (find tally r))) y ≡ Some q → claim_of (claims_in tally r) y ≡ Some q
@@ -114,29 +126,38 @@ record IsDecided {B : Type 0} (c : Config B) (P : Past B) (σ : Mid) (R : Ready)
   wants : decision.made.wants ≡ R.wants
   finish_is : R.finish ≡ finish_in c.service decision.made decision.verdict
 
-finish_right : {B : Type 0} (c : Config B) (P : Past B) (x : ℕ) (σ : Mid) (v : Verdict) (R : Round) (o : Finish) → Known c P → MidOther c P x σ → RoundIn R → R.tables ≡ σ.tables → job_of P.server.served R.wants ≡ Some R.job → VerdictBy c P σ.applied R v
+finish_right : {B : Type 0} (c : Config B) (P : Past B) (x : ℕ) (σ : Mid) (v : Verdict) (R : Round) (o : Finish)
+    → Known c P → MidOther c P x σ → RoundIn R → R.tables ≡ σ.tables → job_of P.server.served R.wants ≡ Some R.job
+    → VerdictBy c P σ.applied R v
     → finish_of c.service.programs (held_code σ.held) R.wants σ.tables v ≡ Some o → o ≡ finish_in c.service R v
-finish_right {B} c P x σ (Commit t order) R o k q inside st j by e = sym taken.1 ∙ ap (λ (z : Tables). finish_by z.store parts.0) (sym st) ∙ ap (finish_by R.tables.store) same ∙ (λ i. record { store = written-changes R.tables.store made.store i; ends = made.ends })
+finish_right {B} c P x σ (Commit t order) R o k q inside st j by e = sym taken.1
+    ∙ ap (λ (z : Tables). finish_by z.store parts.0) (sym st) ∙ ap (finish_by R.tables.store) same
+    ∙ (λ i. record { store = written-changes R.tables.store made.store i; ends = made.ends })
   where
     made : Finish
     made = finish c.service.programs R.job order R.tables.store
 
-    parts : (w : Outcome) × (c.service.programs.read t ≡ Some w) × (cond (fits c.service.programs R.wants w.ends) (Some (finish_by σ.tables.store w)) None ≡ Some o)
+    parts : (w : Outcome) × (c.service.programs.read t ≡ Some w)
+        × (cond (fits c.service.programs R.wants w.ends) (Some (finish_by σ.tables.store w)) None ≡ Some o)
     parts = then_parts (c.service.programs.read t) (λ o. cond (fits c.service.programs R.wants o.ends) (Some (finish_by σ.tables.store o)) None) o e
 
     taken : (fits c.service.programs R.wants parts.0.ends ≡ true) × (finish_by σ.tables.store parts.0 ≡ o)
     taken = cond_some (fits c.service.programs R.wants parts.0.ends) (finish_by σ.tables.store parts.0) o parts.2
 
     same : parts.0 ≡ changes.outcome R.tables.store made.store made.ends
-    same = let f : c.service.programs.read t ≡ Some (changes.outcome R.tables.store made.store made.ends) = ap c.service.programs.read by.1 ∙ k.laws.reads R.job order R.tables.store inside.job by.0 inside.store in let g = parts.1 in cc
+    same = let f : c.service.programs.read t
+        ≡ Some (changes.outcome R.tables.store made.store made.ends) = ap c.service.programs.read by.1
+        ∙ k.laws.reads R.job order R.tables.store inside.job by.0 inside.store in let g = parts.1 in cc
 finish_right c P x σ Serial R o k q inside st j by e =
     let p = then_parts (job_of (held_code σ.held) R.wants) (λ J. Some (finish c.service.programs J (below (length J)) σ.tables.store)) o e in
     let f : job_of P.server.served R.wants ≡ Some p.0 = job-more (held_code σ.held) P.server.served R.wants p.0 (held_right c P x σ k q) p.1 in
     let same : p.0 ≡ R.job = cc in
     let g : finish c.service.programs p.0 (below (length p.0)) σ.tables.store ≡ o = let h = p.2 in cc in
-    sym g ∙ ap (λ z. finish c.service.programs z (below (length z)) σ.tables.store) same ∙ ap (λ (z : Tables). finish c.service.programs R.job (below (length R.job)) z.store) (sym st)
+    sym g ∙ ap (λ z. finish c.service.programs z (below (length z)) σ.tables.store) same
+    ∙ ap (λ (z : Tables). finish c.service.programs R.job (below (length R.job)) z.store) (sym st)
 
-is_decided : {B : Type 0} (c : Config B) (P : Past B) (x : ℕ) (σ : Mid) (R : Ready) → Known c P → MidOther c P x σ → MoreLog σ.log.learned P.log → ready c.service.programs σ ≡ Some R → IsDecided c P σ R
+is_decided : {B : Type 0} (c : Config B) (P : Past B) (x : ℕ) (σ : Mid) (R : Ready) → Known c P → MidOther c P x σ
+    → MoreLog σ.log.learned P.log → ready c.service.programs σ ≡ Some R → IsDecided c P σ R
 is_decided {B} c P x σ R k o pre e = record {
   decision = d;
   tables = tables;
@@ -147,14 +168,26 @@ is_decided {B} c P x σ R k o pre e = record {
     m : Service B
     m = c.service
 
-    p : (es : List Entry) × (batch_at σ.log.learned σ.applied ≡ Some es) × (and_then (verdict_at σ.log.learned σ.applied) (λ v. and_then (finish_of c.service.programs (held_code σ.held) (wants c.service.programs σ.tables es) σ.tables v) (λ o. Some (record { wants = wants c.service.programs σ.tables es; finish = o }))) ≡ Some R)
-    p = then_parts (batch_at σ.log.learned σ.applied) (λ es. and_then (verdict_at σ.log.learned σ.applied) (λ v. and_then (finish_of c.service.programs (held_code σ.held) (wants c.service.programs σ.tables es) σ.tables v) (λ o. Some (record { wants = wants c.service.programs σ.tables es; finish = o })))) R e
+    p : (es : List Entry) × (batch_at σ.log.learned σ.applied ≡ Some es)
+        × (and_then (verdict_at σ.log.learned σ.applied)
+        (λ v. and_then (finish_of c.service.programs (held_code σ.held) (wants c.service.programs σ.tables es) σ.tables
+        v) (λ o. Some (record { wants = wants c.service.programs σ.tables es; finish = o }))) ≡ Some R)
+    p = then_parts (batch_at σ.log.learned σ.applied)
+        (λ es. and_then (verdict_at σ.log.learned σ.applied)
+        (λ v. and_then (finish_of c.service.programs (held_code σ.held) (wants c.service.programs σ.tables es) σ.tables
+        v) (λ o. Some (record { wants = wants c.service.programs σ.tables es; finish = o })))) R e
 
-    q : (v : Verdict) × (verdict_at σ.log.learned σ.applied ≡ Some v) × (and_then (finish_of c.service.programs (held_code σ.held) (wants c.service.programs σ.tables p.0) σ.tables v) (λ o. Some (record { wants = wants c.service.programs σ.tables p.0; finish = o })) ≡ Some R)
-    q = then_parts (verdict_at σ.log.learned σ.applied) (λ v. and_then (finish_of c.service.programs (held_code σ.held) (wants c.service.programs σ.tables p.0) σ.tables v) (λ o. Some (record { wants = wants c.service.programs σ.tables p.0; finish = o }))) R p.2
+    q : (v : Verdict) × (verdict_at σ.log.learned σ.applied ≡ Some v)
+        × (and_then (finish_of c.service.programs (held_code σ.held) (wants c.service.programs σ.tables p.0) σ.tables v)
+        (λ o. Some (record { wants = wants c.service.programs σ.tables p.0; finish = o })) ≡ Some R)
+    q = then_parts (verdict_at σ.log.learned σ.applied)
+        (λ v. and_then (finish_of c.service.programs (held_code σ.held) (wants c.service.programs σ.tables p.0) σ.tables
+        v) (λ o. Some (record { wants = wants c.service.programs σ.tables p.0; finish = o }))) R p.2
 
-    r : (t : Finish) × (finish_of c.service.programs (held_code σ.held) (wants c.service.programs σ.tables p.0) σ.tables q.0 ≡ Some t) × (Some (record { wants = wants c.service.programs σ.tables p.0; finish = t }) ≡ Some R)
-    r = then_parts (finish_of c.service.programs (held_code σ.held) (wants c.service.programs σ.tables p.0) σ.tables q.0) (λ o. Some (record { wants = wants c.service.programs σ.tables p.0; finish = o })) R q.2
+    r : (t : Finish) × (finish_of c.service.programs (held_code σ.held) (wants c.service.programs σ.tables p.0) σ.tables
+        q.0 ≡ Some t) × (Some (record { wants = wants c.service.programs σ.tables p.0; finish = t }) ≡ Some R)
+    r = then_parts (finish_of c.service.programs (held_code σ.held) (wants c.service.programs σ.tables p.0) σ.tables
+        q.0) (λ o. Some (record { wants = wants c.service.programs σ.tables p.0; finish = o })) R q.2
 
     made : record { wants = wants c.service.programs σ.tables p.0; finish = r.0 } ≡ R
     made = let h = r.2 in cc
@@ -168,14 +201,17 @@ is_decided {B} c P x σ R k o pre e = record {
     d : Decision c.service c.depth P.log P.server σ.applied
     d = k.decided σ.applied (below_half σ.applied (length P.log) (slice_get_within P.log (2 * σ.applied + 1) value.0 value.1))
 
-    a : (T : Tables) × (after c.service.programs c.depth P.log P.server.served σ.applied ≡ Some T) × (round_at c.service.programs P.log P.server.served σ.applied T ≡ Some d.made)
-    a = then_parts (after c.service.programs c.depth P.log P.server.served σ.applied) (round_at c.service.programs P.log P.server.served σ.applied) d.made d.is_round
+    a : (T : Tables) × (after c.service.programs c.depth P.log P.server.served σ.applied ≡ Some T)
+        × (round_at c.service.programs P.log P.server.served σ.applied T ≡ Some d.made)
+    a = then_parts (after c.service.programs c.depth P.log P.server.served σ.applied)
+        (round_at c.service.programs P.log P.server.served σ.applied) d.made d.is_round
 
     same_tables : a.0 ≡ σ.tables
     same_tables = let f = a.1 in let g = o.is_after in cc
 
     parts : RoundParts c.service P.log P.server.served σ.applied σ.tables d.made
-    parts = round_parts c.service P.log P.server.served σ.applied σ.tables d.made (subst (λ z. round_at c.service.programs P.log P.server.served σ.applied z ≡ Some d.made) same_tables a.2)
+    parts = round_parts c.service P.log P.server.served σ.applied σ.tables d.made
+        (subst (λ z. round_at c.service.programs P.log P.server.served σ.applied z ≡ Some d.made) same_tables a.2)
 
     tables : d.made.tables ≡ σ.tables
     tables = parts.is_tables
@@ -192,7 +228,8 @@ is_decided {B} c P x σ R k o pre e = record {
     decided_value : (v : AnyValue) → MidOk c P (2 * σ.applied + 1) v → verdict_in (Some v) ≡ Some q.0 → VerdictOk c P σ.applied q.0
     decided_value (OfMid (Batch es)) y f = absurd (cc)
     decided_value (OfBack v) y f = absurd (cc)
-    decided_value (OfMid (Decided v)) y f = let s : v ≡ q.0 = cc in subst (λ z. VerdictOk c P z q.0) (half-odd σ.applied) (subst (VerdictOk c P (half (2 * σ.applied + 1))) s y.1)
+    decided_value (OfMid (Decided v)) y f = let s : v
+        ≡ q.0 = cc in subst (λ z. VerdictOk c P z q.0) (half-odd σ.applied) (subst (VerdictOk c P (half (2 * σ.applied + 1))) s y.1)
 
     ok : VerdictOk c P σ.applied q.0
     ok = decided_value value.0 (k.values (2 * σ.applied + 1) value.0 value.1) value.2
@@ -201,18 +238,27 @@ is_decided {B} c P x σ R k o pre e = record {
     same_made = let f = ok.is_round in let g = d.is_round in cc
 
     right : r.0 ≡ finish_in c.service d.made d.verdict
-    right = finish_right c P x σ q.0 d.made r.0 k o (round_in c.service c.depth P.log P.server.served σ.applied d.made k.laws d.is_round) tables (subst (λ z. job_of P.server.served z ≡ Some d.made.job) (sym parts.is_wants) parts.is_job) (subst (λ z. VerdictBy c P σ.applied z q.0) same_made ok.by)
-        (subst (λ z. finish_of c.service.programs (held_code σ.held) z σ.tables q.0 ≡ Some r.0) (sym wants_same) r.1) ∙ ap (finish_in c.service d.made) (sym same_verdict)
+    right = finish_right c P x σ q.0 d.made r.0 k o
+        (round_in c.service c.depth P.log P.server.served σ.applied d.made k.laws d.is_round) tables
+        (subst (λ z. job_of P.server.served z ≡ Some d.made.job) (sym parts.is_wants) parts.is_job)
+        (subst (λ z. VerdictBy c P σ.applied z q.0) same_made ok.by)
+        (subst (λ z. finish_of c.service.programs (held_code σ.held) z σ.tables q.0 ≡ Some r.0) (sym wants_same) r.1)
+        ∙ ap (finish_in c.service d.made) (sym same_verdict)
 
-pub apply_ok : {B : Type 0} (c : Config B) (P : Past B) (x : ℕ) (σ : Mid) (R : Ready) → Known c P → MidOther c P x σ → MoreLog σ.log.learned P.log → ready c.service.programs σ ≡ Some R
+pub apply_ok : {B : Type 0} (c : Config B) (P : Past B) (x : ℕ) (σ : Mid) (R : Ready) → Known c P → MidOther c P x σ
+    → MoreLog σ.log.learned P.log → ready c.service.programs σ ≡ Some R
     → MidOther c P x (apply σ R) × Every (SentOk c P) (tells c.u x σ.tables.next R.wants R.finish.ends)
 apply_ok {B} c P x σ R k o pre e = (
   record {
     is_after = subst (λ z. after c.service.programs c.depth P.log P.server.served (suc σ.applied) ≡ Some z) same
-        (after-step c.service c.depth P.log P.server.served σ.applied d.made d.verdict (settled d.made.tables d.made.wants (finish_in c.service d.made d.verdict)) d.is_round d.is_verdict
-        (cond-true (is_order (length d.made.job) (ordered d.made d.verdict)) (Some (settled d.made.tables d.made.wants (finish_in c.service d.made d.verdict))) None d.is_ordered));
+        (after-step c.service c.depth P.log P.server.served σ.applied d.made d.verdict
+        (settled d.made.tables d.made.wants (finish_in c.service d.made d.verdict)) d.is_round d.is_verdict
+        (cond-true (is_order (length d.made.job) (ordered d.made d.verdict))
+        (Some (settled d.made.tables d.made.wants (finish_in c.service d.made d.verdict))) None d.is_ordered));
     tables = subst (TablesOk P.server) same d.tables;
-    pending = λ y e f. o.pending y e (not_done_some (last_of (settled σ.tables R.wants R.finish).last y) (pending_of σ.pending y) e (sym (drop_at (settled σ.tables R.wants R.finish).last σ.pending y) ∙ f));
+    pending = λ y e f. o.pending y e
+        (not_done_some (last_of (settled σ.tables R.wants R.finish).last y) (pending_of σ.pending y) e
+        (sym (drop_at (settled σ.tables R.wants R.finish).last σ.pending y) ∙ f));
     tally = λ r y q f. o.tally r y q (without_claim σ.tally σ.applied r y q o.in_order f);
     in_order = rises_without 0 σ.tally σ.applied o.in_order;
     spec = λ v f. absurd (cc);

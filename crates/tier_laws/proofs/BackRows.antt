@@ -1,6 +1,7 @@
 -- What a backend node does in an event is right by itself.
 pub use Rattle.tier_laws.proofs.Invariant.BackendNodes.{Tied, BackOther}
-use Rattle.std.proofs.Common.{◌≡◌, ℕ, ◌+◌, ◌*◌, ◌<◌, false, List, [], ◌∷◌, refl, sym, ap, ◌∙◌, subst, inl, inr, Option, Some, None, zero, suc, get_or, set, arith}
+use Rattle.std.proofs.Common.{◌≡◌, ℕ, ◌+◌, ◌*◌, ◌<◌, false, List, [], ◌∷◌, refl, sym, ap, ◌∙◌, subst, inl, inr, Option}
+use Rattle.std.proofs.Common.{Some, None, zero, suc, get_or, set, arith}
 use Rattle.std.specs.Prelude.{slice_get, slice_set, ◌⊎◌, ◌==◌, nat_lt, take}
 use Rattle.std.proofs.lemmas.Bool.{cond_both, cond-true, cond-false, cases_eq, eq-eqb, ne_eqb}
 use Rattle.aeg_base.specs.declared.names.Ballot.{Ballot}
@@ -80,7 +81,8 @@ pub record BackKnown {B : Type 0} (c : Config B) (P : Past B) (t : Tier) (vs : L
       → (code : ℕ) × ((back_run (c.service.backend t) (take i vs)).code n ≡ Some code)
   pub positive : (i n : ℕ) (text : List ℕ) → slice_get vs i ≡ Some (OfBack (Called n text)) → 0 < n
 
-pub record BackMoveOk {B : Type 0} (c : Config B) (P : Past B) (t : Tier) (h : ℕ → List (LogFact AnyValue)) (soup : List Packet) (x : ℕ) (v : Move (Back B)) : Type 0 where
+pub record BackMoveOk {B : Type 0} (c : Config B) (P : Past B) (t : Tier) (h : ℕ → List (LogFact AnyValue))
+    (soup : List Packet) (x : ℕ) (v : Move (Back B)) : Type 0 where
   pub turn : Turn AnyValue
   pub turn_ok : TurnOk c.u h (log_soup t soup) x turn
   pub good : (p : ℕ) (b : Ballot) (w : AnyValue) → DidVote (onto turn.facts (h x)) p b w → BackOk c P t p w
@@ -93,7 +95,8 @@ pub record BackMoveOk {B : Type 0} (c : Config B) (P : Past B) (t : Tier) (h : �
   pub tied : Tied (c.service.backend t) v.state.log.learned v.state
   pub sends : Every (SentOk c P) v.sends
 
-pub record BackHere {B : Type 0} (c : Config B) (P : Past B) (t : Tier) (vs : List AnyValue) (h : ℕ → List (LogFact AnyValue)) (soup : List Packet) (x : ℕ) (σ : Back B) : Type 0 where
+pub record BackHere {B : Type 0} (c : Config B) (P : Past B) (t : Tier) (vs : List AnyValue) (h : ℕ
+    → List (LogFact AnyValue)) (soup : List Packet) (x : ℕ) (σ : Back B) : Type 0 where
   pub few : c.u < 128
   pub backend : same_tier t MidTier ≡ false
   pub inside : x < 2 * c.u + 1

@@ -27,12 +27,14 @@ use Rattle.tier_model.specs.Moves.{Packet}
 
 -- A NODE THAT AN EVENT LEAVES AS IT IS
 
-pub beside-more : {B : Type 0} (c : Config B) (P Q : Past B) (t : Tier) (x : ℕ) (σ : State B t) → Grows P Q → Q.codes t x ≡ P.codes t x → Beside c P t x σ → Beside c Q t x σ
+pub beside-more : {B : Type 0} (c : Config B) (P Q : Past B) (t : Tier) (x : ℕ) (σ : State B t) → Grows P Q
+    → Q.codes t x ≡ P.codes t x → Beside c P t x σ → Beside c Q t x σ
 beside-more c P Q MidTier x σ g e k = other-more c P Q x σ g e k
 beside-more c P Q InvTier x σ g e k = record { other = back_other-more c P Q InvTier σ g k.other; tied = k.tied }
 beside-more c P Q PayTier x σ g e k = record { other = back_other-more c P Q PayTier σ g k.other; tied = k.tied }
 
-pending-more : {B : Type 0} (c : Config B) (P Q : Past B) (t : Tier) (h g : ℕ → List (LogFact AnyValue)) (xs ys : List (LogPacket AnyValue)) (x : ℕ) (R : List (List Fact))
+pending-more : {B : Type 0} (c : Config B) (P Q : Past B) (t : Tier) (h g : ℕ → List (LogFact AnyValue))
+    (xs ys : List (LogPacket AnyValue)) (x : ℕ) (R : List (List Fact))
     → Grows P Q → AllGrew h g → SoupGrew c.u xs ys → g x ≡ h x → Q.codes t x ≡ P.codes t x → Pending c P t h xs x R → Pending c Q t g ys x R
 pending-more {B} c P Q t h g xs ys x R w a s e f k = record {
   turn = k.turn;
@@ -44,7 +46,8 @@ pending-more {B} c P Q t h g xs ys x R w a s e f k = record {
   right = λ i q r. w.kept.served q.tier q.num q.code (k.right i q r);
 }
 
-pub node-more : {B : Type 0} (c : Config B) (P Q : Past B) (t : Tier) (h g : ℕ → List (LogFact AnyValue)) (xs ys : List (LogPacket AnyValue)) (x : ℕ) (node : Node (State B t) Fact) (m : Mode (State B t))
+pub node-more : {B : Type 0} (c : Config B) (P Q : Past B) (t : Tier) (h g : ℕ → List (LogFact AnyValue))
+    (xs ys : List (LogPacket AnyValue)) (x : ℕ) (node : Node (State B t) Fact) (m : Mode (State B t))
     → Grows P Q → AllGrew h g → SoupGrew c.u xs ys → g x ≡ h x → Q.codes t x ≡ P.codes t x → NodeOk c P t h xs x node m → NodeOk c Q t g ys x node m
 node-more c P Q t h g xs ys x node (Up σ) w a s e f k = record {
   is_log = k.is_log ∙ sym e;
@@ -68,7 +71,8 @@ pub unchanged : {B : Type 0} (c : Config B) (w : World B) → (i : Inv c w) → 
 unchanged c w i = record { codes = i.codes; h = i.h; core = i.core; near = nearly_done c w i.done; before = i.core.logs MidTier; gone_codes = λ t y g. refl }
 
 -- the value at each position of the middle log is good
-pub values : {B : Type 0} (c : Config B) (w : World B) (codes : AllCodes) (h : AllFacts) → Core c w codes h → (p : ℕ) (v : AnyValue) → slice_get (w.logs MidTier) p ≡ Some v → MidOk c (past c w codes) p v
+pub values : {B : Type 0} (c : Config B) (w : World B) (codes : AllCodes) (h : AllFacts) → Core c w codes h
+    → (p : ℕ) (v : AnyValue) → slice_get (w.logs MidTier) p ≡ Some v → MidOk c (past c w codes) p v
 values c w codes h i p v e =
     meets_good c.u (h MidTier) (log_soup MidTier w.soup) (w.logs MidTier) (MidOk c (past c w codes)) p v (i.logs MidTier) ((i.logs MidTier).sound p v e)
 

@@ -39,7 +39,8 @@ or_none (Some a) = refl
 
 -- ONE ANSWER IS SET
 
-found : (H : HeldState) (t : Tier) (n : ℕ) (a : Answer) (s : Tier) (k : ℕ) → find (answers_of (holds H t n a) s) k ≡ cond (is_call t n s k) (Some a) (find (answers_of H s) k)
+found : (H : HeldState) (t : Tier) (n : ℕ) (a : Answer) (s : Tier) (k : ℕ) → find (answers_of (holds H t n a) s) k
+    ≡ cond (is_call t n s k) (Some a) (find (answers_of H s) k)
 found H t n a s k = go (tier_cases t s)
   where
     go : (t ≡ s) ⊎ (same_tier t s ≡ false) → find (answers_of (holds H t n a) s) k ≡ cond (is_call t n s k) (Some a) (find (answers_of H s) k)
@@ -52,12 +53,14 @@ set_code : (H : HeldState) (t : Tier) (n : ℕ) (a : Answer) (code : ℕ) → or
 set_code H t n a code e s k = ap code_in (found H t n a s k) ∙ go (is_call t n s k) refl
   where
     go : (b : Bool) → is_call t n s k ≡ b → code_in (cond b (Some a) (find (answers_of H s) k)) ≡ or_else (held_code H s k) (cond b (Some code) None)
-    go true f = let p = same_call t n s k f in subst (λ z. Some a.code ≡ or_else (held_code H s z) (Some code)) p.1 (subst (λ z. Some a.code ≡ or_else (held_code H z n) (Some code)) p.0 (sym e))
+    go true f = let p = same_call t n s k f in subst (λ z. Some a.code ≡ or_else (held_code H s z) (Some code)) p.1
+        (subst (λ z. Some a.code ≡ or_else (held_code H z n) (Some code)) p.0 (sym e))
     go false f = sym (or_none (held_code H s k))
 
 -- ANSWERS ARE TAKEN
 
-pub takes_code : (H : HeldState) (t : Tier) (n code : ℕ) (s : Tier) (k : ℕ) → held_code (takes H t n code) s k ≡ or_else (held_code H s k) (code_at_call t n code s k)
+pub takes_code : (H : HeldState) (t : Tier) (n code : ℕ) (s : Tier) (k : ℕ) → held_code (takes H t n code) s k
+    ≡ or_else (held_code H s k) (code_at_call t n code s k)
 takes_code H t n code s k = go (find (answers_of H t) n) refl
   where
     go : (o : Option Answer) → find (answers_of H t) n ≡ o → held_code (takes_as H t n code o) s k ≡ or_else (held_code H s k) (code_at_call t n code s k)
@@ -67,7 +70,8 @@ takes_code H t n code s k = go (find (answers_of H t) n) refl
         stays : (b : Bool) → is_call t n s k ≡ b → held_code H s k ≡ or_else (held_code H s k) (cond b (Some code) None)
         stays true f =
             let p = same_call t n s k f in
-            let h : held_code H s k ≡ Some a.code = subst (λ z. held_code H s z ≡ Some a.code) p.1 (subst (λ z. held_code H z n ≡ Some a.code) p.0 (ap code_in e)) in
+            let h : held_code H s k ≡ Some a.code = subst (λ z. held_code H s z ≡ Some a.code) p.1
+            (subst (λ z. held_code H z n ≡ Some a.code) p.0 (ap code_in e)) in
             h ∙ ap (λ z. or_else z (Some code)) (sym h)
         stays false f = sym (or_none (held_code H s k))
 
@@ -96,10 +100,12 @@ takes_size H t n code = go (find (answers_of H t) n)
 
 -- OTHERS TELL THAT THEY HOLD ONE
 
-pub hears_code : (H : HeldState) (y : ℕ) (t : Tier) (n code : ℕ) (s : Tier) (k : ℕ) → held_code (hears H y t n code) s k ≡ or_else (held_code H s k) (code_at_call t n code s k)
+pub hears_code : (H : HeldState) (y : ℕ) (t : Tier) (n code : ℕ) (s : Tier) (k : ℕ) → held_code (hears H y t n code) s k
+    ≡ or_else (held_code H s k) (code_at_call t n code s k)
 hears_code H y t n code s k = go (find (answers_of H t) n) refl
   where
-    go : (o : Option Answer) → find (answers_of H t) n ≡ o → held_code (holds H t n (heard o code y)) s k ≡ or_else (held_code H s k) (code_at_call t n code s k)
+    go : (o : Option Answer) → find (answers_of H t) n ≡ o → held_code (holds H t n (heard o code y)) s k
+        ≡ or_else (held_code H s k) (code_at_call t n code s k)
     go None e = set_code H t n (heard None code y) code (ap (λ z. or_else (code_in z) (Some code)) e) s k
     go (Some a) e = set_code H t n (heard (Some a) code y) code (ap (λ z. or_else (code_in z) (Some code)) e) s k
 
@@ -115,13 +121,16 @@ set_flag (b ∷ bs) (suc y) (suc z) e = go (set_flag bs y z e)
     go (inr f) = inr f
 
 -- it was told before, or it's what y tells now
-pub hears_noted : (H : HeldState) (y : ℕ) (t : Tier) (n code z : ℕ) (s : Tier) (k : ℕ) → is_noted (hears H y t n code) z s k ≡ true → (is_noted H z s k ≡ true) ⊎ ((z ≡ y) × (t ≡ s) × (n ≡ k))
+pub hears_noted : (H : HeldState) (y : ℕ) (t : Tier) (n code z : ℕ) (s : Tier) (k : ℕ)
+    → is_noted (hears H y t n code) z s k ≡ true → (is_noted H z s k ≡ true) ⊎ ((z ≡ y) × (t ≡ s) × (n ≡ k))
 hears_noted H y t n code z s k = go (find (answers_of H t) n) refl
   where
-    go : (o : Option Answer) → find (answers_of H t) n ≡ o → is_noted (holds H t n (heard o code y)) z s k ≡ true → (is_noted H z s k ≡ true) ⊎ ((z ≡ y) × (t ≡ s) × (n ≡ k))
+    go : (o : Option Answer) → find (answers_of H t) n ≡ o → is_noted (holds H t n (heard o code y)) z s k ≡ true
+        → (is_noted H z s k ≡ true) ⊎ ((z ≡ y) × (t ≡ s) × (n ≡ k))
     go o e f = by (is_call t n s k) refl (sym (ap (λ q. has_told q z) (found H t n (heard o code y) s k)) ∙ f)
       where
-        here : (t ≡ s) × (n ≡ k) → (q : Option Answer) → find (answers_of H t) n ≡ q → has (heard q code y).noted z ≡ true → (is_noted H z s k ≡ true) ⊎ ((z ≡ y) × (t ≡ s) × (n ≡ k))
+        here : (t ≡ s) × (n ≡ k) → (q : Option Answer) → find (answers_of H t) n ≡ q
+            → has (heard q code y).noted z ≡ true → (is_noted H z s k ≡ true) ⊎ ((z ≡ y) × (t ≡ s) × (n ≡ k))
         here p None g h = told (set_flag (replicate 5 false) y z h)
           where
             told : (z ≡ y) ⊎ (has (replicate 5 false) z ≡ true) → (is_noted H z s k ≡ true) ⊎ ((z ≡ y) × (t ≡ s) × (n ≡ k))
@@ -133,18 +142,21 @@ hears_noted H y t n code z s k = go (find (answers_of H t) n) refl
             told (inl i) = inr (i, p.0, p.1)
             told (inr i) = inl (subst (λ q. is_noted H z s q ≡ true) p.1 (subst (λ q. is_noted H z q n ≡ true) p.0 (ap (λ q. has_told q z) g ∙ i)))
 
-        by : (b : Bool) → is_call t n s k ≡ b → has_told (cond b (Some (heard o code y)) (find (answers_of H s) k)) z ≡ true → (is_noted H z s k ≡ true) ⊎ ((z ≡ y) × (t ≡ s) × (n ≡ k))
+        by : (b : Bool) → is_call t n s k ≡ b → has_told (cond b (Some (heard o code y)) (find (answers_of H s) k)) z
+            ≡ true → (is_noted H z s k ≡ true) ⊎ ((z ≡ y) × (t ≡ s) × (n ≡ k))
         by true g h = here (same_call t n s k g) o e h
         by false g h = inl h
 
 -- THE CODES OF A LIST
 
-pub code_of-end : (cs : List Code) (t : Tier) (n code : ℕ) (s : Tier) (k : ℕ) → code_of (cs ++ record { tier = t; num = n; code = code } ∷ []) s k ≡ or_else (code_of cs s k) (code_at_call t n code s k)
+pub code_of-end : (cs : List Code) (t : Tier) (n code : ℕ) (s : Tier) (k : ℕ)
+    → code_of (cs ++ record { tier = t; num = n; code = code } ∷ []) s k ≡ or_else (code_of cs s k) (code_at_call t n code s k)
 code_of-end [] t n code s k = refl
 code_of-end (c ∷ cs) t n code s k = go (is_call c.tier c.num s k) (code_of-end cs t n code s k)
   where
     go : (b : Bool) → code_of (cs ++ record { tier = t; num = n; code = code } ∷ []) s k ≡ or_else (code_of cs s k) (code_at_call t n code s k)
-        → cond b (Some c.code) (code_of (cs ++ record { tier = t; num = n; code = code } ∷ []) s k) ≡ or_else (cond b (Some c.code) (code_of cs s k)) (code_at_call t n code s k)
+        → cond b (Some c.code) (code_of (cs ++ record { tier = t; num = n; code = code } ∷ []) s k)
+        ≡ or_else (cond b (Some c.code) (code_of cs s k)) (code_at_call t n code s k)
     go true e = refl
     go false e = e
 
@@ -156,7 +168,8 @@ held_codes u x (Promised b ∷ fs) s k = held_codes u x fs s k
 held_codes u x (Accepted p b v ∷ fs) s k = held_codes u x fs s k
 held_codes u x (Learned p v ∷ fs) s k = held_codes u x fs s k
 held_codes u x (Held t n code ∷ fs) s k =
-    takes_code (held_in u x fs) t n code s k ∙ ap (λ z. or_else z (code_at_call t n code s k)) (held_codes u x fs s k) ∙ sym (code_of-end (codes_in fs) t n code s k)
+    takes_code (held_in u x fs) t n code s k ∙ ap (λ z. or_else z (code_at_call t n code s k)) (held_codes u x fs s k)
+    ∙ sym (code_of-end (codes_in fs) t n code s k)
 
 held_size : (u x : ℕ) (F : List Fact) → ((held_in u x F).faults ≡ u) × ((held_in u x F).me ≡ x)
 held_size u x [] = (refl, refl)
@@ -193,9 +206,11 @@ restored_held c P x F e = record {
   noted = λ y t n f. absurd (none_noted c.u x F y t n f);
 }
 
-more_code : {B : Type 0} (c : Config B) (P Q : Past B) (x : ℕ) (H : HeldState) (t : Tier) (n code : ℕ) → HeldOk c P x H → Q.codes MidTier x ≡ P.codes MidTier x ++ record { tier = t; num = n; code = code } ∷ []
+more_code : {B : Type 0} (c : Config B) (P Q : Past B) (x : ℕ) (H : HeldState) (t : Tier) (n code : ℕ) → HeldOk c P x H
+    → Q.codes MidTier x ≡ P.codes MidTier x ++ record { tier = t; num = n; code = code } ∷ []
     → (s : Tier) (k : ℕ) → or_else (held_code H s k) (code_at_call t n code s k) ≡ code_of (Q.codes MidTier x) s k
-more_code c P Q x H t n code o e s k = ap (λ z. or_else z (code_at_call t n code s k)) (o.codes s k) ∙ sym (code_of-end (P.codes MidTier x) t n code s k) ∙ ap (λ z. code_of z s k) (sym e)
+more_code c P Q x H t n code o e s k = ap (λ z. or_else z (code_at_call t n code s k)) (o.codes s k)
+    ∙ sym (code_of-end (P.codes MidTier x) t n code s k) ∙ ap (λ z. code_of z s k) (sym e)
 
 -- an answer that is written down is held
 pub taken_held : {B : Type 0} (c : Config B) (P Q : Past B) (x : ℕ) (H : HeldState) (t : Tier) (n code : ℕ) → HeldOk c P x H → Grows P Q
@@ -208,7 +223,8 @@ taken_held c P Q x H t n code o g e = record {
   noted = λ y s k f. g.held y s k (o.noted y s k (takes_noted H t n code y s k f));
 }
 
-heard_noted : {B : Type 0} (c : Config B) (P Q : Past B) (x : ℕ) (H : HeldState) (y : ℕ) (t : Tier) (n code : ℕ) → HeldOk c P x H → Grows P Q → wrote P t n y ≡ true
+heard_noted : {B : Type 0} (c : Config B) (P Q : Past B) (x : ℕ) (H : HeldState) (y : ℕ) (t : Tier) (n code : ℕ)
+    → HeldOk c P x H → Grows P Q → wrote P t n y ≡ true
     → (z : ℕ) (s : Tier) (k : ℕ) → is_noted (hears H y t n code) z s k ≡ true → wrote Q s k z ≡ true
 heard_noted c P Q x H y t n code o g w z s k f = by (hears_noted H y t n code z s k f)
   where
@@ -217,7 +233,8 @@ heard_noted c P Q x H y t n code o g w z s k f = by (hears_noted H y t n code z 
     by (inr h) = subst (λ q. wrote Q s k q ≡ true) (sym h.0) (subst (λ q. wrote Q s q y ≡ true) h.2 (subst (λ q. wrote Q q n y ≡ true) h.1 (g.held y t n w)))
 
 -- so is one that another node told
-pub told_held : {B : Type 0} (c : Config B) (P Q : Past B) (x : ℕ) (H : HeldState) (y : ℕ) (t : Tier) (n code : ℕ) → HeldOk c P x H → Grows P Q → wrote P t n y ≡ true
+pub told_held : {B : Type 0} (c : Config B) (P Q : Past B) (x : ℕ) (H : HeldState) (y : ℕ) (t : Tier) (n code : ℕ)
+    → HeldOk c P x H → Grows P Q → wrote P t n y ≡ true
     → Q.codes MidTier x ≡ P.codes MidTier x ++ record { tier = t; num = n; code = code } ∷ [] → HeldOk c Q x (hears H y t n code)
 told_held c P Q x H y t n code o g w e = record {
   faults = o.faults;
@@ -228,7 +245,8 @@ told_held c P Q x H y t n code o g w e = record {
 }
 
 -- where it was held already, only who told it is noted
-pub noted_held : {B : Type 0} (c : Config B) (P : Past B) (x : ℕ) (H : HeldState) (y : ℕ) (t : Tier) (n code : ℕ) → HeldOk c P x H → wrote P t n y ≡ true → is_some (held_code H t n) ≡ true
+pub noted_held : {B : Type 0} (c : Config B) (P : Past B) (x : ℕ) (H : HeldState) (y : ℕ) (t : Tier) (n code : ℕ)
+    → HeldOk c P x H → wrote P t n y ≡ true → is_some (held_code H t n) ≡ true
     → HeldOk c P x (hears H y t n code)
 noted_held c P x H y t n code o w some = record {
   faults = o.faults;

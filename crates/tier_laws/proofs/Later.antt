@@ -1,5 +1,6 @@
 -- Chosen logs and the history grow at their ends, so what is submitted later starts later.
-use Rattle.std.proofs.Common.{◌≡◌, ℕ, ◌+◌, ◌*◌, ◌<◌, ◌≤◌, List, [], ◌∷◌, ◌++◌, length, refl, sym, ap, ◌∙◌, subst, inl, inr, Option, Some, None, suc, append_assoc}
+use Rattle.std.proofs.Common.{◌≡◌, ℕ, ◌+◌, ◌*◌, ◌<◌, ◌≤◌, List, [], ◌∷◌, ◌++◌, length, refl, sym, ap, ◌∙◌, subst, inl}
+use Rattle.std.proofs.Common.{inr, Option, Some, None, suc, append_assoc}
 use Rattle.std.specs.Prelude.{slice_get, ◌⊎◌, ◌==◌, ◌&&◌, not, nat_lt, nat_le}
 use Rattle.std.proofs.lemmas.Bool.{cond_both, cases_lt}
 use Rattle.std.proofs.lemmas.List.{append-nil}
@@ -25,7 +26,10 @@ use Rattle.tier_model.specs.Moves.{Move, Packet}
 use Rattle.run_model.specs.declared.trace.Fared.{Fared}
 use Rattle.run_model.specs.declared.trace.TraceEvent.{TraceEvent}
 use Rattle.run_model.specs.declared.trace.TraceEvent.TheVariants.{Submit, Deliver, Short, Lead, Offer, Work, Retry, Crash, Restart, Wipe}
-use Rattle.run_model.specs.World.{Config, World, Fate, start, fate, unwritten, kind_at, ran, node_up, at_node, placed, with_node, opens, is_client_number, submits, reopens, takes_reply, client_gets, node_gets, arrives, delivered, shortened, leads, offers, works, node_retries, retries, can_fare, if_can, happens}
+use Rattle.run_model.specs.World.{Config, World, Fate, start, fate, unwritten, kind_at, ran, node_up, at_node, placed}
+use Rattle.run_model.specs.World.{with_node, opens, is_client_number, submits, reopens, takes_reply, client_gets}
+use Rattle.run_model.specs.World.{node_gets, arrives, delivered, shortened, leads, offers, works, node_retries, retries}
+use Rattle.run_model.specs.World.{can_fare, if_can, happens}
 use Rattle.run_model.specs.Runs.{chosen_next, grown, grows, grows_at, run, steps_at, world}
 use Rattle.run_model.proofs.Appending.{run-append}
 use Rattle.tier_laws.specs.Said.{Laws, IsFront, WasSubmitted, chosen_log}
@@ -42,22 +46,30 @@ pub record Keeps {B : Type 0} (w z : World B) : Type 0 where
 keeps_refl : {B : Type 0} (w : World B) → Keeps w w
 keeps_refl w = record { hist = refl; logs = refl }
 
-node_up_keeps : {B : Type 0} (w : World B) (t : Tier) (x : ℕ) (d : Fate) (move : State B t → Move (State B t)) (ran : State B t → List Vote) (m : Mode (State B t)) → Keeps w (node_up w t x d move ran m)
+node_up_keeps : {B : Type 0} (w : World B) (t : Tier) (x : ℕ) (d : Fate) (move : State B t → Move (State B t))
+    (ran : State B t → List Vote) (m : Mode (State B t)) → Keeps w (node_up w t x d move ran m)
 node_up_keeps w t x d move ran (Up σ) = record { hist = refl; logs = refl }
 node_up_keeps w t x d move ran Down = keeps_refl w
 node_up_keeps w t x d move ran Gone = keeps_refl w
 
-at_node_keeps : {B : Type 0} (c : Config B) (w : World B) (t : Tier) (x : ℕ) (d : Fate) (move : State B t → Move (State B t)) (ran : State B t → List Vote) → Keeps w (at_node c w t x d move ran)
-at_node_keeps c w t x d move ran = cond_both (nat_lt x (2 * c.u + 1)) (node_up w t x d move ran (w.nodes t x).mode) w (Keeps w) (λ e. node_up_keeps w t x d move ran (w.nodes t x).mode) (λ e. keeps_refl w)
+at_node_keeps : {B : Type 0} (c : Config B) (w : World B) (t : Tier) (x : ℕ) (d : Fate) (move : State B t
+    → Move (State B t)) (ran : State B t → List Vote) → Keeps w (at_node c w t x d move ran)
+at_node_keeps c w t x d move ran = cond_both (nat_lt x (2 * c.u + 1)) (node_up w t x d move ran (w.nodes t x).mode) w
+    (Keeps w) (λ e. node_up_keeps w t x d move ran (w.nodes t x).mode) (λ e. keeps_refl w)
 
 placed_keeps : {B : Type 0} (c : Config B) (w : World B) (t : Tier) (x : ℕ) (node : Node (State B t) Fact) → Keeps w (placed c w t x node)
-placed_keeps c w t x node = cond_both (nat_lt x (2 * c.u + 1)) (with_node w t x node [] []) w (Keeps w) (λ e. record { hist = refl; logs = refl }) (λ e. keeps_refl w)
+placed_keeps c w t x node = cond_both (nat_lt x (2 * c.u + 1)) (with_node w t x node [] []) w (Keeps w)
+    (λ e. record { hist = refl; logs = refl }) (λ e. keeps_refl w)
 
 takes_keeps : {B : Type 0} (w : World B) (y s : ℕ) (text : List ℕ) → Keeps w (takes_reply w y s text)
-takes_keeps w y s text = cond_both (is_some (w.clients y).opened && (s == (w.clients y).last)) _ w (Keeps w) (λ e. record { hist = refl; logs = refl }) (λ e. keeps_refl w)
+takes_keeps w y s text = cond_both (is_some (w.clients y).opened && (s == (w.clients y).last)) _ w (Keeps w)
+    (λ e. record { hist = refl; logs = refl }) (λ e. keeps_refl w)
 
 submits_keeps : {B : Type 0} (c : Config B) (w : World B) (y : ℕ) (text : List ℕ) → Keeps w (submits c w y text)
-submits_keeps c w y text = cond_both (is_client_number y && (is_request c.service.programs (record { client = y; seq = suc (w.clients y).last }) text && (not (is_some (w.clients y).opened) && nat_lt (w.clients y).last 65536))) (opens c.u w y text) w (Keeps w) (λ e. record { hist = refl; logs = refl }) (λ e. keeps_refl w)
+submits_keeps c w y text = cond_both (is_client_number y
+    && (is_request c.service.programs (record { client = y; seq = suc (w.clients y).last }) text
+    && (not (is_some (w.clients y).opened) && nat_lt (w.clients y).last 65536))) (opens c.u w y text) w (Keeps w)
+    (λ e. record { hist = refl; logs = refl }) (λ e. keeps_refl w)
 
 reopens_keeps : {B : Type 0} (c : Config B) (w : World B) (y : ℕ) (o : Option (List ℕ)) → Keeps w (reopens c w y o)
 reopens_keeps c w y None = keeps_refl w
@@ -73,7 +85,8 @@ client_keeps w y (msgs.Answer n code) = keeps_refl w
 client_keeps w y (msgs.Have t n code) = keeps_refl w
 client_keeps w y (msgs.Settle g) = keeps_refl w
 
-node_gets_keeps : {B : Type 0} (c : Config B) (w : World B) (fared : Fared) (from : End) (message : Msg) (t : Tier) (x : ℕ) → Keeps w (node_gets c w fared from message t x)
+node_gets_keeps : {B : Type 0} (c : Config B) (w : World B) (fared : Fared) (from : End) (message : Msg) (t : Tier)
+    (x : ℕ) → Keeps w (node_gets c w fared from message t x)
 node_gets_keeps c w fared from message t x = at_node_keeps c w t x (fate c fared) ((kind_at c t x).on_frame from message) (λ σ. [])
 
 arrives_keeps : {B : Type 0} (c : Config B) (w : World B) (fared : Fared) (from : End) (message : Msg) (to : End) → Keeps w (arrives c w fared from message to)
@@ -86,7 +99,8 @@ delivered_keeps c w fared (Some k) = arrives_keeps c w fared k.from k.message k.
 
 shortened_keeps : {B : Type 0} (c : Config B) (w : World B) (fared : Fared) (bytes : ℕ) (o : Option Packet) → Keeps w (shortened c w fared bytes o)
 shortened_keeps c w fared bytes None = keeps_refl w
-shortened_keeps c w fared bytes (Some k) = cond_both (nat_le (c.frame_length k.from k.message) bytes) (arrives c w fared k.from k.message k.to) w (Keeps w) (λ e. arrives_keeps c w fared k.from k.message k.to) (λ e. keeps_refl w)
+shortened_keeps c w fared bytes (Some k) = cond_both (nat_le (c.frame_length k.from k.message) bytes)
+    (arrives c w fared k.from k.message k.to) w (Keeps w) (λ e. arrives_keeps c w fared k.from k.message k.to) (λ e. keeps_refl w)
 
 lead_keeps : {B : Type 0} (c : Config B) (w : World B) (fared : Fared) (t : Tier) (x : ℕ) → Keeps w (leads c w fared t x)
 lead_keeps c w fared t x = at_node_keeps c w t x (fate c fared) (kind_at c t x).leads (λ σ. [])
@@ -141,7 +155,10 @@ longer_refl : {B : Type 0} (w : World B) → Longer w w
 longer_refl w = record { hist = front_refl w.hist; logs = λ t. front_refl (w.logs t) }
 
 longer_then : {B : Type 0} (w y z : World B) → Longer w y → Longer y z → Longer w z
-longer_then w y z a b = record { hist = front_then w.hist y.hist z.hist a.hist b.hist; logs = λ t. front_then (w.logs t) (y.logs t) (z.logs t) (a.logs t) (b.logs t) }
+longer_then w y z a b = record {
+  hist = front_then w.hist y.hist z.hist a.hist b.hist;
+  logs = λ t. front_then (w.logs t) (y.logs t) (z.logs t) (a.logs t) (b.logs t);
+}
 
 keeps_longer : {B : Type 0} (w z : World B) → Keeps w z → Longer w z
 keeps_longer w z k = record {
@@ -179,7 +196,8 @@ pub log_goes_on : {B : Type 0} (c : Config B) (es fs : List TraceEvent) (t : Tie
 log_goes_on c es fs t = (goes_on c es fs).logs t
 
 -- a start that was not submitted after es stands past the history of es
-pub starts_later : {B : Type 0} (c : Config B) (es fs : List TraceEvent) (i n : ℕ) (who : ReqId) (body : List ℕ) → c.u < 128 → Laws c.service.programs → slice_get (world c (es ++ fs)).hist i ≡ Some (Start who n, body)
+pub starts_later : {B : Type 0} (c : Config B) (es fs : List TraceEvent) (i n : ℕ) (who : ReqId) (body : List ℕ)
+    → c.u < 128 → Laws c.service.programs → slice_get (world c (es ++ fs)).hist i ≡ Some (Start who n, body)
     → ((text : List ℕ) → WasSubmitted (world c es) who text → ⊥) → length (world c es).hist ≤ i
 starts_later {B} c es fs i n who body few laws e new = go (cases_lt i (length (world c es).hist))
   where

@@ -19,7 +19,8 @@ pub get_right : {A : Type 0} (xs ys : List A) (i : ℕ) (a : A) → slice_get ys
 get_right [] ys i a e = (i, e)
 get_right (x ∷ xs) ys i a e = let r = get_right xs ys i a e in (suc r.0, r.1)
 
-pub joined : {A : Type 0} (G : A → Type 0) (xs ys : List A) → ((i : ℕ) (a : A) → slice_get xs i ≡ Some a → G a) → ((i : ℕ) (a : A) → slice_get ys i ≡ Some a → G a) → (i : ℕ) (a : A) → slice_get (xs ++ ys) i ≡ Some a → G a
+pub joined : {A : Type 0} (G : A → Type 0) (xs ys : List A) → ((i : ℕ) (a : A) → slice_get xs i ≡ Some a → G a)
+    → ((i : ℕ) (a : A) → slice_get ys i ≡ Some a → G a) → (i : ℕ) (a : A) → slice_get (xs ++ ys) i ≡ Some a → G a
 joined {A} G xs ys f g i a e = go (get_cases xs ys i a e)
   where
     go : (slice_get xs i ≡ Some a) ⊎ ((j : ℕ) × (slice_get ys j ≡ Some a)) → G a
@@ -27,7 +28,8 @@ joined {A} G xs ys f g i a e = go (get_cases xs ys i a e)
     go (inr h) = g h.0 a h.1
 
 -- one item more
-pub pushed : {A : Type 0} (G : A → Type 0) (xs : List A) (a : A) → ((i : ℕ) (b : A) → slice_get xs i ≡ Some b → G b) → G a → (i : ℕ) (b : A) → slice_get (xs ++ a ∷ []) i ≡ Some b → G b
+pub pushed : {A : Type 0} (G : A → Type 0) (xs : List A) (a : A) → ((i : ℕ) (b : A) → slice_get xs i ≡ Some b → G b)
+    → G a → (i : ℕ) (b : A) → slice_get (xs ++ a ∷ []) i ≡ Some b → G b
 pushed {A} G xs a k g i b e = go (get_push xs a i b e)
   where
     go : (slice_get xs i ≡ Some b) ⊎ ((i ≡ length xs) × (a ≡ b)) → G b
@@ -118,14 +120,17 @@ pub tier_there : {A : Type 0} (f : Tier → A) (t : Tier) (a : A) (v : Tier) →
 tier_there f t a v e = cond-false (same_tier v t) a (f v) e
 
 -- of two functions of tiers that change at one tier
-pub both_tiers : {A C : Type 0} (P : Tier → A → C → Type 0) (f : Tier → A) (g : Tier → C) (t : Tier) (a : A) (b : C) → P t a b → ((v : Tier) → same_tier v t ≡ false → P v (f v) (g v)) → (v : Tier) → P v (put_tier f t a v) (put_tier g t b v)
+pub both_tiers : {A C : Type 0} (P : Tier → A → C → Type 0) (f : Tier → A) (g : Tier → C) (t : Tier) (a : A) (b : C)
+    → P t a b → ((v : Tier) → same_tier v t ≡ false → P v (f v) (g v)) → (v : Tier) → P v (put_tier f t a v) (put_tier g t b v)
 both_tiers {A} {C} P f g t a b here there v = go (tier_cases v t)
   where
     go : (v ≡ t) ⊎ (same_tier v t ≡ false) → P v (put_tier f t a v) (put_tier g t b v)
-    go (inl e) = subst (λ z. P z (put_tier f t a z) (put_tier g t b z)) (sym e) (subst (λ z. P t z (put_tier g t b t)) (sym (tier_here f t a)) (subst (P t a) (sym (tier_here g t b)) here))
+    go (inl e) = subst (λ z. P z (put_tier f t a z) (put_tier g t b z)) (sym e)
+        (subst (λ z. P t z (put_tier g t b t)) (sym (tier_here f t a)) (subst (P t a) (sym (tier_here g t b)) here))
     go (inr e) = subst (λ z. P v z (put_tier g t b v)) (sym (tier_there f t a v e)) (subst (P v (f v)) (sym (tier_there g t b v e)) (there v e))
 
-pub by_tier : {A : Type 0} (P : Tier → A → Type 0) (f : Tier → A) (t : Tier) (a : A) → P t a → ((v : Tier) → same_tier v t ≡ false → P v (f v)) → (v : Tier) → P v (put_tier f t a v)
+pub by_tier : {A : Type 0} (P : Tier → A → Type 0) (f : Tier → A) (t : Tier) (a : A) → P t a
+    → ((v : Tier) → same_tier v t ≡ false → P v (f v)) → (v : Tier) → P v (put_tier f t a v)
 by_tier P f t a here there v = both_tiers (λ v z y. P v z) f f t a a here there v
 
 pub of_here : {A : Type 0} (f : OfTiers A) (t : Tier) (a : A) → of_tier (with_tier f t a) t ≡ a

@@ -1,6 +1,7 @@
 -- One tier's log inside a larger world: a turn of the log, and the chosen log that grows at its end.
 pub use Rattle.tier_laws.proofs.Invariant.LogsAreChosen.{LogPart, Complete, Nearly}
-use Rattle.std.proofs.Common.{false, refl, ◌≡◌, ℕ, ◌+◌, ◌*◌, ◌<◌, ◌≤◌, true, List, [], ◌∷◌, ◌++◌, length, sym, ap, ◌∙◌, subst, inl, inr, Some, None, zero, suc, arith}
+use Rattle.std.proofs.Common.{false, refl, ◌≡◌, ℕ, ◌+◌, ◌*◌, ◌<◌, ◌≤◌, true, List, [], ◌∷◌, ◌++◌, length, sym, ap, ◌∙◌}
+use Rattle.std.proofs.Common.{subst, inl, inr, Some, None, zero, suc, arith}
 use Rattle.std.specs.Prelude.{slice_get, ◌⊎◌, ◌==◌}
 use Rattle.std.proofs.lemmas.Bool.{cases_lt}
 use Rattle.std.proofs.lemmas.Option.{slice_get_within}
@@ -23,11 +24,14 @@ use Rattle.tier_laws.proofs.Lists.{get_end, get_left, get_push, get_within}
 pub nearly : {V : Type 0} (u : ℕ) (soup : List (LogPacket V)) (L : List V) → Complete u soup L → Nearly u soup L
 nearly u soup L k = record { at = λ p v m. inl (k.at p v m) }
 
-pub log_weaker : {V : Type 0} (u : ℕ) (H : ℕ → List (LogFact V)) (soup : List (LogPacket V)) (L : List V) (G F : ℕ → V → Type 0) → ((p : ℕ) (v : V) → G p v → F p v) → LogPart u H soup L G → LogPart u H soup L F
+pub log_weaker : {V : Type 0} (u : ℕ) (H : ℕ → List (LogFact V)) (soup : List (LogPacket V)) (L : List V) (G F : ℕ → V
+    → Type 0) → ((p : ℕ) (v : V) → G p v → F p v) → LogPart u H soup L G → LogPart u H soup L F
 log_weaker u H soup L G F f k = record { history = k.history; sound = k.sound; good = λ x l p b v d. f p v (k.good x l p b v d) }
 
 -- a turn whose record is kept: its packets are sent, or none
-kept_log : {V : Type 0} (u : ℕ) (H : ℕ → List (LogFact V)) (soup ys : List (LogPacket V)) (L : List V) (G : ℕ → V → Type 0) (x : ℕ) (t : Turn V) → LogPart u H soup L G → History u (wrote H x t) ys → SoupGrew u soup ys → ((p : ℕ) (b : Ballot) (v : V) → DidVote (onto t.facts (H x)) p b v → G p v)
+kept_log : {V : Type 0} (u : ℕ) (H : ℕ → List (LogFact V)) (soup ys : List (LogPacket V)) (L : List V) (G : ℕ → V
+    → Type 0) (x : ℕ) (t : Turn V) → LogPart u H soup L G → History u (wrote H x t) ys → SoupGrew u soup ys
+    → ((p : ℕ) (b : Ballot) (v : V) → DidVote (onto t.facts (H x)) p b v → G p v)
     → LogPart u (wrote H x t) ys L G
 kept_log {V} u H soup ys L G x t k history s new = record {
   history = history;
@@ -36,18 +40,23 @@ kept_log {V} u H soup ys L G x t k history s new = record {
 }
 
 -- what is learned after the turn was chosen before it
-learned_before : {V : Type 0} (u : ℕ) (H : ℕ → List (LogFact V)) (soup : List (LogPacket V)) (x : ℕ) (t : Turn V) → History u H soup → TurnOk u H soup x t → (y : ℕ) → y < 2 * u + 1 → (p : ℕ) (v : V) → slice_get (learned_in (wrote H x t y)) p ≡ Some v → Meets u soup p v
-learned_before {V} u H soup x t k ok = put_each (λ y F. y < 2 * u + 1 → (p : ℕ) (v : V) → slice_get (learned_in F) p ≡ Some v → Meets u soup p v) H x (onto t.facts (H x))
+learned_before : {V : Type 0} (u : ℕ) (H : ℕ → List (LogFact V)) (soup : List (LogPacket V)) (x : ℕ) (t : Turn V)
+    → History u H soup → TurnOk u H soup x t → (y : ℕ) → y < 2 * u + 1 → (p : ℕ) (v : V)
+    → slice_get (learned_in (wrote H x t y)) p ≡ Some v → Meets u soup p v
+learned_before {V} u H soup x t k ok = put_each (λ y F. y < 2 * u + 1 → (p : ℕ) (v : V)
+    → slice_get (learned_in F) p ≡ Some v → Meets u soup p v) H x (onto t.facts (H x))
     (λ l. (turn_rest u H soup x t ok).learned) (λ y e. k.learned y)
 
-turn_nearly : {V : Type 0} (u : ℕ) (H : ℕ → List (LogFact V)) (soup : List (LogPacket V)) (L : List V) (G : ℕ → V → Type 0) (x : ℕ) (t : Turn V) → u < 128 → LogPart u H soup L G → Complete u soup L → TurnOk u H soup x t
+turn_nearly : {V : Type 0} (u : ℕ) (H : ℕ → List (LogFact V)) (soup : List (LogPacket V)) (L : List V) (G : ℕ → V
+    → Type 0) (x : ℕ) (t : Turn V) → u < 128 → LogPart u H soup L G → Complete u soup L → TurnOk u H soup x t
     → History u (wrote H x t) (soup ++ packets_of x t.sends) → Nearly u (soup ++ packets_of x t.sends) L
 turn_nearly {V} u H soup L G x t few k c ok new = record { at = λ p v m. at p v m (cases_lt p (length L)) }
   where
     at : (p : ℕ) (v : V) → Meets u (soup ++ packets_of x t.sends) p v → (p < length L) ⊎ (length L ≤ p) → (slice_get L p ≡ Some v) ⊎ (p ≡ length L)
     at p v m (inl l) =
         let w = get_within L p l in
-        let e : w.0 ≡ v = agree u (wrote H x t) (soup ++ packets_of x t.sends) few new p w.0 v (meets-append u soup (packets_of x t.sends) p w.0 (k.sound p w.0 w.1)) m in
+        let e : w.0 ≡ v = agree u (wrote H x t) (soup ++ packets_of x t.sends) few new p w.0 v
+        (meets-append u soup (packets_of x t.sends) p w.0 (k.sound p w.0 w.1)) m in
         inl (w.1 ∙ ap Some e)
     at zero v m (inr l) = inr (omega arith)
     at (suc q) v m (inr l) = past (cases_lt q (length L))
@@ -73,7 +82,9 @@ pub record LogStep {V : Type 0} (u : ℕ) (h g : ℕ → List (LogFact V)) (ys :
   pub near : Nearly u ys L
 
 -- the record of a turn is kept, and its packets are sent
-pub turn_step : {V : Type 0} (u : ℕ) (h : ℕ → List (LogFact V)) (soup ys : List (LogPacket V)) (L : List V) (G : ℕ → V → Type 0) (x : ℕ) (t : Turn V) → u < 128 → LogPart u h soup L G → Complete u soup L → TurnOk u h soup x t → ((p : ℕ) (b : Ballot) (v : V) → DidVote (onto t.facts (h x)) p b v → G p v)
+pub turn_step : {V : Type 0} (u : ℕ) (h : ℕ → List (LogFact V)) (soup ys : List (LogPacket V)) (L : List V) (G : ℕ → V
+    → Type 0) (x : ℕ) (t : Turn V) → u < 128 → LogPart u h soup L G → Complete u soup L → TurnOk u h soup x t
+    → ((p : ℕ) (b : Ballot) (v : V) → DidVote (onto t.facts (h x)) p b v → G p v)
     → ys ≡ soup ++ packets_of x t.sends → LogStep u h (wrote h x t) ys L G x
 turn_step {V} u h soup ys L G x t few k done ok new e = rw e (record {
   grew = grown h x t.facts ok.orderly;
@@ -85,11 +96,15 @@ turn_step {V} u h soup ys L G x t few k done ok new e = rw e (record {
     part : LogPart u (wrote h x t) (soup ++ packets_of x t.sends) L G
     part = kept_log u h soup (soup ++ packets_of x t.sends) L G x t k (turn_history u h soup x t k.history ok) (soup-append u soup (packets_of x t.sends)) new
 
-pub turn_state_at : {V : Type 0} (u : ℕ) (h : ℕ → List (LogFact V)) (soup ys : List (LogPacket V)) (x : ℕ) (t : Turn V) (s : LogState V) → TurnOk u h soup x t → ys ≡ soup ++ packets_of x t.sends → s ≡ t.state → StateOk u (wrote h x t) (wrote h x t x) ys x s
+pub turn_state_at : {V : Type 0} (u : ℕ) (h : ℕ → List (LogFact V)) (soup ys : List (LogPacket V)) (x : ℕ) (t : Turn V)
+    (s : LogState V) → TurnOk u h soup x t → ys ≡ soup ++ packets_of x t.sends → s ≡ t.state
+    → StateOk u (wrote h x t) (wrote h x t x) ys x s
 turn_state_at u h soup ys x t s ok e f = rw (e, f) (turn_state u h soup x t ok)
 
 -- nothing is sent
-pub write_step : {V : Type 0} (u : ℕ) (h : ℕ → List (LogFact V)) (soup ys : List (LogPacket V)) (L : List V) (G : ℕ → V → Type 0) (x : ℕ) (t : Turn V) → LogPart u h soup L G → Complete u soup L → TurnOk u h soup x t → ((p : ℕ) (b : Ballot) (v : V) → DidVote (onto t.facts (h x)) p b v → G p v)
+pub write_step : {V : Type 0} (u : ℕ) (h : ℕ → List (LogFact V)) (soup ys : List (LogPacket V)) (L : List V) (G : ℕ → V
+    → Type 0) (x : ℕ) (t : Turn V) → LogPart u h soup L G → Complete u soup L → TurnOk u h soup x t
+    → ((p : ℕ) (b : Ballot) (v : V) → DidVote (onto t.facts (h x)) p b v → G p v)
     → ys ≡ soup → LogStep u h (wrote h x t) ys L G x
 write_step u h soup ys L G x t k done ok new e = rw e (record {
   grew = grown h x t.facts ok.orderly;
@@ -99,17 +114,21 @@ write_step u h soup ys L G x t k done ok new e = rw e (record {
 })
 
 -- nothing is written
-pub quiet_step : {V : Type 0} (u : ℕ) (h : ℕ → List (LogFact V)) (soup ys : List (LogPacket V)) (L : List V) (G : ℕ → V → Type 0) (x : ℕ) → LogPart u h soup L G → Complete u soup L → ys ≡ soup → LogStep u h h ys L G x
+pub quiet_step : {V : Type 0} (u : ℕ) (h : ℕ → List (LogFact V)) (soup ys : List (LogPacket V)) (L : List V) (G : ℕ → V
+    → Type 0) (x : ℕ) → LogPart u h soup L G → Complete u soup L → ys ≡ soup → LogStep u h h ys L G x
 quiet_step u h soup ys L G x k done e = rw e (record { grew = all_same h; same = λ y f. refl; log = k; near = nearly u soup L done })
 
-pub learned_more : {V : Type 0} (u : ℕ) (h : ℕ → List (LogFact V)) (soup : List (LogPacket V)) (L : List V) (x : ℕ) → x < 2 * u + 1 → History u h soup → Complete u soup L → MoreLog (learned_in (h x)) L
+pub learned_more : {V : Type 0} (u : ℕ) (h : ℕ → List (LogFact V)) (soup : List (LogPacket V)) (L : List V) (x : ℕ)
+    → x < 2 * u + 1 → History u h soup → Complete u soup L → MoreLog (learned_in (h x)) L
 learned_more u h soup L x l k d = record { at = λ p v e. d.at p v (k.learned x l p v e) }
 
 -- what a turn's facts and its state have learned was chosen
-pub turn_more : {V : Type 0} (u : ℕ) (h : ℕ → List (LogFact V)) (soup : List (LogPacket V)) (L : List V) (x : ℕ) (t : Turn V) → TurnOk u h soup x t → Complete u soup L → MoreLog (learned_in (onto t.facts (h x))) L
+pub turn_more : {V : Type 0} (u : ℕ) (h : ℕ → List (LogFact V)) (soup : List (LogPacket V)) (L : List V) (x : ℕ)
+    (t : Turn V) → TurnOk u h soup x t → Complete u soup L → MoreLog (learned_in (onto t.facts (h x))) L
 turn_more u h soup L x t ok d = record { at = λ p v e. d.at p v ((turn_rest u h soup x t ok).learned p v e) }
 
-pub state_more : {V : Type 0} (u : ℕ) (h : ℕ → List (LogFact V)) (soup : List (LogPacket V)) (L : List V) (x : ℕ) (t : Turn V) → TurnOk u h soup x t → Complete u soup L → MoreLog t.state.learned L
+pub state_more : {V : Type 0} (u : ℕ) (h : ℕ → List (LogFact V)) (soup : List (LogPacket V)) (L : List V) (x : ℕ)
+    (t : Turn V) → TurnOk u h soup x t → Complete u soup L → MoreLog t.state.learned L
 state_more u h soup L x t ok d = subst (λ z. MoreLog z L) (sym (turn_rest u h soup x t ok).state.learned) (turn_more u h soup L x t ok d)
 
 -- THE LOG GROWS
@@ -121,13 +140,15 @@ grow_none {V} u soup L k none = record { at = λ p v m. go p v m (k.at p v m) }
     go p v m (inl e) = e
     go p v m (inr e) =
         let f : m.packet.msg ≡ Accepted m.ballot (length L) v = subst (λ z. m.packet.msg ≡ Accepted m.ballot z v) e m.is_accepted in
-        let s : IsSomething (chosen_among u soup (length L) soup) = meets_now u soup (length L) soup m.place m.packet m.ballot v m.is_sent f (subst (λ z. is_reached u soup z m.ballot ≡ true) e m.is_reached_by) in
+        let s : IsSomething (chosen_among u soup (length L) soup) = meets_now u soup (length L) soup m.place m.packet
+        m.ballot v m.is_sent f (subst (λ z. is_reached u soup z m.ballot ≡ true) e m.is_reached_by) in
         absurd (let h = s.1 in cc)
 
 pub chosen_now : {V : Type 0} (u : ℕ) (soup : List (LogPacket V)) (p : ℕ) (v : V) → chosen_among u soup p soup ≡ Some v → Meets u soup p v
 chosen_now u soup p v e = now_meets u soup p soup v (λ j k f. (j, f)) e
 
-pub grow_some : {V : Type 0} (u : ℕ) (H : ℕ → List (LogFact V)) (soup : List (LogPacket V)) (L : List V) (G : ℕ → V → Type 0) (v : V) → u < 128 → LogPart u H soup L G → Nearly u soup L → Meets u soup (length L) v → Complete u soup (L ++ v ∷ [])
+pub grow_some : {V : Type 0} (u : ℕ) (H : ℕ → List (LogFact V)) (soup : List (LogPacket V)) (L : List V) (G : ℕ → V
+    → Type 0) (v : V) → u < 128 → LogPart u H soup L G → Nearly u soup L → Meets u soup (length L) v → Complete u soup (L ++ v ∷ [])
 grow_some {V} u H soup L G v few k n m = record { at = λ p w a. go p w a (n.at p w a) }
   where
     go : (p : ℕ) (w : V) → Meets u soup p w → (slice_get L p ≡ Some w) ⊎ (p ≡ length L) → slice_get (L ++ v ∷ []) p ≡ Some w
@@ -136,7 +157,8 @@ grow_some {V} u H soup L G v few k n m = record { at = λ p w a. go p w a (n.at 
         let same : v ≡ w = agree u H soup few k.history (length L) v w m (subst (λ z. Meets u soup z w) e a) in
         ap (slice_get (L ++ v ∷ [])) e ∙ get_end L v ∙ ap Some same
 
-pub part_some : {V : Type 0} (u : ℕ) (H : ℕ → List (LogFact V)) (soup : List (LogPacket V)) (L : List V) (G : ℕ → V → Type 0) (v : V) → LogPart u H soup L G → Meets u soup (length L) v → LogPart u H soup (L ++ v ∷ []) G
+pub part_some : {V : Type 0} (u : ℕ) (H : ℕ → List (LogFact V)) (soup : List (LogPacket V)) (L : List V) (G : ℕ → V
+    → Type 0) (v : V) → LogPart u H soup L G → Meets u soup (length L) v → LogPart u H soup (L ++ v ∷ []) G
 part_some {V} u H soup L G v k m = record { history = k.history; good = k.good; sound = λ p w e. go p w (get_push L v p w e) }
   where
     go : (p : ℕ) (w : V) → (slice_get L p ≡ Some w) ⊎ ((p ≡ length L) × (v ≡ w)) → Meets u soup p w
@@ -144,5 +166,6 @@ part_some {V} u H soup L G v k m = record { history = k.history; good = k.good; 
     go p w (inr e) = subst (λ z. Meets u soup z w) (sym e.0) (subst (Meets u soup (length L)) e.1 m)
 
 -- a value that is chosen was voted for, so it is good
-pub meets_good : {V : Type 0} (u : ℕ) (H : ℕ → List (LogFact V)) (soup : List (LogPacket V)) (L : List V) (G : ℕ → V → Type 0) (p : ℕ) (v : V) → LogPart u H soup L G → Meets u soup p v → G p v
+pub meets_good : {V : Type 0} (u : ℕ) (H : ℕ → List (LogFact V)) (soup : List (LogPacket V)) (L : List V) (G : ℕ → V
+    → Type 0) (p : ℕ) (v : V) → LogPart u H soup L G → Meets u soup p v → G p v
 meets_good u H soup L G p v k m = let a = meets_voted u H soup k.history p v m in k.good a.0 a.1 p m.ballot v a.2

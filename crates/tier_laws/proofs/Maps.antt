@@ -57,7 +57,8 @@ called O c s body num store t stage text = record O {
 -- a segment of the request c.s ran whole and at once
 abbrev pub ran : {B : Type 0} → Server B → ℕ → ℕ → List ℕ → ℕ → Store → Ending → Result (Server B)
 ran O c s body num store (Reply text) = if num == 0 then Done (replied O c s store text) else Refused 7
-ran O c s body num store (Call t stage text) = if num == 0 then Refused 7 else if is_some (O.calls t num) then Refused 8 else Done (called O c s body num store t stage text)
+ran O c s body num store (Call t stage text) = if num == 0 then Refused 7 else if is_some (O.calls t num) then Refused
+    8 else Done (called O c s body num store t stage text)
 
 abbrev pub first_seg : ℕ → ℕ → List ℕ → Seg
 first_seg c s body = record { who = record { client = c; seq = s }; body = body; stage = 0; answer = None }
@@ -100,7 +101,15 @@ abbrev pub step : {B : Type 0} → Service B → Server B → HistoryStep → Re
 step m O k = step_as m O k.0 k.1
 
 abbrev pub empty_server : {B : Type 0} → Service B → Server B
-empty_server m = record { store = empty; last = λ c. 0; progress = λ c. None; calls = λ t n. None; served = λ t n. None; backs = (meaning m).opening; replies = λ c s. None }
+empty_server m = record {
+  store = empty;
+  last = λ c. 0;
+  progress = λ c. None;
+  calls = λ t n. None;
+  served = λ t n. None;
+  backs = (meaning m).opening;
+  replies = λ c s. None;
+}
 
 -- a refused step changes nothing
 abbrev pub result_or : {A : Type 0} → A → Result A → A

@@ -28,7 +28,8 @@ use Rattle.tier_model.specs.Mid.{Mid, Ready, apply, ready}
 use Rattle.tier_model.specs.MidRows.{bare, catch_up, recovered}
 use Rattle.tier_model.specs.Moves.{Move, Packet, log_facts}
 
-pub mid_step : {B : Type 0} (c : Config B) (P : Past B) (h : ℕ → List (LogFact AnyValue)) (soup : List Packet) (x : ℕ) (rs : List Vote) (v : Move Mid) → MoveOk c P h soup x rs v → StepOk c P MidTier h soup x rs v
+pub mid_step : {B : Type 0} (c : Config B) (P : Past B) (h : ℕ → List (LogFact AnyValue)) (soup : List Packet) (x : ℕ)
+    (rs : List Vote) (v : Move Mid) → MoveOk c P h soup x rs v → StepOk c P MidTier h soup x rs v
 mid_step c P h soup x rs v k = record {
   turn = k.turn;
   turn_ok = k.turn_ok;
@@ -43,7 +44,8 @@ mid_step c P h soup x rs v k = record {
 }
 
 -- what is known where x is up
-pub here : {B : Type 0} (c : Config B) (w : World B) (x : ℕ) (σ : Mid) → c.u < 128 → x < 2 * c.u + 1 → (i : Inv c w) → UpOk c (past c w i.codes) MidTier (i.h MidTier) (log_soup MidTier w.soup) x (w.nodes MidTier x).records σ
+pub here : {B : Type 0} (c : Config B) (w : World B) (x : ℕ) (σ : Mid) → c.u < 128 → x < 2 * c.u + 1 → (i : Inv c w)
+    → UpOk c (past c w i.codes) MidTier (i.h MidTier) (log_soup MidTier w.soup) x (w.nodes MidTier x).records σ
     → Here c (past c w i.codes) (i.h MidTier) w.soup x σ
 here c w x σ few lx i up = record {
   few = few;
@@ -69,16 +71,19 @@ record Caught {B : Type 0} (c : Config B) (P : Past B) (x : ℕ) (s : LogState A
   other : MidOther c P x σ
   same : σ.log ≡ s
 
-catch_up_ok : {B : Type 0} (c : Config B) (P : Past B) (x n : ℕ) (σ : Mid) → Known c P → MidOther c P x σ → MoreLog σ.log.learned P.log → Caught c P x σ.log (catch_up c.service.programs n σ)
+catch_up_ok : {B : Type 0} (c : Config B) (P : Past B) (x n : ℕ) (σ : Mid) → Known c P → MidOther c P x σ
+    → MoreLog σ.log.learned P.log → Caught c P x σ.log (catch_up c.service.programs n σ)
 catch_up_ok c P x zero σ k o pre = record { other = o; same = refl }
 catch_up_ok {B} c P x (suc n) σ k o pre = go (ready c.service.programs σ) refl (λ R e. catch_up_ok c P x n (apply σ R) k (apply_ok c P x σ R k o pre e).0 pre)
   where
-    go : (q : Option Ready) → ready c.service.programs σ ≡ q → ((R : Ready) → ready c.service.programs σ ≡ Some R → Caught c P x σ.log (catch_up c.service.programs n (apply σ R)))
+    go : (q : Option Ready) → ready c.service.programs σ ≡ q
+        → ((R : Ready) → ready c.service.programs σ ≡ Some R → Caught c P x σ.log (catch_up c.service.programs n (apply σ R)))
         → Caught c P x σ.log (elim q [ None ↦ σ | Some R ↦ catch_up c.service.programs n (apply σ R) ])
     go None e r = record { other = o; same = refl }
     go (Some R) e r = r R e
 
-recovered_ok : {B : Type 0} (c : Config B) (P : Past B) (x : ℕ) (F : List Fact) → Known c P → codes_in F ≡ P.codes MidTier x → MoreLog (learned_in (log_facts F)) P.log
+recovered_ok : {B : Type 0} (c : Config B) (P : Past B) (x : ℕ) (F : List Fact) → Known c P
+    → codes_in F ≡ P.codes MidTier x → MoreLog (learned_in (log_facts F)) P.log
     → Caught c P x (recover c.u (log_facts F)) (recovered c.u c.service.programs c.depth x F)
 recovered_ok c P x F k e pre = catch_up_ok c P x (length (recover c.u (log_facts F)).learned) (bare c.u c.depth x F) k (record {
   is_after = refl;
@@ -91,4 +96,5 @@ recovered_ok c P x F k e pre = catch_up_ok c P x (length (recover c.u (log_facts
 }) pre
 
 pub mid_restores : {B : Type 0} (c : Config B) (w : World B) (i : Inv c w) (x : ℕ) → Restores c w i MidTier x (recovered c.u c.service.programs c.depth x)
-mid_restores c w i x = λ Q gr kn F e pre. let r = recovered_ok c Q x F kn e (record { at = λ p v q. gr.log.at p v (pre.at p v q) }) in record { beside = r.other; is_log = r.same }
+mid_restores c w i x = λ Q gr kn F e pre. let r = recovered_ok c Q x F kn e
+    (record { at = λ p v q. gr.log.at p v (pre.at p v q) }) in record { beside = r.other; is_log = r.same }

@@ -1,5 +1,6 @@
 -- What a middle node does in an event is right by itself.
-use Rattle.std.proofs.Common.{◌≡◌, ℕ, ◌+◌, ◌*◌, ◌<◌, Bool, true, false, cond, List, [], ◌∷◌, ◌++◌, length, map, refl, sym, ap, ◌∙◌, subst, inl, inr, Option, Some, None}
+use Rattle.std.proofs.Common.{◌≡◌, ℕ, ◌+◌, ◌*◌, ◌<◌, Bool, true, false, cond, List, [], ◌∷◌, ◌++◌, length, map, refl}
+use Rattle.std.proofs.Common.{sym, ap, ◌∙◌, subst, inl, inr, Option, Some, None}
 use Rattle.std.specs.Prelude.{slice_get, ◌⊎◌}
 use Rattle.std.proofs.lemmas.List.{append-nil, append_assoc}
 use Rattle.aeg_base.specs.declared.names.Ballot.{Ballot}
@@ -61,7 +62,8 @@ helds-map (logs.Learned p v ∷ fs) = helds-map fs
 pub none_tells : (u x : ℕ) (next : OfTiers ℕ) (ws : List Want) (es : List Ending) → NoLog (tells u x next ws es)
 none_tells u x next [] es = none_nil
 none_tells u x next (w ∷ ws) [] = none_nil
-none_tells u x next (w ∷ ws) (Reply text ∷ es) = none_append (reply_to x w.client w.seq text ∷ []) (tells u x next ws es) (record { all = λ t. refl }) (none_tells u x next ws es)
+none_tells u x next (w ∷ ws) (Reply text ∷ es) = none_append (reply_to x w.client w.seq text ∷ [])
+    (tells u x next ws es) (record { all = λ t. refl }) (none_tells u x next ws es)
 none_tells u x next (w ∷ ws) (Call t stage text ∷ es) = none_append (calls_to u x t (of_tier next t) text) (tells u x (bump next t) ws es)
     (none_each (2 * u + 1) nobody (call_to x t (of_tier next t) text) (λ y. record { all = λ v. refl })) (none_tells u x (bump next t) ws es)
 
@@ -75,7 +77,8 @@ pub record Later {B : Type 0} (c : Config B) (Q : Past B) (x : ℕ) (v : Move Mi
   pub other : MidOther c Q x v.state
   pub sends : Every (SentOk c Q) v.sends
 
-pub record MoveOk {B : Type 0} (c : Config B) (P : Past B) (h : ℕ → List (LogFact AnyValue)) (soup : List Packet) (x : ℕ) (rs : List Vote) (v : Move Mid) : Type 0 where
+pub record MoveOk {B : Type 0} (c : Config B) (P : Past B) (h : ℕ → List (LogFact AnyValue)) (soup : List Packet)
+    (x : ℕ) (rs : List Vote) (v : Move Mid) : Type 0 where
   pub turn : Turn AnyValue
   pub turn_ok : TurnOk c.u h (log_soup MidTier soup) x turn
   pub good : (p : ℕ) (b : Ballot) (w : AnyValue) → DidVote (onto turn.facts (h x)) p b w → MidOk c P p w
@@ -85,7 +88,8 @@ pub record MoveOk {B : Type 0} (c : Config B) (P : Past B) (h : ℕ → List (Lo
   pub others : (t : Tier) → same_tier t MidTier ≡ false → log_soup t v.sends ≡ []
   pub codes : (i : ℕ) (k : Code) → slice_get (helds v.facts) i ≡ Some k → P.server.served k.tier k.num ≡ Some k.code
   pub runs : (i : ℕ) (r : Vote) → slice_get rs i ≡ Some r → RunOk c P r
-  pub later : (Q : Past B) → Grows P Q → Known c Q → Q.codes MidTier x ≡ P.codes MidTier x ++ helds v.facts → ((i : ℕ) (r : Vote) → slice_get rs i ≡ Some r → DidRun Q r) → Later c Q x v
+  pub later : (Q : Past B) → Grows P Q → Known c Q → Q.codes MidTier x ≡ P.codes MidTier x ++ helds v.facts
+      → ((i : ℕ) (r : Vote) → slice_get rs i ≡ Some r → DidRun Q r) → Later c Q x v
 
 -- what is known where x is up with the state σ
 pub record Here {B : Type 0} (c : Config B) (P : Past B) (h : ℕ → List (LogFact AnyValue)) (soup : List Packet) (x : ℕ) (σ : Mid) : Type 0 where
@@ -99,16 +103,21 @@ pub record Here {B : Type 0} (c : Config B) (P : Past B) (h : ℕ → List (LogF
   pub other : MidOther c P x σ
   pub known : Known c P
 
-pub knows : {B : Type 0} (c : Config B) (P : Past B) (h : ℕ → List (LogFact AnyValue)) (soup : List Packet) (x : ℕ) (σ : Mid) → Here c P h soup x σ → Knows c.u h (log_soup MidTier soup) x σ.log
+pub knows : {B : Type 0} (c : Config B) (P : Past B) (h : ℕ → List (LogFact AnyValue)) (soup : List Packet) (x : ℕ)
+    (σ : Mid) → Here c P h soup x σ → Knows c.u h (log_soup MidTier soup) x σ.log
 knows c P h soup x σ k = record { few = k.few; inside = k.inside; history = k.history; state = k.log }
 
-pub prefix : {B : Type 0} (c : Config B) (P : Past B) (h : ℕ → List (LogFact AnyValue)) (soup : List Packet) (x : ℕ) (σ : Mid) → Here c P h soup x σ → MoreLog σ.log.learned P.log
+pub prefix : {B : Type 0} (c : Config B) (P : Past B) (h : ℕ → List (LogFact AnyValue)) (soup : List Packet) (x : ℕ)
+    (σ : Mid) → Here c P h soup x σ → MoreLog σ.log.learned P.log
 prefix c P h soup x σ k = record { at = λ p v e. k.complete.at p v (k.history.learned x k.inside p v (rw (← k.log.learned) e)) }
 
 -- a move beside the log
-pub plain : {B : Type 0} (c : Config B) (P : Past B) (h : ℕ → List (LogFact AnyValue)) (soup : List Packet) (x : ℕ) (σ : Mid) (rs : List Vote) (v : Move Mid) → Here c P h soup x σ → v.state.log ≡ σ.log → log_facts v.facts ≡ [] → NoLog v.sends
-    → ((i : ℕ) (k : Code) → slice_get (helds v.facts) i ≡ Some k → P.server.served k.tier k.num ≡ Some k.code) → ((i : ℕ) (r : Vote) → slice_get rs i ≡ Some r → RunOk c P r)
-    → ((Q : Past B) → Grows P Q → Known c Q → Q.codes MidTier x ≡ P.codes MidTier x ++ helds v.facts → ((i : ℕ) (r : Vote) → slice_get rs i ≡ Some r → DidRun Q r) → Later c Q x v) → MoveOk c P h soup x rs v
+pub plain : {B : Type 0} (c : Config B) (P : Past B) (h : ℕ → List (LogFact AnyValue)) (soup : List Packet) (x : ℕ)
+    (σ : Mid) (rs : List Vote) (v : Move Mid) → Here c P h soup x σ → v.state.log ≡ σ.log → log_facts v.facts ≡ [] → NoLog v.sends
+    → ((i : ℕ) (k : Code) → slice_get (helds v.facts) i ≡ Some k → P.server.served k.tier k.num ≡ Some k.code)
+    → ((i : ℕ) (r : Vote) → slice_get rs i ≡ Some r → RunOk c P r)
+    → ((Q : Past B) → Grows P Q → Known c Q → Q.codes MidTier x ≡ P.codes MidTier x ++ helds v.facts
+    → ((i : ℕ) (r : Vote) → slice_get rs i ≡ Some r → DidRun Q r) → Later c Q x v) → MoveOk c P h soup x rs v
 plain c P h soup x σ rs v k l f n codes runs later = record {
   turn = idles σ.log Nothing;
   turn_ok = idle_ok c.u h (log_soup MidTier soup) x σ.log Nothing (knows c P h soup x σ k);
@@ -123,12 +132,17 @@ plain c P h soup x σ rs v k l f n codes runs later = record {
 }
 
 -- nothing is written or run
-pub quiet : {B : Type 0} {a : Answer} (c : Config B) (P : Past B) (h : ℕ → List (LogFact AnyValue)) (soup : List Packet) (x : ℕ) (σ τ : Mid) (ks : List Packet) → Here c P h soup x σ → τ.log ≡ σ.log → NoLog ks
-    → ((Q : Past B) → Grows P Q → MidOther c Q x σ → MidOther c Q x τ × Every (SentOk c Q) ks) → MoveOk c P h soup x [] (record { state = τ; facts = []; sends = ks; answer = a })
-quiet {B} {a} c P h soup x σ τ ks k l n later = plain c P h soup x σ [] (record { state = τ; facts = []; sends = ks; answer = a }) k l refl n (λ i k e. absurd (cc)) (λ i r e. absurd (cc))
+pub quiet : {B : Type 0} {a : Answer} (c : Config B) (P : Past B) (h : ℕ → List (LogFact AnyValue)) (soup : List Packet)
+    (x : ℕ) (σ τ : Mid) (ks : List Packet) → Here c P h soup x σ → τ.log ≡ σ.log → NoLog ks
+    → ((Q : Past B) → Grows P Q → MidOther c Q x σ → MidOther c Q x τ × Every (SentOk c Q) ks)
+    → MoveOk c P h soup x [] (record { state = τ; facts = []; sends = ks; answer = a })
+quiet {B} {a} c P h soup x σ τ ks k l n later = plain c P h soup x σ []
+    (record { state = τ; facts = []; sends = ks; answer = a }) k l refl n (λ i k e. absurd (cc)) (λ i r e. absurd (cc))
     (λ Q g kn e rs. let r = later Q g (other-more c P Q x σ g (e ∙ append-nil (P.codes MidTier x)) k.other) in record { other = r.0; sends = r.1 })
 
-pub stays_ok : {B : Type 0} {a : Answer} (c : Config B) (P : Past B) (h : ℕ → List (LogFact AnyValue)) (soup : List Packet) (x : ℕ) (σ : Mid) → Here c P h soup x σ → MoveOk c P h soup x [] (record { state = σ; facts = []; sends = []; answer = a })
+pub stays_ok : {B : Type 0} {a : Answer} (c : Config B) (P : Past B) (h : ℕ → List (LogFact AnyValue))
+    (soup : List Packet) (x : ℕ) (σ : Mid) → Here c P h soup x σ
+    → MoveOk c P h soup x [] (record { state = σ; facts = []; sends = []; answer = a })
 stays_ok c P h soup x σ k = quiet c P h soup x σ σ [] k refl none_nil (λ Q g o. (o, tt))
 
 -- A TURN OF THE LOG
@@ -138,12 +152,14 @@ state_log σ None = refl
 state_log σ (Some R) = refl
 
 -- the round that is ready is applied
-pub ready_later : {B : Type 0} (c : Config B) (Q : Past B) (x : ℕ) (σ : Mid) (o : Option Ready) → Known c Q → MidOther c Q x σ → MoreLog σ.log.learned Q.log → ((R : Ready) → o ≡ Some R → ready c.service.programs σ ≡ Some R)
+pub ready_later : {B : Type 0} (c : Config B) (Q : Past B) (x : ℕ) (σ : Mid) (o : Option Ready) → Known c Q
+    → MidOther c Q x σ → MoreLog σ.log.learned Q.log → ((R : Ready) → o ≡ Some R → ready c.service.programs σ ≡ Some R)
     → MidOther c Q x (apply_state σ o) × Every (SentOk c Q) (apply_sends c.u x σ o)
 ready_later c Q x σ None k o pre f = (o, tt)
 ready_later c Q x σ (Some R) k o pre f = apply_ok c Q x σ R k o pre (f R refl)
 
-due_ready : {B : Type 0} (m : Service B) (σ : Mid) (s : LogState AnyValue) (R : Ready) → due_round m.programs σ s ≡ Some R → ready m.programs (with_log σ s) ≡ Some R
+due_ready : {B : Type 0} (m : Service B) (σ : Mid) (s : LogState AnyValue) (R : Ready)
+    → due_round m.programs σ s ≡ Some R → ready m.programs (with_log σ s) ≡ Some R
 due_ready m σ s R e = go (is_due σ s) e
   where
     go : (b : Bool) → cond b (ready m.programs (with_log σ s)) None ≡ Some R → ready m.programs (with_log σ s) ≡ Some R
@@ -151,23 +167,47 @@ due_ready m σ s R e = go (is_due σ s) e
     go false f = absurd (cc)
 
 log_other : {B : Type 0} (c : Config B) (Q : Past B) (x : ℕ) (σ : Mid) (s : LogState AnyValue) → MidOther c Q x σ → MidOther c Q x (with_log σ s)
-log_other c Q x σ s o = record { is_after = o.is_after; tables = o.tables; pending = o.pending; tally = o.tally; in_order = o.in_order; spec = o.spec; held = o.held }
+log_other c Q x σ s o = record {
+  is_after = o.is_after;
+  tables = o.tables;
+  pending = o.pending;
+  tally = o.tally;
+  in_order = o.in_order;
+  spec = o.spec;
+  held = o.held;
+}
 
-pub log_move : {B : Type 0} (c : Config B) (P : Past B) (h : ℕ → List (LogFact AnyValue)) (soup : List Packet) (x : ℕ) (σ : Mid) (t : Turn AnyValue) (own : Option AnyValue) → Here c P h soup x σ → TurnOk c.u h (log_soup MidTier soup) x t → Origins c.u h x own t
+pub log_move : {B : Type 0} (c : Config B) (P : Past B) (h : ℕ → List (LogFact AnyValue)) (soup : List Packet) (x : ℕ)
+    (σ : Mid) (t : Turn AnyValue) (own : Option AnyValue) → Here c P h soup x σ
+    → TurnOk c.u h (log_soup MidTier soup) x t → Origins c.u h x own t
     → ((v : AnyValue) → own ≡ Some v → MidOk c P (length t.state.learned) v) → MoveOk c P h soup x [] (in_log c.u c.service.programs x σ t)
 log_move {B} c P h soup x σ t own k ok from fine = record {
   turn = t;
   turn_ok = ok;
   good = λ p b w d. good p w (from.from p b w d);
   is_facts = log_facts-map t.facts;
-  is_sends = log_soup-append MidTier (log_packets MidTier x t.sends) (apply_sends c.u x (with_log σ t.state) (due_round c.service.programs σ t.state)) ∙ ap (λ z. log_soup MidTier (log_packets MidTier x t.sends) ++ z) (no_log _ (none_apply c.u x (with_log σ t.state) (due_round c.service.programs σ t.state)) MidTier) ∙ append-nil (log_soup MidTier (log_packets MidTier x t.sends)) ∙ log_soup-own MidTier x t.sends;
+  is_sends = log_soup-append MidTier (log_packets MidTier x t.sends)
+      (apply_sends c.u x (with_log σ t.state) (due_round c.service.programs σ t.state))
+      ∙ ap (λ z. log_soup MidTier (log_packets MidTier x t.sends) ++ z)
+      (no_log _ (none_apply c.u x (with_log σ t.state) (due_round c.service.programs σ t.state)) MidTier)
+      ∙ append-nil (log_soup MidTier (log_packets MidTier x t.sends)) ∙ log_soup-own MidTier x t.sends;
   is_log = state_log (with_log σ t.state) (due_round c.service.programs σ t.state);
-  others = λ v e. log_soup-append v (log_packets MidTier x t.sends) (apply_sends c.u x (with_log σ t.state) (due_round c.service.programs σ t.state)) ∙ ap (λ z. z ++ log_soup v (apply_sends c.u x (with_log σ t.state) (due_round c.service.programs σ t.state))) (log_soup-other v MidTier x t.sends (tier_sym v MidTier e)) ∙ no_log _ (none_apply c.u x (with_log σ t.state) (due_round c.service.programs σ t.state)) v;
+  others = λ v e. log_soup-append v (log_packets MidTier x t.sends)
+      (apply_sends c.u x (with_log σ t.state) (due_round c.service.programs σ t.state))
+      ∙ ap (λ z. z ++ log_soup v (apply_sends c.u x (with_log σ t.state) (due_round c.service.programs σ t.state)))
+      (log_soup-other v MidTier x t.sends (tier_sym v MidTier e))
+      ∙ no_log _ (none_apply c.u x (with_log σ t.state) (due_round c.service.programs σ t.state)) v;
   codes = λ i q e. absurd (let f : slice_get [] i ≡ Some q = subst (λ z. slice_get z i ≡ Some q) (helds-map t.facts) e in cc);
   runs = λ i r e. absurd (cc);
   later = λ Q g kn e rs.
       let o : MidOther c Q x σ = other-more c P Q x σ g (e ∙ ap (λ z. P.codes MidTier x ++ z) (helds-map t.facts) ∙ append-nil (P.codes MidTier x)) k.other in
-      let r = ready_later c Q x (with_log σ t.state) (due_round c.service.programs σ t.state) kn (log_other c Q x σ t.state o) (record { at = λ p v f. g.log.at p v ((state_more c.u h (log_soup MidTier soup) P.log x t ok k.complete).at p v f) }) (λ R f. due_ready c.service σ t.state R f) in
+      let r = ready_later c Q x (with_log σ t.state) (due_round c.service.programs σ t.state) kn
+      (log_other c Q x σ t.state o)
+      (record {
+        at = λ p v f. g.log.at p v
+            ((state_more c.u h (log_soup MidTier soup) P.log x t ok k.complete).at p v f);
+      })
+      (λ R f. due_ready c.service σ t.state R f) in
       record { other = r.0; sends = every-append (SentOk c Q) (log_packets MidTier x t.sends) _ (every-log c Q MidTier x t.sends) r.1 };
 }
   where

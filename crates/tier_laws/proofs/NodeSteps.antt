@@ -16,7 +16,8 @@ use Rattle.tier_model.specs.Moves.{Move, Packet, log_facts}
 
 -- ONE MORE RECORD
 
-pub newest_log : (R : List (List Fact)) (fs : List Fact) (new old : List (LogFact AnyValue)) → log_facts fs ≡ new → log_facts (newest R) ≡ old → log_facts (newest (recorded R fs)) ≡ onto new old
+pub newest_log : (R : List (List Fact)) (fs : List Fact) (new old : List (LogFact AnyValue)) → log_facts fs ≡ new
+    → log_facts (newest R) ≡ old → log_facts (newest (recorded R fs)) ≡ onto new old
 newest_log R fs new old e f = ap log_facts (newest-push R fs []) ∙ log_facts-onto fs (newest R) ∙ ap (λ z. onto z (log_facts (newest R))) e ∙ ap (onto new) f
 
 pub newest_held : (R : List (List Fact)) (fs : List Fact) (old : List Code) → codes_in (newest R) ≡ old → codes_in (newest (recorded R fs)) ≡ old ++ helds fs
@@ -55,7 +56,9 @@ or_written_ok G records facts (x ∷ xs) e k (suc n) R f = absurd (cc)
 
 -- CRASH AND RESTART
 
-pub crash_ok : {S : Type 0} (M : Node S Fact → Mode S → Type 0) (node : Node S Fact) (m : Mode S) → ((σ : S) → M node (Up σ) → M (stands Down node.records) Down) → M node m → M node node.mode → M (crashed node m) (crashed node m).mode
+pub crash_ok : {S : Type 0} (M : Node S Fact → Mode S → Type 0) (node : Node S Fact) (m : Mode S)
+    → ((σ : S) → M node (Up σ) → M (stands Down node.records) Down) → M node m → M node node.mode
+    → M (crashed node m) (crashed node m).mode
 crash_ok M node (Up σ) f k l = f σ k
 crash_ok M node Down f k l = l
 crash_ok M node Gone f k l = l
@@ -65,7 +68,8 @@ pub record AtRestart {S : Type 0} (M : Node S Fact → Mode S → Type 0) (E : N
   pub first : M node Down → E (up_from recover node.records)
   pub other : M node Down → (n : ℕ) (R : List (List Fact)) → slice_get node.others n ≡ Some R → E (up_from recover R)
 
-found_ok : {S : Type 0} (M : Node S Fact → Mode S → Type 0) (E : Node S Fact → Type 0) (recover : List Fact → S) (node : Node S Fact) (n : ℕ) → AtRestart M E recover node → M node Down → E (found_at recover node n)
+found_ok : {S : Type 0} (M : Node S Fact → Mode S → Type 0) (E : Node S Fact → Type 0) (recover : List Fact
+    → S) (node : Node S Fact) (n : ℕ) → AtRestart M E recover node → M node Down → E (found_at recover node n)
 found_ok M E recover node zero k m = k.first m
 found_ok M E recover node (suc n) k m = go (slice_get node.others n) refl
   where
@@ -73,7 +77,9 @@ found_ok M E recover node (suc n) k m = go (slice_get node.others n) refl
     go None e = k.same
     go (Some R) e = k.other m n R e
 
-pub restart_ok : {S : Type 0} (M : Node S Fact → Mode S → Type 0) (E : Node S Fact → Type 0) (recover : List Fact → S) (node : Node S Fact) (found : Option ℕ) (m : Mode S) → AtRestart M E recover node → M node m → E (restarted recover node found m)
+pub restart_ok : {S : Type 0} (M : Node S Fact → Mode S → Type 0) (E : Node S Fact → Type 0) (recover : List Fact
+    → S) (node : Node S Fact) (found : Option ℕ) (m : Mode S) → AtRestart M E recover node → M node m
+    → E (restarted recover node found m)
 restart_ok M E recover node (Some n) Down k l = found_ok M E recover node n k l
 restart_ok M E recover node None Down k l = k.same
 restart_ok M E recover node (Some n) (Up σ) k l = k.same
@@ -84,7 +90,8 @@ restart_ok M E recover node None Gone k l = k.same
 -- WHAT A DISK STANDS FOR
 
 -- G holds of each list that the disk may stand for
-pub disk_of : {S : Type 0} (M : Node S Fact → Mode S → Type 0) (G : List (List Fact) → Type 0) (node : Node S Fact) (m : Mode S) (R : List (List Fact)) → ((σ : S) → M node (Up σ) → G node.records) → (M node Down → G node.records)
+pub disk_of : {S : Type 0} (M : Node S Fact → Mode S → Type 0) (G : List (List Fact) → Type 0) (node : Node S Fact)
+    (m : Mode S) (R : List (List Fact)) → ((σ : S) → M node (Up σ) → G node.records) → (M node Down → G node.records)
     → (M node Down → (n : ℕ) (Q : List (List Fact)) → slice_get node.others n ≡ Some Q → G Q) → M node m → StandsFor node m R → G R
 disk_of M G node (Up σ) R up down other k s = subst G s (up σ k)
 disk_of M G node Down R up down other k (inl s) = subst G s (down k)

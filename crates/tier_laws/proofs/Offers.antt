@@ -1,5 +1,6 @@
 -- What a middle node offers of its own, and what a retry sends.
-use Rattle.std.proofs.Common.{◌≡◌, ℕ, ◌+◌, ◌*◌, ◌-◌, ◌<◌, ◌≤◌, Bool, true, false, cond, List, [], ◌∷◌, ◌++◌, length, refl, sym, ap, ◌∙◌, subst, inl, inr, Option, Some, None, zero, suc, arith}
+use Rattle.std.proofs.Common.{◌≡◌, ℕ, ◌+◌, ◌*◌, ◌-◌, ◌<◌, ◌≤◌, Bool, true, false, cond, List, [], ◌∷◌, ◌++◌, length}
+use Rattle.std.proofs.Common.{refl, sym, ap, ◌∙◌, subst, inl, inr, Option, Some, None, zero, suc, arith}
 use Rattle.std.specs.Prelude.{slice_get, ◌⊎◌, ◌&&◌, not, nat_lt, ◌==◌, map, take, drop}
 use Rattle.std.proofs.lemmas.Bool.{cond_both, cond-true, eq-eqb, eqb-true}
 use Rattle.std.proofs.lemmas.List.{append-nil}
@@ -49,7 +50,9 @@ use Rattle.log_model.proofs.Invariant.{SendOk}
 use Rattle.tier_laws.proofs.Moves.{log_move, stays_ok}
 use Rattle.tier_model.specs.Mid.{in_log, call_to}
 use Rattle.tier_model.specs.Moves.{log_packets, idles}
-use Rattle.tier_model.specs.MidRows.{leads, offers, offers_as, own_cause, have_to, settle_at, open_calls, put_parked, by_number, again, calls_again, haves, haves_again, own_batch, own_value, retry, settle_to}
+use Rattle.tier_model.specs.MidRows.{leads, offers, offers_as, own_cause, have_to, settle_at, open_calls, put_parked}
+use Rattle.tier_model.specs.MidRows.{by_number, again, calls_again, haves, haves_again, own_batch, own_value, retry}
+use Rattle.tier_model.specs.MidRows.{settle_to}
 use Rattle.tier_model.specs.Moves.{Packet, asks}
 
 -- OWN VALUES
@@ -63,33 +66,53 @@ fresh_get m T (Some d) i e f = go (is_fresh m.programs T d) i f
     go true (suc i) g = absurd (cc)
     go false i g = absurd (cc)
 
-pending_get : {B : Type 0} (m : Service B) (T : Tables) (pending : List (Option Entry)) (n i : ℕ) (e : Entry) → slice_get (fresh_pending m.programs T pending n) i ≡ Some e → (y : ℕ) × (pending_of pending y ≡ Some e)
+pending_get : {B : Type 0} (m : Service B) (T : Tables) (pending : List (Option Entry)) (n i : ℕ) (e : Entry)
+    → slice_get (fresh_pending m.programs T pending n) i ≡ Some e → (y : ℕ) × (pending_of pending y ≡ Some e)
 pending_get m T pending zero i e f = absurd (cc)
-pending_get {B} m T pending (suc n) i e f = go (get_cases (fresh_pending m.programs T pending n) (if_fresh m.programs T (pending_of pending (suc n))) i e f) (λ i f. pending_get m T pending n i e f)
+pending_get {B} m T pending (suc n) i e f = go
+    (get_cases (fresh_pending m.programs T pending n) (if_fresh m.programs T (pending_of pending (suc n))) i e f)
+    (λ i f. pending_get m T pending n i e f)
   where
-    go : (slice_get (fresh_pending m.programs T pending n) i ≡ Some e) ⊎ ((j : ℕ) × (slice_get (if_fresh m.programs T (pending_of pending (suc n))) j ≡ Some e)) → ((i : ℕ) → slice_get (fresh_pending m.programs T pending n) i ≡ Some e → (y : ℕ) × (pending_of pending y ≡ Some e)) → (y : ℕ) × (pending_of pending y ≡ Some e)
+    go : (slice_get (fresh_pending m.programs T pending n) i ≡ Some e)
+        ⊎ ((j : ℕ) × (slice_get (if_fresh m.programs T (pending_of pending (suc n))) j ≡ Some e))
+        → ((i : ℕ) → slice_get (fresh_pending m.programs T pending n) i ≡ Some e → (y : ℕ)
+        × (pending_of pending y ≡ Some e)) → (y : ℕ) × (pending_of pending y ≡ Some e)
     go (inl g) r = r i g
     go (inr g) r = (suc n, fresh_get m T (pending_of pending (suc n)) g.0 e g.1)
 
-batch_ok : {B : Type 0} (c : Config B) (P : Past B) (h : ℕ → List (LogFact AnyValue)) (soup : List Packet) (x : ℕ) (σ : Mid) (v : AnyValue) → Here c P h soup x σ → odd (open_at σ.log) ≡ false → own_batch c.service.programs σ (half (open_at σ.log)) ≡ Some v → MidOk c P (open_at σ.log) v
-batch_ok {B} c P h soup x σ v k o e = go (nat_lt σ.applied (half (open_at σ.log))) (is_nil (fresh_pending c.service.programs σ.tables σ.pending 16) && is_nil (concat σ.tables.queue)) e
+batch_ok : {B : Type 0} (c : Config B) (P : Past B) (h : ℕ → List (LogFact AnyValue)) (soup : List Packet) (x : ℕ)
+    (σ : Mid) (v : AnyValue) → Here c P h soup x σ → odd (open_at σ.log) ≡ false
+    → own_batch c.service.programs σ (half (open_at σ.log)) ≡ Some v → MidOk c P (open_at σ.log) v
+batch_ok {B} c P h soup x σ v k o e = go (nat_lt σ.applied (half (open_at σ.log)))
+    (is_nil (fresh_pending c.service.programs σ.tables σ.pending 16) && is_nil (concat σ.tables.queue)) e
   where
     entries : BatchOk P (take 8 (fresh_pending c.service.programs σ.tables σ.pending 16))
-    entries i d f = let q = pending_get c.service σ.tables σ.pending 16 i d (take_get 8 (fresh_pending c.service.programs σ.tables σ.pending 16) i d f) in k.other.pending q.0 d q.1
+    entries i d f = let q = pending_get c.service σ.tables σ.pending 16 i d
+        (take_get 8 (fresh_pending c.service.programs σ.tables σ.pending 16) i d f) in k.other.pending q.0 d q.1
 
-    go : (a b : Bool) → cond a None (cond b None (Some (OfMid (Batch (take 8 (fresh_pending c.service.programs σ.tables σ.pending 16)))))) ≡ Some v → MidOk c P (open_at σ.log) v
+    go : (a b : Bool) → cond a None
+        (cond b None (Some (OfMid (Batch (take 8 (fresh_pending c.service.programs σ.tables σ.pending 16)))))) ≡ Some v
+        → MidOk c P (open_at σ.log) v
     go true b f = absurd (cc)
     go false true f = absurd (cc)
-    go false false f = let s : OfMid (Batch (take 8 (fresh_pending c.service.programs σ.tables σ.pending 16))) ≡ v = cc in subst (MidOk c P (open_at σ.log)) s (o, entries)
+    go false false f = let s : OfMid (Batch (take 8 (fresh_pending c.service.programs σ.tables σ.pending 16)))
+        ≡ v = cc in subst (MidOk c P (open_at σ.log)) s (o, entries)
 
-pub own_ok : {B : Type 0} (c : Config B) (P : Past B) (h : ℕ → List (LogFact AnyValue)) (soup : List Packet) (x : ℕ) (σ : Mid) (v : AnyValue) → Here c P h soup x σ → own_value c.u c.service.programs σ ≡ Some v → MidOk c P (open_at σ.log) v
+pub own_ok : {B : Type 0} (c : Config B) (P : Past B) (h : ℕ → List (LogFact AnyValue)) (soup : List Packet) (x : ℕ)
+    (σ : Mid) (v : AnyValue) → Here c P h soup x σ → own_value c.u c.service.programs σ ≡ Some v → MidOk c P (open_at σ.log) v
 own_ok {B} c P h soup x σ v k e = go (odd (open_at σ.log)) refl e
   where
-    go : (b : Bool) → odd (open_at σ.log) ≡ b → cond b (and_then (verdict c.u (claims_in σ.tally (half (open_at σ.log)))) (λ v. Some (OfMid (Decided v)))) (own_batch c.service.programs σ (half (open_at σ.log))) ≡ Some v → MidOk c P (open_at σ.log) v
+    go : (b : Bool) → odd (open_at σ.log) ≡ b
+        → cond b (and_then (verdict c.u (claims_in σ.tally (half (open_at σ.log)))) (λ v. Some (OfMid (Decided v))))
+        (own_batch c.service.programs σ (half (open_at σ.log))) ≡ Some v → MidOk c P (open_at σ.log) v
     go true o f =
         let p = then_parts (verdict c.u (claims_in σ.tally (half (open_at σ.log)))) (λ v. Some (OfMid (Decided v))) v f in
         let s : OfMid (Decided p.0) ≡ v = let g = p.2 in cc in
-        subst (MidOk c P (open_at σ.log)) s (o, verdict_ok c P (claims_in σ.tally (half (open_at σ.log))) (half (open_at σ.log)) p.0 k.known (record { at = k.other.tally (half (open_at σ.log)) }) p.1)
+        subst (MidOk c P (open_at σ.log)) s (
+          o,
+          verdict_ok c P (claims_in σ.tally (half (open_at σ.log))) (half (open_at σ.log)) p.0 k.known
+              (record { at = k.other.tally (half (open_at σ.log)) }) p.1,
+        )
     go false o f = batch_ok c P h soup x σ v k o f
 
 -- the offer leaves what is learned
@@ -104,11 +127,14 @@ IsCall Q p = Q.server.calls p.tier p.num ≡ Some p.text
 
 open_every : (G : Parked → Type 0) (held : HeldState) (t : Tier) (ps : List Parked) → Every G ps → Every G (open_calls held t ps)
 open_every G held t [] e = tt
-open_every G held t (p ∷ ps) e = cond_both (same_tier p.tier t && not (is_some (held_code held p.tier p.num))) (p ∷ open_calls held t ps) (open_calls held t ps) (Every G) (λ f. (e.0, open_every G held t ps e.1)) (λ f. open_every G held t ps e.1)
+open_every G held t (p ∷ ps) e = cond_both (same_tier p.tier t && not (is_some (held_code held p.tier p.num)))
+    (p ∷ open_calls held t ps) (open_calls held t ps) (Every G) (λ f. (e.0, open_every G held t ps e.1))
+    (λ f. open_every G held t ps e.1)
 
 put_every : (G : Parked → Type 0) (p : Parked) (ps : List Parked) → G p → Every G ps → Every G (put_parked p ps)
 put_every G p [] g e = (g, tt)
-put_every G p (q ∷ qs) g e = cond_both (nat_lt q.num p.num) (q ∷ put_parked p qs) (p ∷ q ∷ qs) (Every G) (λ f. (e.0, put_every G p qs g e.1)) (λ f. (g, (e.0, e.1)))
+put_every G p (q ∷ qs) g e = cond_both (nat_lt q.num p.num) (q ∷ put_parked p qs) (p ∷ q ∷ qs) (Every G)
+    (λ f. (e.0, put_every G p qs g e.1)) (λ f. (g, (e.0, e.1)))
 
 number_every : (G : Parked → Type 0) (ps : List Parked) → Every G ps → Every G (by_number ps)
 number_every G [] e = tt
@@ -121,7 +147,8 @@ calls_ok c Q x (p ∷ ps) k = every-append (SentOk c Q) (calls_to c.u x p.tier p
 
 calls_none : (u x : ℕ) (ps : List Parked) → NoLog (calls_again u x ps)
 calls_none u x [] = none_nil
-calls_none u x (p ∷ ps) = none_append (calls_to u x p.tier p.num p.text) (calls_again u x ps) (none_each (2 * u + 1) nobody (call_to x p.tier p.num p.text) (λ y. record { all = λ v. refl })) (calls_none u x ps)
+calls_none u x (p ∷ ps) = none_append (calls_to u x p.tier p.num p.text) (calls_again u x ps)
+    (none_each (2 * u + 1) nobody (call_to x p.tier p.num p.text) (λ y. record { all = λ v. refl })) (calls_none u x ps)
 
 pub drop_every : {A : Type 0} (G : A → Type 0) (n : ℕ) (xs : List A) → Every G xs → Every G (drop n xs)
 drop_every G zero xs e = e
@@ -140,13 +167,16 @@ every_from G (x ∷ xs) k = (k 0 x refl, every_from G xs (λ i a e. k (suc i) a 
 abbrev HaveOk : {B : Type 0} → Past B → ℕ → Tier → ℕ × ℕ → Type 0
 HaveOk Q x t e = (Q.server.served t e.0 ≡ Some e.1) × (holds Q t e.0 x ≡ true)
 
-haves_ok : {B : Type 0} (c : Config B) (Q : Past B) (x : ℕ) (t : Tier) (es : List (ℕ × ℕ)) → Every (HaveOk Q x t) es → Every (SentOk c Q) (haves_again c.u x t es)
+haves_ok : {B : Type 0} (c : Config B) (Q : Past B) (x : ℕ) (t : Tier) (es : List (ℕ × ℕ)) → Every (HaveOk Q x t) es
+    → Every (SentOk c Q) (haves_again c.u x t es)
 haves_ok c Q x t [] k = tt
-haves_ok c Q x t (e ∷ es) k = every-append (SentOk c Q) (haves c.u x t e.0 e.1) (haves_again c.u x t es) (every-each (SentOk c Q) (2 * c.u + 1) (is x) (have_to x t e.0 e.1) (λ y. k.0)) (haves_ok c Q x t es k.1)
+haves_ok c Q x t (e ∷ es) k = every-append (SentOk c Q) (haves c.u x t e.0 e.1) (haves_again c.u x t es)
+    (every-each (SentOk c Q) (2 * c.u + 1) (is x) (have_to x t e.0 e.1) (λ y. k.0)) (haves_ok c Q x t es k.1)
 
 haves_none : (u x : ℕ) (t : Tier) (es : List (ℕ × ℕ)) → NoLog (haves_again u x t es)
 haves_none u x t [] = none_nil
-haves_none u x t (e ∷ es) = none_append (haves u x t e.0 e.1) (haves_again u x t es) (none_each (2 * u + 1) (is x) (have_to x t e.0 e.1) (λ y. record { all = λ v. refl })) (haves_none u x t es)
+haves_none u x t (e ∷ es) = none_append (haves u x t e.0 e.1) (haves_again u x t es)
+    (none_each (2 * u + 1) (is x) (have_to x t e.0 e.1) (λ y. record { all = λ v. refl })) (haves_none u x t es)
 
 -- the floor of what is held
 pub floor_ok : {B : Type 0} (c : Config B) (Q : Past B) (x : ℕ) (σ : Mid) (t : Tier) → Known c Q → MidOther c Q x σ → FloorOk c Q t (floor σ.held t)
@@ -159,10 +189,12 @@ floor_ok {B} c Q x σ t k o = record {
     at n a b = some_of (usable σ.held t n) (floor_usable σ.held t n (omega arith) b)
 
 settle_ok : {B : Type 0} (c : Config B) (Q : Past B) (x : ℕ) (t : Tier) (g : ℕ) → FloorOk c Q t g → Every (SentOk c Q) (settle_to c.u x t g)
-settle_ok c Q x t g k = cond_both (nat_lt 1 g) (each (2 * c.u + 1) nobody (settle_at x t g)) [] (Every (SentOk c Q)) (λ e. every-each (SentOk c Q) (2 * c.u + 1) nobody (settle_at x t g) (λ y. k)) (λ e. tt)
+settle_ok c Q x t g k = cond_both (nat_lt 1 g) (each (2 * c.u + 1) nobody (settle_at x t g)) [] (Every (SentOk c Q))
+    (λ e. every-each (SentOk c Q) (2 * c.u + 1) nobody (settle_at x t g) (λ y. k)) (λ e. tt)
 
 settle_none : (u x : ℕ) (t : Tier) (g : ℕ) → NoLog (settle_to u x t g)
-settle_none u x t g = cond_both (nat_lt 1 g) (each (2 * u + 1) nobody (settle_at x t g)) [] NoLog (λ e. none_each (2 * u + 1) nobody (settle_at x t g) (λ y. record { all = λ v. refl })) (λ e. none_nil)
+settle_none u x t g = cond_both (nat_lt 1 g) (each (2 * u + 1) nobody (settle_at x t g)) [] NoLog
+    (λ e. none_each (2 * u + 1) nobody (settle_at x t g) (λ y. record { all = λ v. refl })) (λ e. none_nil)
 
 -- each entry of a table in order is found
 find_at : {A : Type 0} (m : ℕ) (es : List (ℕ × A)) (i : ℕ) (e : ℕ × A) → rises m es ≡ true → slice_get es i ≡ Some e → find es e.0 ≡ Some e.1
@@ -182,8 +214,10 @@ pub entries : {A : Type 0} (m : ℕ) (es : List (ℕ × A)) → rises m es ≡ t
 entries m es h = every_from (λ e. find es e.0 ≡ Some e.1) es (λ i e f. find_at m es i e h f)
 
 held_have : {B : Type 0} (c : Config B) (Q : Past B) (x : ℕ) (σ : Mid) (t : Tier) → Known c Q → MidOther c Q x σ → Every (HaveOk Q x t) (highest σ.held t)
-held_have {B} c Q x σ t k o = map_every (HaveOk Q x t) with_code (last 16 (answers_of σ.held t)) (drop_every (λ e. HaveOk Q x t (with_code e)) (length (answers_of σ.held t) - 16) (answers_of σ.held t)
-    (every-weaker (λ (e : ℕ × Answer). find (answers_of σ.held t) e.0 ≡ Some e.1) (λ e. HaveOk Q x t (with_code e)) have (answers_of σ.held t) (entries 0 (answers_of σ.held t) (in_order σ.held t o.held.in_order))))
+held_have {B} c Q x σ t k o = map_every (HaveOk Q x t) with_code (last 16 (answers_of σ.held t))
+    (drop_every (λ e. HaveOk Q x t (with_code e)) (length (answers_of σ.held t) - 16) (answers_of σ.held t)
+    (every-weaker (λ (e : ℕ × Answer). find (answers_of σ.held t) e.0 ≡ Some e.1) (λ e. HaveOk Q x t (with_code e)) have
+    (answers_of σ.held t) (entries 0 (answers_of σ.held t) (in_order σ.held t o.held.in_order))))
   where
     have : (e : ℕ × Answer) → find (answers_of σ.held t) e.0 ≡ Some e.1 → HaveOk Q x t (with_code e)
     have e f =
@@ -192,48 +226,78 @@ held_have {B} c Q x σ t k o = map_every (HaveOk Q x t) with_code (last 16 (answ
 
 again_ok : {B : Type 0} (c : Config B) (Q : Past B) (x : ℕ) (σ : Mid) → Known c Q → MidOther c Q x σ → Every (SentOk c Q) (again c.u x σ)
 again_ok c Q x σ k o =
-    every-append (SentOk c Q) (calls_again c.u x (by_number (open_calls σ.held Inv (concat σ.tables.queue)))) _ (calls_ok c Q x (by_number (open_calls σ.held Inv (concat σ.tables.queue))) (number_every (IsCall Q) (open_calls σ.held Inv (concat σ.tables.queue)) (open_every (IsCall Q) σ.held Inv (concat σ.tables.queue) (every_from (IsCall Q) (concat σ.tables.queue) o.tables.parked))))
-    (every-append (SentOk c Q) (calls_again c.u x (by_number (open_calls σ.held Pay (concat σ.tables.queue)))) _ (calls_ok c Q x (by_number (open_calls σ.held Pay (concat σ.tables.queue))) (number_every (IsCall Q) (open_calls σ.held Pay (concat σ.tables.queue)) (open_every (IsCall Q) σ.held Pay (concat σ.tables.queue) (every_from (IsCall Q) (concat σ.tables.queue) o.tables.parked))))
+    every-append (SentOk c Q) (calls_again c.u x (by_number (open_calls σ.held Inv (concat σ.tables.queue)))) _
+    (calls_ok c Q x (by_number (open_calls σ.held Inv (concat σ.tables.queue)))
+    (number_every (IsCall Q) (open_calls σ.held Inv (concat σ.tables.queue))
+    (open_every (IsCall Q) σ.held Inv (concat σ.tables.queue) (every_from (IsCall Q) (concat σ.tables.queue) o.tables.parked))))
+    (every-append (SentOk c Q) (calls_again c.u x (by_number (open_calls σ.held Pay (concat σ.tables.queue)))) _
+    (calls_ok c Q x (by_number (open_calls σ.held Pay (concat σ.tables.queue)))
+    (number_every (IsCall Q) (open_calls σ.held Pay (concat σ.tables.queue))
+    (open_every (IsCall Q) σ.held Pay (concat σ.tables.queue) (every_from (IsCall Q) (concat σ.tables.queue) o.tables.parked))))
     (every-append (SentOk c Q) (haves_again c.u x Inv (highest σ.held Inv)) _ (haves_ok c Q x Inv (highest σ.held Inv) (held_have c Q x σ Inv k o))
     (every-append (SentOk c Q) (haves_again c.u x Pay (highest σ.held Pay)) _ (haves_ok c Q x Pay (highest σ.held Pay) (held_have c Q x σ Pay k o))
-    (every-append (SentOk c Q) (settle_to c.u x Inv (floor σ.held Inv)) _ (settle_ok c Q x Inv (floor σ.held Inv) (floor_ok c Q x σ Inv k o)) (settle_ok c Q x Pay (floor σ.held Pay) (floor_ok c Q x σ Pay k o))))))
+    (every-append (SentOk c Q) (settle_to c.u x Inv (floor σ.held Inv)) _
+    (settle_ok c Q x Inv (floor σ.held Inv) (floor_ok c Q x σ Inv k o))
+    (settle_ok c Q x Pay (floor σ.held Pay) (floor_ok c Q x σ Pay k o))))))
 
 again_none : (u x : ℕ) (σ : Mid) → NoLog (again u x σ)
 again_none u x σ =
-    none_append (calls_again u x (by_number (open_calls σ.held Inv (concat σ.tables.queue)))) _ (calls_none u x (by_number (open_calls σ.held Inv (concat σ.tables.queue))))
-    (none_append (calls_again u x (by_number (open_calls σ.held Pay (concat σ.tables.queue)))) _ (calls_none u x (by_number (open_calls σ.held Pay (concat σ.tables.queue))))
+    none_append (calls_again u x (by_number (open_calls σ.held Inv (concat σ.tables.queue)))) _
+    (calls_none u x (by_number (open_calls σ.held Inv (concat σ.tables.queue))))
+    (none_append (calls_again u x (by_number (open_calls σ.held Pay (concat σ.tables.queue)))) _
+    (calls_none u x (by_number (open_calls σ.held Pay (concat σ.tables.queue))))
     (none_append (haves_again u x Inv (highest σ.held Inv)) _ (haves_none u x Inv (highest σ.held Inv))
     (none_append (haves_again u x Pay (highest σ.held Pay)) _ (haves_none u x Pay (highest σ.held Pay))
     (none_append (settle_to u x Inv (floor σ.held Inv)) _ (settle_none u x Inv (floor σ.held Inv)) (settle_none u x Pay (floor σ.held Pay))))))
 
-pub retry_ok : {B : Type 0} (c : Config B) (P : Past B) (h : ℕ → List (LogFact AnyValue)) (soup : List Packet) (x : ℕ) (σ : Mid) → Here c P h soup x σ → MoveOk c P h soup x [] (retry c.u x σ)
+pub retry_ok : {B : Type 0} (c : Config B) (P : Past B) (h : ℕ → List (LogFact AnyValue)) (soup : List Packet) (x : ℕ)
+    (σ : Mid) → Here c P h soup x σ → MoveOk c P h soup x [] (retry c.u x σ)
 retry_ok {B} c P h soup x σ k = record {
   turn = log_says σ.log (asks c.u x (open_at σ.log));
-  turn_ok = still c.u h (log_soup MidTier soup) x σ.log σ.log (asks c.u x (open_at σ.log)) None (knows c P h soup x σ k) k.log (λ g same m. every-each (SendOk c.u g (log_soup MidTier soup) x) (2 * c.u + 1) (is x) (λ y. (y, Ask (open_at σ.log))) (λ y. tt));
+  turn_ok = still c.u h (log_soup MidTier soup) x σ.log σ.log (asks c.u x (open_at σ.log)) None (knows c P h soup x σ k)
+      k.log (λ g same m. every-each (SendOk c.u g (log_soup MidTier soup) x) (2 * c.u + 1) (is x)
+      (λ y. (y, Ask (open_at σ.log))) (λ y. tt));
   good = λ p b w d. k.good x k.inside p b w d;
   is_facts = refl;
-  is_sends = log_soup-append MidTier (log_packets MidTier x (asks c.u x (open_at σ.log))) (again c.u x σ) ∙ ap (λ z. log_soup MidTier (log_packets MidTier x (asks c.u x (open_at σ.log))) ++ z) (no_log _ (again_none c.u x σ) MidTier) ∙ append-nil (log_soup MidTier (log_packets MidTier x (asks c.u x (open_at σ.log)))) ∙ log_soup-own MidTier x (asks c.u x (open_at σ.log));
+  is_sends = log_soup-append MidTier (log_packets MidTier x (asks c.u x (open_at σ.log))) (again c.u x σ)
+      ∙ ap (λ z. log_soup MidTier (log_packets MidTier x (asks c.u x (open_at σ.log))) ++ z)
+      (no_log _ (again_none c.u x σ) MidTier)
+      ∙ append-nil (log_soup MidTier (log_packets MidTier x (asks c.u x (open_at σ.log))))
+      ∙ log_soup-own MidTier x (asks c.u x (open_at σ.log));
   is_log = refl;
-  others = λ v e. log_soup-append v (log_packets MidTier x (asks c.u x (open_at σ.log))) (again c.u x σ) ∙ ap (λ z. z ++ log_soup v (again c.u x σ)) (log_soup-other v MidTier x (asks c.u x (open_at σ.log)) (tier_sym v MidTier e)) ∙ no_log _ (again_none c.u x σ) v;
+  others = λ v e. log_soup-append v (log_packets MidTier x (asks c.u x (open_at σ.log))) (again c.u x σ)
+      ∙ ap (λ z. z ++ log_soup v (again c.u x σ))
+      (log_soup-other v MidTier x (asks c.u x (open_at σ.log)) (tier_sym v MidTier e)) ∙ no_log _ (again_none c.u x σ) v;
   codes = λ i q e. absurd (cc);
   runs = λ i r e. absurd (cc);
   later = λ Q g kn e rs.
       let o : MidOther c Q x σ = other-more c P Q x σ g (e ∙ append-nil (P.codes MidTier x)) k.other in
-      record { other = o; sends = every-append (SentOk c Q) (log_packets MidTier x (asks c.u x (open_at σ.log))) (again c.u x σ) (every-log c Q MidTier x (asks c.u x (open_at σ.log))) (again_ok c Q x σ kn o) };
+      record {
+        other = o;
+        sends = every-append (SentOk c Q) (log_packets MidTier x (asks c.u x (open_at σ.log)))
+            (again c.u x σ) (every-log c Q MidTier x (asks c.u x (open_at σ.log))) (again_ok c Q x σ kn o);
+      };
 }
 
 -- LEADING AND OFFERING
 
-pub leads_ok : {B : Type 0} (c : Config B) (P : Past B) (h : ℕ → List (LogFact AnyValue)) (soup : List Packet) (x : ℕ) (σ : Mid) → Here c P h soup x σ → MoveOk c P h soup x [] (leads c.u c.service.programs x σ)
-leads_ok c P h soup x σ k = log_move c P h soup x σ (lead c.u x σ.log) None k (lead_ok c.u h (log_soup MidTier soup) x σ.log (knows c P h soup x σ k)) (lead_from c.u h x σ.log k.inside) (λ v e. absurd (cc))
+pub leads_ok : {B : Type 0} (c : Config B) (P : Past B) (h : ℕ → List (LogFact AnyValue)) (soup : List Packet) (x : ℕ)
+    (σ : Mid) → Here c P h soup x σ → MoveOk c P h soup x [] (leads c.u c.service.programs x σ)
+leads_ok c P h soup x σ k = log_move c P h soup x σ (lead c.u x σ.log) None k
+    (lead_ok c.u h (log_soup MidTier soup) x σ.log (knows c P h soup x σ k)) (lead_from c.u h x σ.log k.inside) (λ v e. absurd (cc))
 
-pub offers_ok : {B : Type 0} (c : Config B) (P : Past B) (h : ℕ → List (LogFact AnyValue)) (soup : List Packet) (x : ℕ) (σ : Mid) → Here c P h soup x σ → MoveOk c P h soup x [] (offers c.u c.service.programs x σ)
+pub offers_ok : {B : Type 0} (c : Config B) (P : Past B) (h : ℕ → List (LogFact AnyValue)) (soup : List Packet) (x : ℕ)
+    (σ : Mid) → Here c P h soup x σ → MoveOk c P h soup x [] (offers c.u c.service.programs x σ)
 offers_ok {B} c P h soup x σ k = go (log_wants c.u σ.log)
   where
     offered : MoveOk c P h soup x [] (in_log c.u c.service.programs x σ (offer c.u x σ.log (own_value c.u c.service.programs σ)))
-    offered = log_move c P h soup x σ (offer c.u x σ.log (own_value c.u c.service.programs σ)) (own_value c.u c.service.programs σ) k (offer_ok c.u h (log_soup MidTier soup) x σ.log σ.log.leader (own_value c.u c.service.programs σ) (knows c P h soup x σ k) k.log.leader)
+    offered = log_move c P h soup x σ (offer c.u x σ.log (own_value c.u c.service.programs σ))
+        (own_value c.u c.service.programs σ) k
+        (offer_ok c.u h (log_soup MidTier soup) x σ.log σ.log.leader (own_value c.u c.service.programs σ)
+        (knows c P h soup x σ k) k.log.leader)
         (offer_from c.u h x σ.log σ.log.leader (own_value c.u c.service.programs σ) k.inside k.log.leader)
-        (λ v e. subst (λ z. MidOk c P (length z) v) (sym (offer_learned c.u x σ.log σ.log.leader (own_value c.u c.service.programs σ))) (own_ok c P h soup x σ v k e))
+        (λ v e. subst (λ z. MidOk c P (length z) v)
+        (sym (offer_learned c.u x σ.log σ.log.leader (own_value c.u c.service.programs σ))) (own_ok c P h soup x σ v k e))
 
     go : (o : Offering) → MoveOk c P h soup x [] (offers_as c.u c.service.programs x σ o)
     go NotLeader = stays_ok c P h soup x σ k
@@ -241,4 +305,6 @@ offers_ok {B} c P h soup x σ k = go (log_wants c.u σ.log)
     go (InFlight p) = stays_ok c P h soup x σ k
     go LogFull = stays_ok c P h soup x σ k
     go Taken = offered
-    go (Free p) = cond_both (is_some (own_value c.u c.service.programs σ)) (in_log c.u c.service.programs x σ (offer c.u x σ.log (own_value c.u c.service.programs σ))) (idles σ (own_cause c.u σ)) (MoveOk c P h soup x []) (λ e. offered) (λ e. stays_ok c P h soup x σ k)
+    go (Free p) = cond_both (is_some (own_value c.u c.service.programs σ))
+        (in_log c.u c.service.programs x σ (offer c.u x σ.log (own_value c.u c.service.programs σ)))
+        (idles σ (own_cause c.u σ)) (MoveOk c P h soup x []) (λ e. offered) (λ e. stays_ok c P h soup x σ k)

@@ -63,19 +63,41 @@ floor-more c P Q t f g k = record {
 pub job_held-more : {B : Type 0} (c : Config B) (P Q : Past B) (ws : List Want) → Grows P Q → JobHeld c P ws → JobHeld c Q ws
 job_held-more c P Q ws g k = record { at = λ i w q e f. many-more c P Q q.tier q.num g (k.at i w q e f) }
 
-pub is_round-more : {B : Type 0} (c : Config B) (P Q : Past B) (r : ℕ) (R : Round) → Grows P Q → round c.service.programs c.depth P.log P.server.served r ≡ Some R → round c.service.programs c.depth Q.log Q.server.served r ≡ Some R
+pub is_round-more : {B : Type 0} (c : Config B) (P Q : Past B) (r : ℕ) (R : Round) → Grows P Q
+    → round c.service.programs c.depth P.log P.server.served r ≡ Some R
+    → round c.service.programs c.depth Q.log Q.server.served r ≡ Some R
 is_round-more c P Q r R g e = round-more c.service c.depth P.log Q.log P.server.served Q.server.served r R g.log (answers-kept P.server Q.server g.kept) e
 
 pub run_ok-more : {B : Type 0} (c : Config B) (P Q : Past B) (v : Vote) → Grows P Q → RunOk c P v → RunOk c Q v
-run_ok-more c P Q v g k = record { inside = k.inside; made = k.made; is_round = is_round-more c P Q v.round k.made g k.is_round; held = job_held-more c P Q k.made.wants g k.held; is_ordered = k.is_ordered; is_token = k.is_token }
+run_ok-more c P Q v g k = record {
+  inside = k.inside;
+  made = k.made;
+  is_round = is_round-more c P Q v.round k.made g k.is_round;
+  held = job_held-more c P Q k.made.wants g k.held;
+  is_ordered = k.is_ordered;
+  is_token = k.is_token;
+}
 
 verdict_by-more : {B : Type 0} (c : Config B) (P Q : Past B) (r : ℕ) (R : Round) (v : Verdict) → Grows P Q → VerdictBy c P r R v → VerdictBy c Q r R v
-verdict_by-more c P Q r R (Commit o order) g k =
-    (k.0, k.1, (k.2.0, k.2.1, (k.2.2.0, k.2.2.1, λ y e. let w = k.2.2.2 y e in (w.0, run-more P Q w.0 g w.1, w.2, w.3, w.4))), (k.3.0, run-more P Q k.3.0 g k.3.1, k.3.2, k.3.3, k.3.4))
+verdict_by-more c P Q r R (Commit o order) g k = (
+  k.0,
+  k.1,
+  (
+    k.2.0,
+    k.2.1,
+    (k.2.2.0, k.2.2.1, λ y e. let w = k.2.2.2 y e in (w.0, run-more P Q w.0 g w.1, w.2, w.3, w.4)),
+  ),
+  (k.3.0, run-more P Q k.3.0 g k.3.1, k.3.2, k.3.3, k.3.4),
+)
 verdict_by-more c P Q r R Serial g k = (k.0, k.1, run-more P Q k.0 g k.2, run-more P Q k.1 g k.3, k.4, k.5, k.6, k.7)
 
 pub verdict-more : {B : Type 0} (c : Config B) (P Q : Past B) (r : ℕ) (v : Verdict) → Grows P Q → VerdictOk c P r v → VerdictOk c Q r v
-verdict-more c P Q r v g k = record { made = k.made; is_round = is_round-more c P Q r k.made g k.is_round; held = job_held-more c P Q k.made.wants g k.held; by = verdict_by-more c P Q r k.made v g k.by }
+verdict-more c P Q r v g k = record {
+  made = k.made;
+  is_round = is_round-more c P Q r k.made g k.is_round;
+  held = job_held-more c P Q k.made.wants g k.held;
+  by = verdict_by-more c P Q r k.made v g k.by;
+}
 
 pub mid_ok-more : {B : Type 0} (c : Config B) (P Q : Past B) (p : ℕ) (v : AnyValue) → Grows P Q → MidOk c P p v → MidOk c Q p v
 mid_ok-more c P Q p (OfMid (Batch es)) g k = (k.0, λ i e f. submitted-more P Q e g (k.1 i e f))
@@ -110,7 +132,8 @@ value_ok-more c P Q Pay p v g k = back_ok-more c P Q Pay p v g k
 
 -- A MIDDLE NODE'S STATE, BESIDE ITS LOG
 
-pub held-more : {B : Type 0} (c : Config B) (P Q : Past B) (x : ℕ) (H : HeldState) → Grows P Q → Q.codes MidTier x ≡ P.codes MidTier x → HeldOk c P x H → HeldOk c Q x H
+pub held-more : {B : Type 0} (c : Config B) (P Q : Past B) (x : ℕ) (H : HeldState) → Grows P Q
+    → Q.codes MidTier x ≡ P.codes MidTier x → HeldOk c P x H → HeldOk c Q x H
 held-more c P Q x H g e k = record {
   faults = k.faults;
   me = k.me;
@@ -119,9 +142,11 @@ held-more c P Q x H g e k = record {
   noted = λ y t n f. g.held y t n (k.noted y t n f);
 }
 
-pub other-more : {B : Type 0} (c : Config B) (P Q : Past B) (x : ℕ) (σ : Mid) → Grows P Q → Q.codes MidTier x ≡ P.codes MidTier x → MidOther c P x σ → MidOther c Q x σ
+pub other-more : {B : Type 0} (c : Config B) (P Q : Past B) (x : ℕ) (σ : Mid) → Grows P Q
+    → Q.codes MidTier x ≡ P.codes MidTier x → MidOther c P x σ → MidOther c Q x σ
 other-more c P Q x σ g e k = record {
-  is_after = after-more c.service c.depth P.log Q.log P.server.served Q.server.served σ.applied σ.tables g.log (answers-kept P.server Q.server g.kept) k.is_after;
+  is_after = after-more c.service c.depth P.log Q.log P.server.served Q.server.served σ.applied σ.tables g.log
+      (answers-kept P.server Q.server g.kept) k.is_after;
   tables = tables-kept P.server Q.server σ.tables g.kept k.tables;
   pending = λ y e f. submitted-more P Q e g (k.pending y e f);
   tally = λ r y q f. run-more P Q (vote_by r y q) g (k.tally r y q f);

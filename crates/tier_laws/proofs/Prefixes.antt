@@ -1,5 +1,6 @@
 -- Who held an answer, by prefixes of the events.
-use Rattle.std.proofs.Common.{◌≡◌, ℕ, ◌+◌, ◌*◌, ◌<◌, ◌≤◌, Bool, true, false, List, [], ◌∷◌, ◌++◌, length, refl, sym, ap, ◌∙◌, subst, Option, Some, None, append_assoc}
+use Rattle.std.proofs.Common.{◌≡◌, ℕ, ◌+◌, ◌*◌, ◌<◌, ◌≤◌, Bool, true, false, List, [], ◌∷◌, ◌++◌, length, refl, sym, ap}
+use Rattle.std.proofs.Common.{◌∙◌, subst, Option, Some, None, append_assoc}
 use Rattle.std.specs.Prelude.{slice_get}
 use Rattle.std.proofs.lemmas.List.{append-nil}
 use Rattle.aeg_base.specs.declared.names.Tier.{Tier}
@@ -40,11 +41,20 @@ record HeldAt {B : Type 0} (c : Config B) (es : List TraceEvent) (w : World B) :
 -- ONE EVENT
 
 later : {B : Type 0} (c : Config B) (es : List TraceEvent) (e : TraceEvent) (t : Tier) (n x : ℕ) → Holds c es t n x → Holds c (es ++ e ∷ []) t n x
-later c es e t n x k = record { before = k.before; after = k.after ++ e ∷ []; is_all = ap (λ z. z ++ e ∷ []) k.is_all ∙ append_assoc k.before k.after (e ∷ []); here = k.here; had = k.had }
+later c es e t n x k = record {
+  before = k.before;
+  after = k.after ++ e ∷ [];
+  is_all = ap (λ z. z ++ e ∷ []) k.is_all
+      ∙ append_assoc k.before k.after (e ∷ []);
+  here = k.here;
+  had = k.had;
+}
 
 -- what a node that isn't gone has at the world after the events
 HasNow : {B : Type 0} → Config B → World B → Tier → ℕ → ℕ → Type 0
-HasNow c w t n x = (is_gone (w.nodes Mid x).mode ≡ false) × ((records : List (List Fact)) → StandsFor (w.nodes Mid x) (w.nodes Mid x).mode records → (code : ℕ) × (held_code (held_in c.u x (newest records)) t n ≡ Some code))
+HasNow c w t n x = (is_gone (w.nodes Mid x).mode ≡ false)
+    × ((records : List (List Fact)) → StandsFor (w.nodes Mid x) (w.nodes Mid x).mode records → (code : ℕ)
+    × (held_code (held_in c.u x (newest records)) t n ≡ Some code))
 
 now : {B : Type 0} (c : Config B) (es : List TraceEvent) (w : World B) → w ≡ world c es → (t : Tier) (n x : ℕ) → HasNow c w t n x → Holds c es t n x
 unfolding HasNow
@@ -52,7 +62,8 @@ now {B} c es w e t n x k =
     let h : HasNow c (world c es) t n x = subst (λ (z : World B). HasNow c z t n x) e k in
     record { before = es; after = []; is_all = sym (append-nil es); here = h.0; had = h.1 }
 
-has_now : {B : Type 0} (c : Config B) (w : World B) (i : WorldOk c w) (x : ℕ) (t : Tier) (n code : ℕ) → x < 2 * c.u + 1 → code_of (i.codes Mid x) t n ≡ Some code → is_gone (w.nodes Mid x).mode ≡ false → HasNow c w t n x
+has_now : {B : Type 0} (c : Config B) (w : World B) (i : WorldOk c w) (x : ℕ) (t : Tier) (n code : ℕ) → x < 2 * c.u + 1
+    → code_of (i.codes Mid x) t n ≡ Some code → is_gone (w.nodes Mid x).mode ≡ false → HasNow c w t n x
 unfolding HasNow
 has_now c w i x t n code l e g = (g, λ R s. (code, held_for c w i x t n code (w.nodes Mid x).mode (i.core.nodes Mid x l) e R s))
 
@@ -70,8 +81,12 @@ grows_same {B} c w = grown_same c two Pay (chosen_next c two Pay) ∙ grown_same
     two : World B
     two = grows_at c Inv one
 
-held_step : {B : Type 0} (c : Config B) (es : List TraceEvent) (w : World B) (e : TraceEvent) → c.u < 128 → w ≡ world c es → HeldAt c es w → HeldAt c (es ++ e ∷ []) (grows c (happens c w e))
-held_step {B} c es w e few same k = record { inv = after; hold = λ x t n code l f. one x t n code l f (is_gone ((grows c (happens c w e)).nodes Mid x).mode) refl }
+held_step : {B : Type 0} (c : Config B) (es : List TraceEvent) (w : World B) (e : TraceEvent) → c.u < 128
+    → w ≡ world c es → HeldAt c es w → HeldAt c (es ++ e ∷ []) (grows c (happens c w e))
+held_step {B} c es w e few same k = record {
+  inv = after;
+  hold = λ x t n code l f. one x t n code l f (is_gone ((grows c (happens c w e)).nodes Mid x).mode) refl;
+}
   where
     event : Mid_event c (past c w k.inv.codes) (happens c w e)
     event = happens_ok c w e few k.inv
@@ -85,33 +100,50 @@ held_step {B} c es w e few same k = record { inv = after; hold = λ x t n code l
     reached : grows c (happens c w e) ≡ world c (es ++ e ∷ [])
     reached = ap (λ (z : World B). grows c (happens c z e)) same ∙ sym (run-append c es (e ∷ []) start)
 
-    one : (x : ℕ) (t : Tier) (n code : ℕ) → x < 2 * c.u + 1 → code_of (after.codes Mid x) t n ≡ Some code → (b : Bool) → is_gone ((grows c (happens c w e)).nodes Mid x).mode ≡ b → Holds c (es ++ e ∷ []) t n x
+    one : (x : ℕ) (t : Tier) (n code : ℕ) → x < 2 * c.u + 1 → code_of (after.codes Mid x) t n ≡ Some code → (b : Bool)
+        → is_gone ((grows c (happens c w e)).nodes Mid x).mode ≡ b → Holds c (es ++ e ∷ []) t n x
     one x t n code l f false g = now c (es ++ e ∷ []) (grows c (happens c w e)) reached t n x (has_now c (grows c (happens c w e)) after x t n code l f g)
     one x t n code l f true g =
         let gone : is_gone ((happens c w e).nodes Mid x).mode ≡ true = ap (λ ms. is_gone (ms x).mode) (sym (grows_same c (happens c w e))) ∙ g in
-        let old : code_of (k.inv.codes Mid x) t n ≡ Some code = ap (λ cs. code_of cs t n) (sym (event.gone_codes Mid x gone)) ∙ ap (λ cs. code_of (cs Mid x) t n) (sym codes_same) ∙ f in
+        let old : code_of (k.inv.codes Mid x) t n ≡ Some code = ap (λ cs. code_of cs t n)
+        (sym (event.gone_codes Mid x gone)) ∙ ap (λ cs. code_of (cs Mid x) t n) (sym codes_same) ∙ f in
         later c es e t n x (k.hold x t n code l old)
 
 -- ALL EVENTS
 
-held_from : {B : Type 0} (c : Config B) (es done : List TraceEvent) (w : World B) → c.u < 128 → w ≡ world c done → HeldAt c done w → HeldAt c (done ++ es) (run c es w)
+held_from : {B : Type 0} (c : Config B) (es done : List TraceEvent) (w : World B) → c.u < 128 → w ≡ world c done
+    → HeldAt c done w → HeldAt c (done ++ es) (run c es w)
 held_from c [] done w few same k = subst (λ z. HeldAt c z w) (sym (append-nil done)) k
 held_from {B} c (e ∷ es) done w few same k =
     subst (λ z. HeldAt c z (run c es (grows c (happens c w e)))) (append_assoc done (e ∷ []) es)
-    (held_from c es (done ++ e ∷ []) (grows c (happens c w e)) few (ap (λ (z : World B). grows c (happens c z e)) same ∙ sym (run-append c done (e ∷ []) start)) (held_step c done w e few same k))
+    (held_from c es (done ++ e ∷ []) (grows c (happens c w e)) few (ap (λ (z : World B). grows c (happens c z e)) same
+    ∙ sym (run-append c done (e ∷ []) start)) (held_step c done w e few same k))
 
 held_now : {B : Type 0} (c : Config B) (es : List TraceEvent) → c.u < 128 → Laws c.service.programs → HeldAt c es (world c es)
-held_now c es few laws = held_from c es [] start few refl (record { inv = start_ok c laws; hold = λ x t n code l e. absurd (let f : None ≡ Some code = sym (ap (λ cs. code_of cs t n) (start_codes c laws Mid x)) ∙ e in cc) })
+held_now c es few laws = held_from c es [] start few refl
+    (record {
+      inv = start_ok c laws;
+      hold = λ x t n code l e. absurd
+          (let f : None ≡ Some code = sym (ap (λ cs. code_of cs t n) (start_codes c laws Mid x)) ∙ e in cc);
+    })
 
-many_holders : {B : Type 0} (c : Config B) (es : List TraceEvent) (k : HeldAt c es (world c es)) (t : Tier) (n : ℕ) → ManyHold c (past c (world c es) k.inv.codes) t n → ManyHolders c es t n
-many_holders c es k t n many = ((λ x. is_some (code_of (k.inv.codes Mid x) t n)), many, λ x l e. let a = some_of (code_of (k.inv.codes Mid x) t n) e in k.hold x t n a.0 l a.1)
+many_holders : {B : Type 0} (c : Config B) (es : List TraceEvent) (k : HeldAt c es (world c es)) (t : Tier) (n : ℕ)
+    → ManyHold c (past c (world c es) k.inv.codes) t n → ManyHolders c es t n
+many_holders c es k t n many = (
+  (λ x. is_some (code_of (k.inv.codes Mid x) t n)),
+  many,
+  λ x l e. let a = some_of (code_of (k.inv.codes Mid x) t n) e in k.hold x t n a.0 l a.1,
+)
 
 -- WHO HOLDS WHAT IS USED, TOLD OR SETTLED
 
-pub round_holders : {B : Type 0} (c : Config B) (es : List TraceEvent) (e : TraceEvent) (r : ℕ) (v : Verdict) → c.u < 128 → Laws c.service.programs → length ((world c es).logs Mid) ≤ 2 * r + 1 → slice_get ((world c (es ++ e ∷ [])).logs Mid) (2 * r + 1) ≡ Some (OfMid (Decided v)) → HeldBefore c es r
+pub round_holders : {B : Type 0} (c : Config B) (es : List TraceEvent) (e : TraceEvent) (r : ℕ) (v : Verdict)
+    → c.u < 128 → Laws c.service.programs → length ((world c es).logs Mid) ≤ 2 * r + 1
+    → slice_get ((world c (es ++ e ∷ [])).logs Mid) (2 * r + 1) ≡ Some (OfMid (Decided v)) → HeldBefore c es r
 round_holders {B} c es e r v few laws l f = record {
   made = o.made;
-  is_round = subst (λ A. round c.service.programs c.depth ((world c es).logs Mid) A r ≡ Some o.made) (sym (served_same c (world c es) k.inv.codes k.inv.h k.inv.core)) o.is_round;
+  is_round = subst (λ A. round c.service.programs c.depth ((world c es).logs Mid) A r ≡ Some o.made)
+      (sym (served_same c (world c es) k.inv.codes k.inv.h k.inv.core)) o.is_round;
   held = λ j q n g h. many_holders c es k n.tier n.num (o.held.at j q n g h);
 }
   where
@@ -121,12 +153,15 @@ round_holders {B} c es e r v few laws l f = record {
     o : VerdictOk c (past c (world c es) k.inv.codes) r v
     o = verdict_before c es e r v few k.inv l f
 
-pub floor_holders : {B : Type 0} (c : Config B) (es : List TraceEvent) (place g n : ℕ) (p : Packet) → c.u < 128 → Laws c.service.programs → slice_get (world c es).soup place ≡ Some p → p.message ≡ msgs.Settle g → 0 < n → n < g → ManyHolders c es (tier_of p.to) n
+pub floor_holders : {B : Type 0} (c : Config B) (es : List TraceEvent) (place g n : ℕ) (p : Packet) → c.u < 128
+    → Laws c.service.programs → slice_get (world c es).soup place ≡ Some p → p.message ≡ msgs.Settle g → 0 < n → n < g
+    → ManyHolders c es (tier_of p.to) n
 floor_holders c es place g n p few laws e f a b =
     let k = held_now c es few laws in
     many_holders c es k (tier_of p.to) n ((sent c (world c es) place p (msgs.Settle g) k.inv e f).many n a b)
 
-pub settled_holders : {B : Type 0} (c : Config B) (es : List TraceEvent) (t : Tier) (p g n : ℕ) → c.u < 128 → Laws c.service.programs → slice_get ((world c es).logs t) p ≡ Some (OfBack (Settle g)) → 0 < n → n < g → ManyHolders c es t n
+pub settled_holders : {B : Type 0} (c : Config B) (es : List TraceEvent) (t : Tier) (p g n : ℕ) → c.u < 128
+    → Laws c.service.programs → slice_get ((world c es).logs t) p ≡ Some (OfBack (Settle g)) → 0 < n → n < g → ManyHolders c es t n
 settled_holders {B} c es t p g n few laws e a b =
     let k = held_now c es few laws in
     many_holders c es k t n ((settled_floor c (world c es) t p g k.inv e).many n a b)

@@ -1,5 +1,6 @@
 -- The stores and jobs of rounds are in range: at most 16 segments, each of a request.
-use Rattle.std.proofs.Common.{◌≡◌, ℕ, ◌+◌, ◌<◌, ◌≤◌, Bool, true, false, cond, List, [], ◌∷◌, length, map, refl, sym, ap, ◌∙◌, subst, inl, inr, Option, Some, None, zero, suc, arith}
+use Rattle.std.proofs.Common.{◌≡◌, ℕ, ◌+◌, ◌<◌, ◌≤◌, Bool, true, false, cond, List, [], ◌∷◌, length, map, refl, sym, ap}
+use Rattle.std.proofs.Common.{◌∙◌, subst, inl, inr, Option, Some, None, zero, suc, arith}
 use Rattle.std.specs.Prelude.{slice_get, ◌⊎◌, ◌==◌, ◌||◌}
 use Rattle.std.proofs.lemmas.Bool.{cond-false, ne_eqb}
 use Rattle.std.proofs.lemmas.Option.{cond_some}
@@ -51,7 +52,8 @@ none_has (w ∷ ws) c n = let g = ne_eqb w.client c n.0 in rw (g, none_has ws c 
 count-wants : (ws : List Want) → Distinct ws → ((i : ℕ) (w : Want) → slice_get ws i ≡ Some w → w.client < 17) → length ws ≡ count_below 17 (has_client ws)
 unfolding has_client
 count-wants [] d k = refl
-count-wants (w ∷ ws) d k = ap suc (count-wants ws d.1 (λ i v e. k (suc i) v e)) ∙ sym (count-one 17 w.client (has_client ws) (k 0 w refl) (none_has ws w.client d.0))
+count-wants (w ∷ ws) d k = ap suc (count-wants ws d.1 (λ i v e. k (suc i) v e))
+    ∙ sym (count-one 17 w.client (has_client ws) (k 0 w refl) (none_has ws w.client d.0))
 
 count_at_most : (n : ℕ) (f : ℕ → Bool) → count_below n f ≤ n
 count_at_most zero f = omega arith
@@ -79,13 +81,17 @@ few_wants ws d k = omega (arith, count-wants ws d (λ i w e. let q = (k i w e).c
 
 -- ROUNDS
 
-wants_asked : {B : Type 0} (m : Service B) (T : Tables) (es : List Entry) → TablesIn T → (i : ℕ) (w : Want) → slice_get (wants m.programs T es) i ≡ Some w → IsAsked w.client w.seq
+wants_asked : {B : Type 0} (m : Service B) (T : Tables) (es : List Entry) → TablesIn T → (i : ℕ) (w : Want)
+    → slice_get (wants m.programs T es) i ≡ Some w → IsAsked w.client w.seq
 wants_asked {B} m T es k i w e = go (get_cases (map resumed (head_of T.queue)) (map started (fresh_of m.programs T [] es)) i w e)
   where
-    go : (slice_get (map resumed (head_of T.queue)) i ≡ Some w) ⊎ ((j : ℕ) × (slice_get (map started (fresh_of m.programs T [] es)) j ≡ Some w)) → IsAsked w.client w.seq
+    go : (slice_get (map resumed (head_of T.queue)) i ≡ Some w)
+        ⊎ ((j : ℕ) × (slice_get (map started (fresh_of m.programs T [] es)) j ≡ Some w)) → IsAsked w.client w.seq
     go (inl f) =
         let a = get_map resumed (head_of T.queue) i w f in
-        subst (λ (z : Want). IsAsked z.client z.seq) a.2 (k.asked i a.0 (subst (λ z. slice_get z i ≡ Some a.0) (sym (concat-head T.queue)) (get_left (head_of T.queue) (concat (tail_of T.queue)) i a.0 a.1)))
+        subst (λ (z : Want). IsAsked z.client z.seq) a.2
+        (k.asked i a.0 (subst (λ z. slice_get z i ≡ Some a.0) (sym (concat-head T.queue))
+        (get_left (head_of T.queue) (concat (tail_of T.queue)) i a.0 a.1)))
     go (inr r) =
         let a = get_map started (fresh_of m.programs T [] es) r.0 w r.1 in
         let f : IsFresh m T a.0 = is_fresh_parts m T a.0 (fresh-at m T [] es r.0 a.0 a.1).0 in
@@ -98,35 +104,45 @@ answered_who A w (Some k) j e =
     let p = then_parts (A k.tier k.num) (λ code. Some (as_seg w (Some code))) j e in
     let f = p.2 in let s : as_seg w (Some p.0) ≡ j = cc in sym (ap (λ (z : Seg). z.who) s)
 
-round_at_in : {B : Type 0} (m : Service B) (L : List AnyValue) (A : Codes) (r : ℕ) (T : Tables) (R : Round) → TablesIn T → round_at m.programs L A r T ≡ Some R → RoundIn R
+round_at_in : {B : Type 0} (m : Service B) (L : List AnyValue) (A : Codes) (r : ℕ) (T : Tables) (R : Round) → TablesIn T
+    → round_at m.programs L A r T ≡ Some R → RoundIn R
 round_at_in m L A r T R k e =
     let p : RoundParts m L A r T R = round_parts m L A r T R e in
     record {
       store = subst (λ (z : Tables). IsStore z.store) (sym p.is_tables) k.store;
       job = record {
-        short = omega (arith, job-length A (wants m.programs T p.batch) R.job p.is_job, few_wants (wants m.programs T p.batch) (wants_distinct_of m T p.batch k.one) (wants_asked m T p.batch k));
+        short = omega (
+          arith,
+          job-length A (wants m.programs T p.batch) R.job p.is_job,
+          few_wants (wants m.programs T p.batch) (wants_distinct_of m T p.batch k.one) (wants_asked m T p.batch k),
+        );
         asked = λ i j f.
             let w = job_at A (wants m.programs T p.batch) R.job i j p.is_job f in
             subst IsRequest (sym (answered_who A w.0 w.0.call j w.2)) (wants_asked m T p.batch k i w.0 w.1);
       };
     }
 
-settled_in : {B : Type 0} (m : Service B) (T : Tables) (es : List Entry) (store : Store) (ends : List Ending) → TablesIn T → IsStore store → TablesIn (settled T (wants m.programs T es) (record { store = store; ends = ends }))
+settled_in : {B : Type 0} (m : Service B) (T : Tables) (es : List Entry) (store : Store) (ends : List Ending)
+    → TablesIn T → IsStore store → TablesIn (settled T (wants m.programs T es) (record { store = store; ends = ends }))
 settled_in {B} m T es store ends k s = record {
   store = s;
-  asked = λ i p e. asked i p (get_cases (concat (tail_of T.queue)) (parks T.next (wants m.programs T es) ends) i p (subst (λ z. slice_get z i ≡ Some p) (concat-push (tail_of T.queue) (parks T.next (wants m.programs T es) ends)) e));
+  asked = λ i p e. asked i p (get_cases (concat (tail_of T.queue)) (parks T.next (wants m.programs T es) ends) i p
+      (subst (λ z. slice_get z i ≡ Some p) (concat-push (tail_of T.queue) (parks T.next (wants m.programs T es) ends)) e));
   one = settled_one m T es ends k.one;
 }
   where
-    asked : (i : ℕ) (p : Parked) → (slice_get (concat (tail_of T.queue)) i ≡ Some p) ⊎ ((j : ℕ) × (slice_get (parks T.next (wants m.programs T es) ends) j ≡ Some p)) → IsAsked p.client p.seq
-    asked i p (inl e) = let r = get_right (head_of T.queue) (concat (tail_of T.queue)) i p e in k.asked r.0 p (subst (λ z. slice_get z r.0 ≡ Some p) (sym (concat-head T.queue)) r.1)
+    asked : (i : ℕ) (p : Parked) → (slice_get (concat (tail_of T.queue)) i ≡ Some p)
+        ⊎ ((j : ℕ) × (slice_get (parks T.next (wants m.programs T es) ends) j ≡ Some p)) → IsAsked p.client p.seq
+    asked i p (inl e) = let r = get_right (head_of T.queue) (concat (tail_of T.queue)) i p e in k.asked r.0 p
+        (subst (λ z. slice_get z r.0 ≡ Some p) (sym (concat-head T.queue)) r.1)
     asked i p (inr f) =
         let a = parks_acts T.next (wants m.programs T es) ends f.0 p f.1 in
         let q = parked_is a.1.want a.1.num a.1.ending p a.3 in
         let w = wants_asked m T es k a.0 a.1.want (acts_want T.next (wants m.programs T es) ends a.0 a.1 a.2).0 in
         subst (λ z. IsAsked p.client z) (sym q.1) (subst (λ z. IsAsked z a.1.want.seq) (sym q.0) w)
 
-pub after_in : {B : Type 0} (m : Service B) (D : ℕ) (L : List AnyValue) (A : Codes) (r : ℕ) (T : Tables) → Laws m.programs → after m.programs D L A r ≡ Some T → TablesIn T
+pub after_in : {B : Type 0} (m : Service B) (D : ℕ) (L : List AnyValue) (A : Codes) (r : ℕ) (T : Tables)
+    → Laws m.programs → after m.programs D L A r ≡ Some T → TablesIn T
 after_in m D L A zero T laws e =
     let s : tables0 D ≡ T = cc in
     subst TablesIn s (record {
@@ -136,7 +152,8 @@ after_in m D L A zero T laws e =
     })
 after_in {B} m D L A (suc r) T laws e = subst TablesIn same (next (after_in m D L A r p.0 laws p.1))
   where
-    p : (U : Tables) × (after m.programs D L A r ≡ Some U) × (and_then (round_at m.programs L A r U) (λ R. and_then (verdict_at L r) (done m.programs R)) ≡ Some T)
+    p : (U : Tables) × (after m.programs D L A r ≡ Some U)
+        × (and_then (round_at m.programs L A r U) (λ R. and_then (verdict_at L r) (done m.programs R)) ≡ Some T)
     p = then_parts (after m.programs D L A r) (λ T. and_then (round_at m.programs L A r T) (λ R. and_then (verdict_at L r) (done m.programs R))) T e
 
     q : (R : Round) × (round_at m.programs L A r p.0 ≡ Some R) × (and_then (verdict_at L r) (done m.programs R) ≡ Some T)
@@ -160,10 +177,15 @@ after_in {B} m D L A (suc r) T laws e = subst TablesIn same (next (after_in m D 
     next : TablesIn p.0 → TablesIn (settled q.0.tables q.0.wants (finish m.programs q.0.job order q.0.tables.store))
     next before =
         let made : RoundIn q.0 = round_at_in m L A r p.0 q.0 before q.1 in
-        subst (λ (z : Tables × List Want). TablesIn (settled z.0 z.1 (finish m.programs q.0.job order q.0.tables.store))) (λ i. (sym parts.is_tables i, sym parts.is_wants i))
-        (settled_in m p.0 parts.batch (finish m.programs q.0.job order q.0.tables.store).store (finish m.programs q.0.job order q.0.tables.store).ends before (laws.stores q.0.job order q.0.tables.store made.job c.0 made.store))
+        subst (λ (z : Tables × List Want). TablesIn
+        (settled z.0 z.1 (finish m.programs q.0.job order q.0.tables.store)))
+        (λ i. (sym parts.is_tables i, sym parts.is_wants i))
+        (settled_in m p.0 parts.batch (finish m.programs q.0.job order q.0.tables.store).store
+        (finish m.programs q.0.job order q.0.tables.store).ends before
+        (laws.stores q.0.job order q.0.tables.store made.job c.0 made.store))
 
-pub round_in : {B : Type 0} (m : Service B) (D : ℕ) (L : List AnyValue) (A : Codes) (r : ℕ) (R : Round) → Laws m.programs → round m.programs D L A r ≡ Some R → RoundIn R
+pub round_in : {B : Type 0} (m : Service B) (D : ℕ) (L : List AnyValue) (A : Codes) (r : ℕ) (R : Round)
+    → Laws m.programs → round m.programs D L A r ≡ Some R → RoundIn R
 round_in m D L A r R laws e =
     let p = then_parts (after m.programs D L A r) (round_at m.programs L A r) R e in
     round_at_in m L A r p.0 R (after_in m D L A r p.0 laws p.1) p.2

@@ -44,7 +44,8 @@ own_cons t from to p ys e = rw e refl
 
 pub log_soup-own : (t : Tier) (x : ℕ) (sends : List (ℕ × PaxMsg AnyValue)) → log_soup t (log_packets t x sends) ≡ packets_of x sends
 log_soup-own t x [] = refl
-log_soup-own t x (s ∷ sends) = own_cons t (node t x) (node t s.0) s.1 (log_soup t (log_packets t x sends)) (tier_same t) ∙ ap (λ z. record { from = x; to = s.0; msg = s.1 } ∷ z) (log_soup-own t x sends)
+log_soup-own t x (s ∷ sends) = own_cons t (node t x) (node t s.0) s.1 (log_soup t (log_packets t x sends)) (tier_same t)
+    ∙ ap (λ z. record { from = x; to = s.0; msg = s.1 } ∷ z) (log_soup-own t x sends)
 
 -- another tier's
 pub log_soup-other : (v t : Tier) (x : ℕ) (sends : List (ℕ × PaxMsg AnyValue)) → same_tier t v ≡ false → log_soup v (log_packets t x sends) ≡ []

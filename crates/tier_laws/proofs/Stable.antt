@@ -60,42 +60,66 @@ pub record RoundParts {B : Type 0} (m : Service B) (L : List AnyValue) (A : Answ
   pub is_wants : R.wants ≡ wants m.programs T batch
   pub is_tables : R.tables ≡ T
 
-pub round_parts : {B : Type 0} (m : Service B) (L : List AnyValue) (A : Answers) (r : ℕ) (T : Tables) (R : Round) → round_at m.programs L A r T ≡ Some R → RoundParts m L A r T R
+pub round_parts : {B : Type 0} (m : Service B) (L : List AnyValue) (A : Answers) (r : ℕ) (T : Tables) (R : Round)
+    → round_at m.programs L A r T ≡ Some R → RoundParts m L A r T R
 round_parts m L A r T R e =
-    let p = then_parts (batch_at L r) (λ es. and_then (job_of A (wants m.programs T es)) (λ J. Some (record { tables = T; wants = wants m.programs T es; job = J }))) R e in
+    let p = then_parts (batch_at L r)
+    (λ es. and_then (job_of A (wants m.programs T es))
+    (λ J. Some (record { tables = T; wants = wants m.programs T es; job = J }))) R e in
     let q = then_parts (job_of A (wants m.programs T p.0)) (λ J. Some (record { tables = T; wants = wants m.programs T p.0; job = J })) R p.2 in
     let same : record { tables = T; wants = wants m.programs T p.0; job = q.0 } ≡ R = cc in
-    record { batch = p.0; is_batch = p.1; is_job = q.1 ∙ ap (λ (z : Round). Some z.job) same; is_wants = sym (ap (λ (z : Round). z.wants) same); is_tables = sym (ap (λ (z : Round). z.tables) same) }
+    record {
+      batch = p.0;
+      is_batch = p.1;
+      is_job = q.1 ∙ ap (λ (z : Round). Some z.job) same;
+      is_wants = sym (ap (λ (z : Round). z.wants) same);
+      is_tables = sym (ap (λ (z : Round). z.tables) same);
+    }
 
-pub round_made : {B : Type 0} (m : Service B) (L : List AnyValue) (A : Answers) (r : ℕ) (T : Tables) (es : List Entry) (J : List Seg) → batch_at L r ≡ Some es → job_of A (wants m.programs T es) ≡ Some J
+pub round_made : {B : Type 0} (m : Service B) (L : List AnyValue) (A : Answers) (r : ℕ) (T : Tables) (es : List Entry)
+    (J : List Seg) → batch_at L r ≡ Some es → job_of A (wants m.programs T es) ≡ Some J
     → round_at m.programs L A r T ≡ Some (record { tables = T; wants = wants m.programs T es; job = J })
 round_made m L A r T es J e f = rw (e, f) refl
 
-pub round_at-more : {B : Type 0} (m : Service B) (L K : List AnyValue) (A C : Answers) (r : ℕ) (T : Tables) (R : Round) → MoreLog L K → MoreAnswers A C → round_at m.programs L A r T ≡ Some R → round_at m.programs K C r T ≡ Some R
+pub round_at-more : {B : Type 0} (m : Service B) (L K : List AnyValue) (A C : Answers) (r : ℕ) (T : Tables) (R : Round)
+    → MoreLog L K → MoreAnswers A C → round_at m.programs L A r T ≡ Some R → round_at m.programs K C r T ≡ Some R
 round_at-more m L K A C r T R g a e =
-    let p = then_parts (batch_at L r) (λ es. and_then (job_of A (wants m.programs T es)) (λ J. Some (record { tables = T; wants = wants m.programs T es; job = J }))) R e in
+    let p = then_parts (batch_at L r)
+    (λ es. and_then (job_of A (wants m.programs T es))
+    (λ J. Some (record { tables = T; wants = wants m.programs T es; job = J }))) R e in
     let q = then_parts (job_of A (wants m.programs T p.0)) (λ J. Some (record { tables = T; wants = wants m.programs T p.0; job = J })) R p.2 in
-    then_some (batch_at K r) (λ es. and_then (job_of C (wants m.programs T es)) (λ J. Some (record { tables = T; wants = wants m.programs T es; job = J }))) p.0 R (batch-more L K r p.0 g p.1)
-    (then_some (job_of C (wants m.programs T p.0)) (λ J. Some (record { tables = T; wants = wants m.programs T p.0; job = J })) q.0 R (job-more A C (wants m.programs T p.0) q.0 a q.1) q.2)
+    then_some (batch_at K r)
+    (λ es. and_then (job_of C (wants m.programs T es))
+    (λ J. Some (record { tables = T; wants = wants m.programs T es; job = J }))) p.0 R (batch-more L K r p.0 g p.1)
+    (then_some (job_of C (wants m.programs T p.0))
+    (λ J. Some (record { tables = T; wants = wants m.programs T p.0; job = J })) q.0 R
+    (job-more A C (wants m.programs T p.0) q.0 a q.1) q.2)
 
-pub after-more : {B : Type 0} (m : Service B) (D : ℕ) (L K : List AnyValue) (A C : Answers) (r : ℕ) (T : Tables) → MoreLog L K → MoreAnswers A C → after m.programs D L A r ≡ Some T → after m.programs D K C r ≡ Some T
+pub after-more : {B : Type 0} (m : Service B) (D : ℕ) (L K : List AnyValue) (A C : Answers) (r : ℕ) (T : Tables)
+    → MoreLog L K → MoreAnswers A C → after m.programs D L A r ≡ Some T → after m.programs D K C r ≡ Some T
 after-more m D L K A C zero T g a e = e
 after-more {B} m D L K A C (suc r) T g a e =
     let p = then_parts (after m.programs D L A r) (λ T. and_then (round_at m.programs L A r T) (λ R. and_then (verdict_at L r) (done m.programs R))) T e in
     let q = then_parts (round_at m.programs L A r p.0) (λ R. and_then (verdict_at L r) (done m.programs R)) T p.2 in
     let v = then_parts (verdict_at L r) (done m.programs q.0) T q.2 in
-    then_some (after m.programs D K C r) (λ T. and_then (round_at m.programs K C r T) (λ R. and_then (verdict_at K r) (done m.programs R))) p.0 T (after-more m D L K A C r p.0 g a p.1)
+    then_some (after m.programs D K C r)
+    (λ T. and_then (round_at m.programs K C r T) (λ R. and_then (verdict_at K r) (done m.programs R))) p.0 T
+    (after-more m D L K A C r p.0 g a p.1)
     (then_some (round_at m.programs K C r p.0) (λ R. and_then (verdict_at K r) (done m.programs R)) q.0 T (round_at-more m L K A C r p.0 q.0 g a q.1)
     (then_some (verdict_at K r) (done m.programs q.0) v.0 T (verdict-more L K r v.0 g v.1) v.2))
 
-pub round-more : {B : Type 0} (m : Service B) (D : ℕ) (L K : List AnyValue) (A C : Answers) (r : ℕ) (R : Round) → MoreLog L K → MoreAnswers A C → round m.programs D L A r ≡ Some R → round m.programs D K C r ≡ Some R
+pub round-more : {B : Type 0} (m : Service B) (D : ℕ) (L K : List AnyValue) (A C : Answers) (r : ℕ) (R : Round)
+    → MoreLog L K → MoreAnswers A C → round m.programs D L A r ≡ Some R → round m.programs D K C r ≡ Some R
 round-more m D L K A C r R g a e =
     let p = then_parts (after m.programs D L A r) (round_at m.programs L A r) R e in
     then_some (after m.programs D K C r) (round_at m.programs K C r) p.0 R (after-more m D L K A C r p.0 g a p.1) (round_at-more m L K A C r p.0 R g a p.2)
 
 -- the tables after a round
-pub after-step : {B : Type 0} (m : Service B) (D : ℕ) (L : List AnyValue) (A : Answers) (r : ℕ) (R : Round) (v : Verdict) (T : Tables) → round m.programs D L A r ≡ Some R → verdict_at L r ≡ Some v → done m.programs R v ≡ Some T → after m.programs D L A (suc r) ≡ Some T
+pub after-step : {B : Type 0} (m : Service B) (D : ℕ) (L : List AnyValue) (A : Answers) (r : ℕ) (R : Round)
+    (v : Verdict) (T : Tables) → round m.programs D L A r ≡ Some R → verdict_at L r ≡ Some v
+    → done m.programs R v ≡ Some T → after m.programs D L A (suc r) ≡ Some T
 after-step m D L A r R v T e f g =
     let p = then_parts (after m.programs D L A r) (round_at m.programs L A r) R e in
     then_some (after m.programs D L A r) (λ T. and_then (round_at m.programs L A r T) (λ R. and_then (verdict_at L r) (done m.programs R))) p.0 T p.1
-    (then_some (round_at m.programs L A r p.0) (λ R. and_then (verdict_at L r) (done m.programs R)) R T p.2 (then_some (verdict_at L r) (done m.programs R) v T f g))
+    (then_some (round_at m.programs L A r p.0) (λ R. and_then (verdict_at L r) (done m.programs R)) R T p.2
+    (then_some (verdict_at L r) (done m.programs R) v T f g))

@@ -1,5 +1,6 @@
 -- The wants of a round: their clients differ, and none of them is parked elsewhere.
-use Rattle.std.proofs.Common.{◌≡◌, ℕ, ◌≤◌, Bool, true, false, cond, List, [], ◌∷◌, ◌++◌, map, refl, sym, ap, ◌∙◌, subst, inl, inr, Option, Some, None, zero, suc}
+use Rattle.std.proofs.Common.{◌≡◌, ℕ, ◌≤◌, Bool, true, false, cond, List, [], ◌∷◌, ◌++◌, map, refl, sym, ap, ◌∙◌, subst}
+use Rattle.std.proofs.Common.{inl, inr, Option, Some, None, zero, suc}
 use Rattle.std.specs.Prelude.{nat_le, slice_get, ◌⊎◌, ◌==◌, ◌&&◌, not}
 use Rattle.std.proofs.lemmas.Bool.{leb-true, eq-eqb, eqb-true, ne_eqb, cond-true, cond-false, cases_eq, and_parts, or_right}
 use Rattle.std.proofs.lemmas.List.{append-nil, append_assoc}
@@ -62,14 +63,17 @@ none_parked c [] e = tt
 none_parked c (p ∷ Q) e = go (cases_eq p.client c) (none_parked c Q)
   where
     go : (p.client ≡ c) ⊎ (p.client ≡ c → ⊥) → (parked_of c Q ≡ None → NoneOf c (map resumed Q)) → NoneOf c (map resumed (p ∷ Q))
-    go (inl f) r = absurd (let g : cond (p.client == c) (Some p) (parked_of c Q) ≡ Some p = cond-true (p.client == c) (Some p) (parked_of c Q) (eq-eqb p.client c f) in cc)
+    go (inl f) r = absurd (let g : cond (p.client == c) (Some p) (parked_of c Q)
+        ≡ Some p = cond-true (p.client == c) (Some p) (parked_of c Q) (eq-eqb p.client c f) in cc)
     go (inr f) r = (f, r (sym (cond-false (p.client == c) (Some p) (parked_of c Q) (ne_eqb p.client c f)) ∙ e))
 
 pub parked_at : (Q : List Parked) (i : ℕ) (p : Parked) → Distinct (map resumed Q) → slice_get Q i ≡ Some p → parked_of p.client Q ≡ Some p
 parked_at [] i p d e = absurd (cc)
-parked_at (q ∷ Q) zero p d e = let s : q ≡ p = cc in subst (λ (z : Parked). parked_of z.client (q ∷ Q) ≡ Some z) s (cond-true (q.client == q.client) (Some q) (parked_of q.client Q) (eq-eqb q.client q.client refl))
+parked_at (q ∷ Q) zero p d e = let s : q ≡ p = cc in subst (λ (z : Parked). parked_of z.client (q ∷ Q) ≡ Some z) s
+    (cond-true (q.client == q.client) (Some q) (parked_of q.client Q) (eq-eqb q.client q.client refl))
 parked_at (q ∷ Q) (suc i) p d e =
-    cond-false (q.client == p.client) (Some q) (parked_of p.client Q) (ne_eqb q.client p.client (λ f. none_not q.client (map resumed Q) i (resumed p) d.0 (map_get resumed Q i p e) (sym f)))
+    cond-false (q.client == p.client) (Some q) (parked_of p.client Q)
+    (ne_eqb q.client p.client (λ f. none_not q.client (map resumed Q) i (resumed p) d.0 (map_get resumed Q i p e) (sym f)))
     ∙ parked_at Q i p d.1 e
 
 pub parked-skip : (c : ℕ) (Q R : List Parked) → NoneOf c (map resumed Q) → parked_of c (Q ++ R) ≡ parked_of c R
@@ -84,7 +88,9 @@ parked-stop c (p ∷ Q) R e = cond_same (p.client == c) (Some p) (parked_of c (Q
     cond_same true x y z f = refl
     cond_same false x y z f = f
 
-pub parks_acts : (next : OfTiers ℕ) (ws : List Want) (es : List Ending) (i : ℕ) (p : Parked) → slice_get (parks next ws es) i ≡ Some p → (j : ℕ) × (a : Act) × (slice_get (acts next ws es) j ≡ Some a) × (parked_by a.want a.num a.ending ≡ Some p)
+pub parks_acts : (next : OfTiers ℕ) (ws : List Want) (es : List Ending) (i : ℕ) (p : Parked)
+    → slice_get (parks next ws es) i ≡ Some p → (j : ℕ) × (a : Act) × (slice_get (acts next ws es) j ≡ Some a)
+    × (parked_by a.want a.num a.ending ≡ Some p)
 parks_acts next [] es i p e = absurd (cc)
 parks_acts next (w ∷ ws) [] i p e = absurd (cc)
 parks_acts next (w ∷ ws) (Reply text ∷ es) i p e = let r = parks_acts next ws es i p e in (suc r.0, r.1, r.2, r.3)
@@ -115,12 +121,17 @@ concat-push (h ∷ q) g = ap (λ z. h ++ z) (concat-push q g) ∙ sym (append_as
 
 -- FRESH
 
-fresh-none : {B : Type 0} (m : Service B) (T : Tables) (seen : List ℕ) (es : List Entry) (c : ℕ) → mem c seen ≡ true → NoneOf c (map started (fresh_of m.programs T seen es))
+fresh-none : {B : Type 0} (m : Service B) (T : Tables) (seen : List ℕ) (es : List Entry) (c : ℕ) → mem c seen ≡ true
+    → NoneOf c (map started (fresh_of m.programs T seen es))
 fresh-none m T seen [] c e = tt
-fresh-none m T seen (x ∷ es) c e = go (mem x.client seen) refl (fresh-none m T seen es c e) (is_fresh m.programs T x) (fresh-none m T (x.client ∷ seen) es c (or_right (x.client == c) (mem c seen) e))
+fresh-none m T seen (x ∷ es) c e = go (mem x.client seen) refl (fresh-none m T seen es c e) (is_fresh m.programs T x)
+    (fresh-none m T (x.client ∷ seen) es c (or_right (x.client == c) (mem c seen) e))
   where
-    go : (b : Bool) → mem x.client seen ≡ b → NoneOf c (map started (fresh_of m.programs T seen es)) → (f : Bool) → NoneOf c (map started (fresh_of m.programs T (x.client ∷ seen) es))
-        → NoneOf c (map started (cond b (fresh_of m.programs T seen es) (cond f (x ∷ fresh_of m.programs T (x.client ∷ seen) es) (fresh_of m.programs T (x.client ∷ seen) es))))
+    go : (b : Bool) → mem x.client seen ≡ b → NoneOf c (map started (fresh_of m.programs T seen es)) → (f : Bool)
+        → NoneOf c (map started (fresh_of m.programs T (x.client ∷ seen) es))
+        → NoneOf c (map started
+        (cond b (fresh_of m.programs T seen es)
+        (cond f (x ∷ fresh_of m.programs T (x.client ∷ seen) es) (fresh_of m.programs T (x.client ∷ seen) es))))
     go true s r f q = r
     go false s r true q = ((λ g. absurd (let h : mem x.client seen ≡ true = ap (λ z. mem z seen) g ∙ e in cc)), q)
     go false s r false q = q
@@ -133,22 +144,32 @@ fresh-distinct m T seen (x ∷ es) = go (mem x.client seen) (fresh-distinct m T 
     here = let g = eq-eqb x.client x.client refl in rw g refl
 
     go : (b : Bool) → Distinct (map started (fresh_of m.programs T seen es)) → (f : Bool) → Distinct (map started (fresh_of m.programs T (x.client ∷ seen) es))
-        → Distinct (map started (cond b (fresh_of m.programs T seen es) (cond f (x ∷ fresh_of m.programs T (x.client ∷ seen) es) (fresh_of m.programs T (x.client ∷ seen) es))))
+        → Distinct (map started
+        (cond b (fresh_of m.programs T seen es)
+        (cond f (x ∷ fresh_of m.programs T (x.client ∷ seen) es) (fresh_of m.programs T (x.client ∷ seen) es))))
     go true r f q = r
     go false r true q = (fresh-none m T (x.client ∷ seen) es x.client here, q)
     go false r false q = q
 
 -- each fresh entry is fresh, and stands in the batch
-pub fresh-at : {B : Type 0} (m : Service B) (T : Tables) (seen : List ℕ) (es : List Entry) (i : ℕ) (e : Entry) → slice_get (fresh_of m.programs T seen es) i ≡ Some e → (is_fresh m.programs T e ≡ true) × ((j : ℕ) × (slice_get es j ≡ Some e))
+pub fresh-at : {B : Type 0} (m : Service B) (T : Tables) (seen : List ℕ) (es : List Entry) (i : ℕ) (e : Entry)
+    → slice_get (fresh_of m.programs T seen es) i ≡ Some e → (is_fresh m.programs T e ≡ true)
+    × ((j : ℕ) × (slice_get es j ≡ Some e))
 fresh-at m T seen [] i e f = absurd (cc)
-fresh-at m T seen (x ∷ es) i e f = go (mem x.client seen) (is_fresh m.programs T x) refl i f (λ i f. fresh-at m T seen es i e f) (λ i f. fresh-at m T (x.client ∷ seen) es i e f)
+fresh-at m T seen (x ∷ es) i e f = go (mem x.client seen) (is_fresh m.programs T x) refl i f
+    (λ i f. fresh-at m T seen es i e f) (λ i f. fresh-at m T (x.client ∷ seen) es i e f)
   where
-    later : (is_fresh m.programs T e ≡ true) × ((j : ℕ) × (slice_get es j ≡ Some e)) → (is_fresh m.programs T e ≡ true) × ((j : ℕ) × (slice_get (x ∷ es) j ≡ Some e))
+    later : (is_fresh m.programs T e ≡ true) × ((j : ℕ) × (slice_get es j ≡ Some e)) → (is_fresh m.programs T e ≡ true)
+        × ((j : ℕ) × (slice_get (x ∷ es) j ≡ Some e))
     later r = (r.0, (suc r.1.0, r.1.1))
 
-    go : (b f : Bool) → is_fresh m.programs T x ≡ f → (i : ℕ) → slice_get (cond b (fresh_of m.programs T seen es) (cond f (x ∷ fresh_of m.programs T (x.client ∷ seen) es) (fresh_of m.programs T (x.client ∷ seen) es))) i ≡ Some e
+    go : (b f : Bool) → is_fresh m.programs T x ≡ f → (i : ℕ)
+        → slice_get (cond b (fresh_of m.programs T seen es)
+        (cond f (x ∷ fresh_of m.programs T (x.client ∷ seen) es) (fresh_of m.programs T (x.client ∷ seen) es))) i ≡ Some e
         → ((i : ℕ) → slice_get (fresh_of m.programs T seen es) i ≡ Some e → (is_fresh m.programs T e ≡ true) × ((j : ℕ) × (slice_get es j ≡ Some e)))
-        → ((i : ℕ) → slice_get (fresh_of m.programs T (x.client ∷ seen) es) i ≡ Some e → (is_fresh m.programs T e ≡ true) × ((j : ℕ) × (slice_get es j ≡ Some e))) → (is_fresh m.programs T e ≡ true) × ((j : ℕ) × (slice_get (x ∷ es) j ≡ Some e))
+        → ((i : ℕ) → slice_get (fresh_of m.programs T (x.client ∷ seen) es) i ≡ Some e
+        → (is_fresh m.programs T e ≡ true) × ((j : ℕ) × (slice_get es j ≡ Some e)))
+        → (is_fresh m.programs T e ≡ true) × ((j : ℕ) × (slice_get (x ∷ es) j ≡ Some e))
     go true f k i g r q = later (r i g)
     go false true k zero g r q = let s : x ≡ e = cc in (subst (λ z. is_fresh m.programs T z ≡ true) s k, (0, ap Some s))
     go false true k (suc i) g r q = later (q i g)

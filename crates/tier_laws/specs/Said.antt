@@ -58,9 +58,11 @@ pub record IsJob (J : List Seg) : Type 0 where
 pub record Laws (m : Programs) : Type 0 where
   pub orders : (J : List Seg) (s : Store) (schedule : List ℕ) → is_order (length J) (run_job m.begins J s schedule).order ≡ true
   pub store : (J : List Seg) (s : Store) (schedule : List ℕ) → (run_job m.begins J s schedule).store ≡ serial m J (run_job m.begins J s schedule).order s
-  pub ends : (J : List Seg) (s : Store) (schedule : List ℕ) → (run_job m.begins J s schedule).ends ≡ tabulate (length J) (serial_end m J (run_job m.begins J s schedule).order s)
+  pub ends : (J : List Seg) (s : Store) (schedule : List ℕ) → (run_job m.begins J s schedule).ends
+      ≡ tabulate (length J) (serial_end m J (run_job m.begins J s schedule).order s)
   pub stores : (J : List Seg) (order : List ℕ) (s : Store) → IsJob J → is_order (length J) order ≡ true → IsStore s → IsStore (serial m J order s)
-  pub reads : (J : List Seg) (order : List ℕ) (s : Store) → IsJob J → is_order (length J) order ≡ true → IsStore s → m.read (token_of m s (finish m J order s)) ≡ Some (changes.outcome s (finish m J order s).store (finish m J order s).ends)
+  pub reads : (J : List Seg) (order : List ℕ) (s : Store) → IsJob J → is_order (length J) order ≡ true → IsStore s
+      → m.read (token_of m s (finish m J order s)) ≡ Some (changes.outcome s (finish m J order s).store (finish m J order s).ends)
   pub again : (who : ReqId) (body : List ℕ) (stage : ℕ) → GoesOn (m.table who body stage) (m.table who body)
 
 -- THE HISTORY
@@ -172,7 +174,8 @@ RanTo w r token y = (v : Vote) × DidRun w v × (v.round ≡ r) × (v.from ≡ y
 abbrev pub Caused : {B : Type 0} → Config B → World B → ℕ → Verdict → Type 0
 Caused c w r (Commit token order) = ((ys : ℕ → Bool) × (c.u < count_below (2 * c.u + 1) ys) × ((y : ℕ) → ys y ≡ true → (y < 2 * c.u + 1) × RanTo w r token y)
     × ((v : Vote) × DidRun w v × (v.round ≡ r) × (ys v.from ≡ true) × (v.token ≡ token) × (v.order ≡ order)))
-Caused c w r Serial = (v : Vote) × (u : Vote) × DidRun w v × DidRun w u × (v.round ≡ r) × (u.round ≡ r) × (v.from < 2 * c.u + 1) × (u.from < 2 * c.u + 1) × (v.token ≡ u.token → ⊥) × (v.from ≡ u.from → ⊥)
+Caused c w r Serial = (v : Vote) × (u : Vote) × DidRun w v × DidRun w u × (v.round ≡ r) × (u.round ≡ r)
+    × (v.from < 2 * c.u + 1) × (u.from < 2 * c.u + 1) × (v.token ≡ u.token → ⊥) × (v.from ≡ u.from → ⊥)
 
 abbrev pub is_gone : {S : Type 0} → Mode S → Bool
 is_gone (Up s) = false
@@ -190,7 +193,8 @@ pub record Durable {B : Type 0} (c : Config B) (w : World B) (t : Tier) (n : ℕ
   pub here : is_gone (w.nodes InMid node).mode ≡ false
   pub code : ℕ
   pub is_served : HasAnswer c w t n code
-  pub is_held : (records : List (List Fact)) → StandsFor (w.nodes InMid node) (w.nodes InMid node).mode records → held_code (held_in c.u node (newest records)) t n ≡ Some code
+  pub is_held : (records : List (List Fact)) → StandsFor (w.nodes InMid node) (w.nodes InMid node).mode records
+      → held_code (held_in c.u node (newest records)) t n ≡ Some code
 
 -- the round stands at the world, and each call that it waits for is durable there
 pub record UsedBefore {B : Type 0} (c : Config B) (w : World B) (r : ℕ) : Type 0 where
@@ -206,7 +210,9 @@ pub record Holds {B : Type 0} (c : Config B) (es : List TraceEvent) (t : Tier) (
   pub after : List TraceEvent
   pub is_all : es ≡ before ++ after
   pub here : is_gone ((world c before).nodes InMid x).mode ≡ false
-  pub had : (records : List (List Fact)) → StandsFor ((world c before).nodes InMid x) ((world c before).nodes InMid x).mode records → (code : ℕ) × (held_code (held_in c.u x (newest records)) t n ≡ Some code)
+  pub had : (records : List (List Fact))
+      → StandsFor ((world c before).nodes InMid x) ((world c before).nodes InMid x).mode records → (code : ℕ)
+      × (held_code (held_in c.u x (newest records)) t n ≡ Some code)
 
 -- more than u of the middle nodes hold the answer
 abbrev pub ManyHolders : {B : Type 0} → Config B → List TraceEvent → Tier → ℕ → Type 0

@@ -69,7 +69,8 @@ abbrev asks_at : ℕ → Packet
 asks_at y = record { from = node Inv 0; to = node Inv y; message = msgs.Log (Ask 1) }
 
 -- a call that is learned is served: after the log's own packet all middle nodes are told
-all_are_told : (on_frame 1 (service.backend Inv) Inv 0 (at_node []) (node Inv 1) (msgs.Log (Learn 0 (OfBack (Call 1 reserve))))).sends ≡ asks_at 1 ∷ answer_at 0 ∷ answer_at 1 ∷ answer_at 2 ∷ []
+all_are_told : (on_frame 1 (service.backend Inv) Inv 0 (at_node []) (node Inv 1)
+    (msgs.Log (Learn 0 (OfBack (Call 1 reserve))))).sends ≡ asks_at 1 ∷ answer_at 0 ∷ answer_at 1 ∷ answer_at 2 ∷ []
 unfolding digits checked number_at with_number
 all_are_told = refl
 
@@ -98,7 +99,8 @@ unfolding digits checked number_at with_number
 below_the_floor = refl
 
 -- and isn't served again
-not_below_the_floor : (at_node (Learned 3 (OfBack (Call 1 reserve)) ∷ Learned 2 (OfBack (Settle 2)) ∷ Learned 1 (OfBack (Call 2 reserve)) ∷ Learned 0 (OfBack (Call 1 reserve)) ∷ [])).shim.kept ≡ (2, 0) ∷ []
+not_below_the_floor : (at_node (Learned 3 (OfBack (Call 1 reserve)) ∷ Learned 2 (OfBack (Settle 2))
+    ∷ Learned 1 (OfBack (Call 2 reserve)) ∷ Learned 0 (OfBack (Call 1 reserve)) ∷ [])).shim.kept ≡ (2, 0) ∷ []
 unfolding digits checked number_at with_number
 not_below_the_floor = refl
 
@@ -116,7 +118,8 @@ unfolding digits checked number_at with_number
 a_lower_floor = refl
 
 -- and so does the one that is chosen
-settled_lower : (at_node (Learned 3 (OfBack (Settle 1)) ∷ Learned 2 (OfBack (Settle 2)) ∷ Learned 1 (OfBack (Call 2 reserve)) ∷ Learned 0 (OfBack (Call 1 reserve)) ∷ [])).shim.floor ≡ 2
+settled_lower : (at_node (Learned 3 (OfBack (Settle 1)) ∷ Learned 2 (OfBack (Settle 2))
+    ∷ Learned 1 (OfBack (Call 2 reserve)) ∷ Learned 0 (OfBack (Call 1 reserve)) ∷ [])).shim.floor ≡ 2
 unfolding digits checked number_at with_number
 settled_lower = refl
 

@@ -51,7 +51,8 @@ entry seq body = record { client = 1; seq = seq; body = body }
 
 -- the trip is opened in the first round, and the booking's batch is learned
 abbrev two_rounds : List Fact
-two_rounds = Learned 2 (OfMid (Batch (entry 2 (codes "book 1 2") ∷ []))) ∷ Learned 1 (OfMid (Decided Serial)) ∷ Learned 0 (OfMid (Batch (entry 1 (codes "open 1 5 10 0") ∷ []))) ∷ []
+two_rounds = Learned 2 (OfMid (Batch (entry 2 (codes "book 1 2") ∷ []))) ∷ Learned 1 (OfMid (Decided Serial))
+    ∷ Learned 0 (OfMid (Batch (entry 1 (codes "open 1 5 10 0") ∷ []))) ∷ []
 
 -- the booking waits for its call, and the batch of the next round is learned
 abbrev three_rounds : List Fact
@@ -209,7 +210,8 @@ unfolding digits checked number_at with_number
 calls_again = refl
 
 -- an answer that it alone is known to hold raises no floor
-holds_it_alone : (retry 1 0 is_answered.state).sends ≡ tells 1 (msgs.Log (Ask 5)) ∷ tells 2 (msgs.Log (Ask 5)) ∷ tells 1 (msgs.Have Inv 1 0) ∷ tells 2 (msgs.Have Inv 1 0) ∷ []
+holds_it_alone : (retry 1 0 is_answered.state).sends ≡ tells 1 (msgs.Log (Ask 5)) ∷ tells 2 (msgs.Log (Ask 5))
+    ∷ tells 1 (msgs.Have Inv 1 0) ∷ tells 2 (msgs.Have Inv 1 0) ∷ []
 unfolding digits checked number_at with_number
 holds_it_alone = refl
 
@@ -218,6 +220,7 @@ floor_at y = record { from = node InMid 0; to = node Inv y; message = msgs.Settl
 
 -- held by two, it needn't be kept by inventory
 tells_the_floor : (retry 1 0 (gets is_answered.state 1 (msgs.Have Inv 1 0)).state).sends
-    ≡ tells 1 (msgs.Log (Ask 5)) ∷ tells 2 (msgs.Log (Ask 5)) ∷ tells 1 (msgs.Have Inv 1 0) ∷ tells 2 (msgs.Have Inv 1 0) ∷ floor_at 0 ∷ floor_at 1 ∷ floor_at 2 ∷ []
+    ≡ tells 1 (msgs.Log (Ask 5)) ∷ tells 2 (msgs.Log (Ask 5)) ∷ tells 1 (msgs.Have Inv 1 0)
+    ∷ tells 2 (msgs.Have Inv 1 0) ∷ floor_at 0 ∷ floor_at 1 ∷ floor_at 2 ∷ []
 unfolding digits checked number_at with_number
 tells_the_floor = refl

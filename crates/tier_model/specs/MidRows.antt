@@ -1,5 +1,6 @@
 -- The rows of a middle node, and what a restart restores. The cases of a row are tried in the order in which they stand.
-use Rattle.std.specs.Prelude.{ℕ, zero, suc, ◌+◌, ◌*◌, Bool, false, ◌&&◌, ◌||◌, not, ◌==◌, nat_lt, List, [], ◌∷◌, ◌++◌, length, replicate, Option, Some, None, if◌then◌else◌}
+use Rattle.std.specs.Prelude.{ℕ, zero, suc, ◌+◌, ◌*◌, Bool, false, ◌&&◌, ◌||◌, not, ◌==◌, nat_lt, List, [], ◌∷◌, ◌++◌}
+use Rattle.std.specs.Prelude.{length, replicate, Option, Some, None, if◌then◌else◌}
 use Rattle.aeg_base.specs.declared.names.Tier.{Tier}
 use Rattle.aeg_base.specs.declared.names.Tier.TheVariants as tiers
 use Rattle.aeg_base.specs.declared.names.End.{End}
@@ -193,7 +194,9 @@ runs u x σ r = record {
 abbrev pub to_run : ℕ → Programs → ℕ → Mid → List ℕ → Option Running
 to_run u m x σ schedule =
     if is_some σ.spec then None
-    else and_then (batch_at σ.log.learned σ.applied) (λ es. and_then (job_of (usable σ.held) (wants m σ.tables es)) (λ J. Some (running m x σ (run_job m.begins J σ.tables.store schedule))))
+    else and_then (batch_at σ.log.learned σ.applied)
+    (λ es. and_then (job_of (usable σ.held) (wants m σ.tables es))
+    (λ J. Some (running m x σ (run_job m.begins J σ.tables.store schedule))))
 
 -- why it can't
 abbrev pub not_run : ℕ → Programs → ℕ → Mid → Option (List Entry) → Idle
@@ -247,7 +250,8 @@ settle_to u x t g = if nat_lt 1 g then each (2 * u + 1) nobody (settle_at x t g)
 
 -- what a retry sends besides its Asks: the calls, the Haves and the floors
 abbrev pub again : ℕ → ℕ → Mid → List Packet
-again u x σ = calls_again u x (by_number (open_calls σ.held tiers.Inv (concat σ.tables.queue))) ++ (calls_again u x (by_number (open_calls σ.held tiers.Pay (concat σ.tables.queue)))
+again u x σ = calls_again u x (by_number (open_calls σ.held tiers.Inv (concat σ.tables.queue)))
+    ++ (calls_again u x (by_number (open_calls σ.held tiers.Pay (concat σ.tables.queue)))
     ++ (haves_again u x tiers.Inv (highest σ.held tiers.Inv) ++ (haves_again u x tiers.Pay (highest σ.held tiers.Pay)
     ++ (settle_to u x tiers.Inv (floor σ.held tiers.Inv) ++ settle_to u x tiers.Pay (floor σ.held tiers.Pay)))))
 
@@ -263,7 +267,15 @@ catch_up m (suc n) σ = elim (ready m σ) [ None ↦ σ | Some R ↦ catch_up m 
 
 -- what the facts restore before that: log and held answers. The newest fact stands in front.
 abbrev pub bare : ℕ → ℕ → ℕ → List Fact → Mid
-bare u depth x facts = record { log = recover u (log_facts facts); applied = 0; tables = tables0 depth; pending = replicate 17 None; tally = []; spec = None; held = held_in u x facts }
+bare u depth x facts = record {
+  log = recover u (log_facts facts);
+  applied = 0;
+  tables = tables0 depth;
+  pending = replicate 17 None;
+  tally = [];
+  spec = None;
+  held = held_in u x facts;
+}
 
 abbrev pub recovered : ℕ → Programs → ℕ → ℕ → List Fact → Mid
 recovered u m depth x facts = catch_up m (length (recover u (log_facts facts)).learned) (bare u depth x facts)

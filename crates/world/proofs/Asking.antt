@@ -1,5 +1,7 @@
 -- Clients that ask: what their requests make of the world.
-use Rattle.std.proofs.Common.{◌≡◌, ℕ, ◌+◌, ◌*◌, ◌<◌, ◌≤◌, Bool, true, false, cond, List, [], ◌∷◌, ◌++◌, length, refl, sym, ap, ◌∙◌, subst, inl, inr, append-nil, arith, get_or, Option, Some, None, Result, Ok, Err, zero, suc}
+use Rattle.std.proofs.Common.{◌≡◌, ℕ, ◌+◌, ◌*◌, ◌<◌, ◌≤◌, Bool, true, false, cond, List, [], ◌∷◌, ◌++◌, length, refl}
+use Rattle.std.proofs.Common.{sym, ap, ◌∙◌, subst, inl, inr, append-nil, arith, get_or, Option, Some, None, Result, Ok}
+use Rattle.std.proofs.Common.{Err, zero, suc}
 use Rattle.std.proofs.lemmas.List.{map-append}
 use Rattle.std.specs.Prelude.{slice_get, slice_set, map, option_map, nat_lt, nat_le, not, ◌&&◌, ◌⊎◌}
 use Rattle.std.proofs.lemmas.Bool.{cond-true, and_from, lt-ltb, le-leb}
@@ -64,7 +66,8 @@ pub asks_fit : (u y seq : ℕ) (text : List ℕ) → CanAsk y seq text → AreFi
 asks_fit u y seq text k i p e = each_all (λ (z : Packet). FitsFrame z.from z.message) (2 * u + 1) (request_to y seq text) (λ x l. ask_fits y seq text k) i p e
 
 pub asks_reach : (u y seq : ℕ) (text : List ℕ) → CanAsk y seq text → AllReach u (requests u y seq text)
-asks_reach u y seq text k i p e = each_all (λ (z : Packet). Reaches u z.from z.to z.message) (2 * u + 1) (request_to y seq text) (λ x l. (l, (k.client, (k.seq_in, k.request)))) i p e
+asks_reach u y seq text k i p e = each_all (λ (z : Packet). Reaches u z.from z.to z.message) (2 * u + 1)
+    (request_to y seq text) (λ x l. (l, (k.client, (k.seq_in, k.request)))) i p e
 
 first_stage : (who : ReqId) (q : Request) → is_some (stages_in who 0 (Ok q)) ≡ true
 first_stage who (Open t c p l) = refl
@@ -76,7 +79,8 @@ request_is : (who : ReqId) (body : List ℕ) (q : Request) → request_of body �
 request_is who body q e = ap (λ r. is_some (stages_in who 0 r)) e ∙ first_stage who q
 
 -- what is asked is a request
-pub asked_is : (y seq : ℕ) (text : List ℕ) → is_read (request_of text) ≡ true → is_request booking_service.programs (record { client = y; seq = seq }) text ≡ true
+pub asked_is : (y seq : ℕ) (text : List ℕ) → is_read (request_of text) ≡ true
+    → is_request booking_service.programs (record { client = y; seq = seq }) text ≡ true
 asked_is y seq text e = go (request_of text) refl e
   where
     go : (r : Result Request ℕ) → request_of text ≡ r → is_read r ≡ true → is_request booking_service.programs (record { client = y; seq = seq }) text ≡ true
@@ -85,12 +89,15 @@ asked_is y seq text e = go (request_of text) refl e
 
 -- A CLIENT OPENS ITS REQUEST
 
-pub submit_is : (u depth : ℕ) (w : BookingWorld) (y : ℕ) (text : List ℕ) → IsClient y → is_read (request_of text) ≡ true → (w.clients y).opened ≡ None → (w.clients y).last ≡ 0 → submits (config u depth) w y text ≡ opens u w y text
+pub submit_is : (u depth : ℕ) (w : BookingWorld) (y : ℕ) (text : List ℕ) → IsClient y → is_read (request_of text) ≡ true
+    → (w.clients y).opened ≡ None → (w.clients y).last ≡ 0 → submits (config u depth) w y text ≡ opens u w y text
 submit_is u depth w y text k a o l = cond-true _ (opens u w y text) w
     (and_from _ _ (and_from (nat_le 1 y) (nat_le y 16) (le-leb 1 y k.0) (le-leb y 16 k.1))
-    (and_from _ _ (asked_is y (suc (w.clients y).last) text a) (and_from _ _ (ap (λ z. not (is_some z)) o) (lt-ltb (w.clients y).last 65536 (omega (arith, l))))))
+    (and_from _ _ (asked_is y (suc (w.clients y).last) text a)
+    (and_from _ _ (ap (λ z. not (is_some z)) o) (lt-ltb (w.clients y).last 65536 (omega (arith, l))))))
 
-pub open_leads : (u depth : ℕ) (w : BookingWorld) (nodes : Nodes) (y : ℕ) (text : List ℕ) → AreNodes u depth w nodes → CanAsk y (suc (w.clients y).last) text → Leads u depth w (opens u w y text) nodes (requests u y (suc (w.clients y).last) text)
+pub open_leads : (u depth : ℕ) (w : BookingWorld) (nodes : Nodes) (y : ℕ) (text : List ℕ) → AreNodes u depth w nodes
+    → CanAsk y (suc (w.clients y).last) text → Leads u depth w (opens u w y text) nodes (requests u y (suc (w.clients y).last) text)
 open_leads u depth w nodes y text k a = record {
   are = record { at = k.at };
   soup = refl;
@@ -102,7 +109,9 @@ open_leads u depth w nodes y text k a = record {
 
 -- a client with an open request opens none
 pub busy_is : (u depth : ℕ) (w : BookingWorld) (y : ℕ) (text : List ℕ) → is_some (w.clients y).opened ≡ true → submits (config u depth) w y text ≡ w
-busy_is u depth w y text e = go (worlds.is_client_number y) (is_request booking_service.programs (record { client = y; seq = suc (w.clients y).last }) text) (is_some (w.clients y).opened) e
+busy_is u depth w y text e = go (worlds.is_client_number y)
+    (is_request booking_service.programs (record { client = y; seq = suc (w.clients y).last }) text)
+    (is_some (w.clients y).opened) e
   where
     go : (a b o : Bool) → o ≡ true → cond (a && (b && (not o && nat_lt (w.clients y).last 65536))) (opens u w y text) w ≡ w
     go true true true e = refl
@@ -111,7 +120,9 @@ busy_is u depth w y text e = go (worlds.is_client_number y) (is_request booking_
     go a b false e = absurd (cc)
 
 -- the open request is sent again
-pub again_leads : (u depth : ℕ) (w : BookingWorld) (nodes : Nodes) (y : ℕ) (text : List ℕ) → AreNodes u depth w nodes → CanAsk y (w.clients y).last text → Leads u depth w (reopens (config u depth) w y (Some text)) nodes (requests u y (w.clients y).last text)
+pub again_leads : (u depth : ℕ) (w : BookingWorld) (nodes : Nodes) (y : ℕ) (text : List ℕ) → AreNodes u depth w nodes
+    → CanAsk y (w.clients y).last text
+    → Leads u depth w (reopens (config u depth) w y (Some text)) nodes (requests u y (w.clients y).last text)
 again_leads u depth w nodes y text k a = record {
   are = record { at = k.at };
   soup = refl;
@@ -128,15 +139,21 @@ sealed_more n f = let e : n + 1 ≡ suc n = omega arith in ap (λ z. map sealed 
 -- CLIENT ENDS
 
 -- a client by its number, and what it asks
-pub client_is : (w : BookingWorld) (vs : List ClientState) (y : ℕ) (v : ClientState) → AreAll 17 IsClientEnd w.clients vs → y ≤ 16 → v ≡ get_or vs y v → IsClientEnd y (w.clients y) v
+pub client_is : (w : BookingWorld) (vs : List ClientState) (y : ℕ) (v : ClientState)
+    → AreAll 17 IsClientEnd w.clients vs → y ≤ 16 → v ≡ get_or vs y v → IsClientEnd y (w.clients y) v
 client_is w vs y v k l e = k.each y v (slice_get_read vs (length vs) y v refl (omega (arith, k.size, l)) e)
 
 -- it is put back as it was
-pub client_back : (w : BookingWorld) (vs : List ClientState) (y : ℕ) (v new : ClientState) → AreAll 17 IsClientEnd w.clients vs → y ≤ 16 → v ≡ get_or vs y v → new ≡ v → AreAll 17 IsClientEnd w.clients (slice_set vs y new)
-client_back w vs y v new k l e f = subst (AreAll 17 IsClientEnd w.clients) (set_same vs y v (slice_get_read vs (length vs) y v refl (omega (arith, k.size, l)) e) ∙ ap (slice_set vs y) (sym f)) k
+pub client_back : (w : BookingWorld) (vs : List ClientState) (y : ℕ) (v new : ClientState)
+    → AreAll 17 IsClientEnd w.clients vs → y ≤ 16 → v ≡ get_or vs y v → new ≡ v
+    → AreAll 17 IsClientEnd w.clients (slice_set vs y new)
+client_back w vs y v new k l e f = subst (AreAll 17 IsClientEnd w.clients)
+    (set_same vs y v (slice_get_read vs (length vs) y v refl (omega (arith, k.size, l)) e) ∙ ap (slice_set vs y) (sym f)) k
 
 -- it has opened its first request
-pub client_opened : (u : ℕ) (w : BookingWorld) (vs : List ClientState) (y : ℕ) (v new : ClientState) (text : List ℕ) → AreAll 17 IsClientEnd w.clients vs → y ≤ 16 → v ≡ get_or vs y v → (w.clients y).last ≡ 0 → is_request booking_service.programs (record { client = y; seq = 1 }) text ≡ true → new ≡ opened_with v text
+pub client_opened : (u : ℕ) (w : BookingWorld) (vs : List ClientState) (y : ℕ) (v new : ClientState) (text : List ℕ)
+    → AreAll 17 IsClientEnd w.clients vs → y ≤ 16 → v ≡ get_or vs y v → (w.clients y).last ≡ 0
+    → is_request booking_service.programs (record { client = y; seq = 1 }) text ≡ true → new ≡ opened_with v text
     → AreAll 17 IsClientEnd (opens u w y text).clients (slice_set vs y new)
 client_opened u w vs y v new text k l e z r n =
     let i : IsClientEnd y (w.clients y) v = client_is w vs y v k l e in
@@ -147,7 +164,8 @@ client_opened u w vs y v new text k l e z r n =
 pub asked_nothing : (y : ℕ) (end : ClientEnd) → AsksOnce y end.last end.opened → end.opened ≡ None → end.last ≡ 0
 asked_nothing y end k e = subst (AsksOnce y end.last) e k
 
-pub asked_once : (y : ℕ) (end : ClientEnd) (text : List ℕ) → AsksOnce y end.last end.opened → end.opened ≡ Some text → (end.last ≡ 1) × (is_request booking_service.programs (record { client = y; seq = 1 }) text ≡ true)
+pub asked_once : (y : ℕ) (end : ClientEnd) (text : List ℕ) → AsksOnce y end.last end.opened → end.opened ≡ Some text
+    → (end.last ≡ 1) × (is_request booking_service.programs (record { client = y; seq = 1 }) text ≡ true)
 asked_once y end text k e = subst (AsksOnce y end.last) e k
 
 -- THE WHOLE EVENT
@@ -155,10 +173,20 @@ asked_once y end text k e = subst (AsksOnce y end.last) e k
 abbrev pub clients_after : Parts → Parts → List Packet → Parts
 clients_after old new ks = record old { clients = new.clients; soup = old.soup ++ map sealed ks; watch = all_grown (hears_packets old.watch (map sealed ks)) }
 
-pub asked : (u depth : ℕ) (w w1 : BookingWorld) (old new : Parts) (ks : List Packet) (event : TraceEvent) (told before now : List ℕ) → Shows u depth w old → length new.soup ≤ PACKETS → happens (config u depth) w event ≡ w1 → own_text (config u depth) w event ≡ told → Leads u depth w w1 old.nodes ks → AreAll 17 IsClientEnd w1.clients new.clients.items
-    → new ≡ clients_after old new ks → now ≡ before ++ told → (disks : List DiskState) → AreDisks w1 disks → HasCause w disks disks event → Finds w event → Makes new disks disks before now event u depth w
+pub asked : (u depth : ℕ) (w w1 : BookingWorld) (old new : Parts) (ks : List Packet) (event : TraceEvent)
+    (told before now : List ℕ) → Shows u depth w old → length new.soup ≤ PACKETS → happens (config u depth) w event ≡ w1
+    → own_text (config u depth) w event ≡ told → Leads u depth w w1 old.nodes ks
+    → AreAll 17 IsClientEnd w1.clients new.clients.items
+    → new ≡ clients_after old new ks → now ≡ before ++ told → (disks : List DiskState) → AreDisks w1 disks
+    → HasCause w disks disks event → Finds w event → Makes new disks disks before now event u depth w
 asked u depth w w1 old new ks event told before now s within h o l clients e t disks on cause finds =
-    let ended : Ended old new old.nodes (map sealed ks) = record { size = ap (λ (p : Parts). p.u) e; is = ap (λ (p : Parts). p.nodes) e; soup = ap (λ (p : Parts). p.soup) e; within = within; watch = ap (λ (p : Parts). p.watch) e } in
+    let ended : Ended old new old.nodes (map sealed ks) = record {
+      size = ap (λ (p : Parts). p.u) e;
+      is = ap (λ (p : Parts). p.nodes) e;
+      soup = ap (λ (p : Parts). p.soup) e;
+      within = within;
+      watch = ap (λ (p : Parts). p.watch) e;
+    } in
     let r = ends u depth w w1 old new old.nodes ks s l ended clients in
     let grew : growth_text w (grows (config u depth) (happens (config u depth) w event)) ≡ [] = ap (λ z. growth_text w (grows (config u depth) z)) h ∙ r.1 in
     record {
@@ -174,12 +202,20 @@ asked u depth w w1 old new ks event told before now s within h o l clients e t d
 pub open_disks : (u : ℕ) (w : BookingWorld) (y : ℕ) (text : List ℕ) (disks : List DiskState) → AreDisks w disks → AreDisks (opens u w y text) disks
 open_disks u w y text disks d = record { all = d.all; at = d.at }
 
-pub again_disks : (u depth : ℕ) (w : BookingWorld) (y : ℕ) (text : List ℕ) (disks : List DiskState) → AreDisks w disks → AreDisks (reopens (config u depth) w y (Some text)) disks
+pub again_disks : (u depth : ℕ) (w : BookingWorld) (y : ℕ) (text : List ℕ) (disks : List DiskState) → AreDisks w disks
+    → AreDisks (reopens (config u depth) w y (Some text)) disks
 again_disks u depth w y text disks d = record { all = d.all; at = d.at }
 
 -- nothing is sent
 pub nothing_leads : (u depth : ℕ) (w : BookingWorld) (nodes : Nodes) → AreNodes u depth w nodes → Leads u depth w w nodes []
-nothing_leads u depth w nodes k = record { are = k; soup = sym (append-nil w.soup); logs = refl; hist = refl; fit = λ i p f. absurd (cc); reach = λ i p f. absurd (cc) }
+nothing_leads u depth w nodes k = record {
+  are = k;
+  soup = sym (append-nil w.soup);
+  logs = refl;
+  hist = refl;
+  fit = λ i p f. absurd (cc);
+  reach = λ i p f. absurd (cc);
+}
 
 -- what a client tells of its open request
 pub pending_none : (c : ClientState) → open_request c ≡ None → c.end.opened ≡ None

@@ -139,13 +139,15 @@ retry_by u depth w old new n disks disk after result t k memory move =
 -- A NODE THAT ISN'T UP
 
 -- what a command prints there
-refused : {S : Type 0} (u depth : ℕ) (n : NodeId) (fared : Fared) (node : NodeOf S Fact) (row : S → Move S) (m : Mode S) → resolving.is_up m ≡ false → texts.commands_text (config u depth) n fared node row m ≡ absent_text n (condition_in m)
+refused : {S : Type 0} (u depth : ℕ) (n : NodeId) (fared : Fared) (node : NodeOf S Fact) (row : S → Move S) (m : Mode S)
+    → resolving.is_up m ≡ false → texts.commands_text (config u depth) n fared node row m ≡ absent_text n (condition_in m)
 refused u depth n fared node row (Up s) e = absurd (cc)
 refused u depth n fared node row Down e = refl
 refused u depth n fared node row Gone e = refl
 
 -- nothing happens
-pub rests : (u depth : ℕ) (w : BookingWorld) (nodes : Nodes) (disks : List DiskState) (text told : List ℕ) → AreNodes u depth w nodes → AreDisks w disks → text ≡ told → Commanded u depth w w nodes disks [] text told
+pub rests : (u depth : ℕ) (w : BookingWorld) (nodes : Nodes) (disks : List DiskState) (text told : List ℕ)
+    → AreNodes u depth w nodes → AreDisks w disks → text ≡ told → Commanded u depth w w nodes disks [] text told
 rests u depth w nodes disks text told k d e = record {
   packets = [];
   sends = refl;

@@ -1,5 +1,6 @@
 -- A run before its first event.
-use Rattle.std.proofs.Common.{◌≡◌, ℕ, ◌+◌, ◌*◌, ◌≤◌, List, [], ◌∷◌, refl, sym, ap, ◌∙◌, subst, inl, inr, length, arith, Some, None, zero, suc, length-append, add-one}
+use Rattle.std.proofs.Common.{◌≡◌, ℕ, ◌+◌, ◌*◌, ◌≤◌, List, [], ◌∷◌, refl, sym, ap, ◌∙◌, subst, inl, inr, length, arith}
+use Rattle.std.proofs.Common.{Some, None, zero, suc, length-append, add-one}
 use Rattle.std.specs.Prelude.{slice_get, ◌⊎◌}
 use Rattle.aeg_base.specs.declared.names.Tier.{Tier}
 use Rattle.aeg_base.specs.declared.names.Tier.TheVariants as tiers
@@ -34,8 +35,12 @@ each_at {A} (suc n) f i a e = go (get_push (each n nobody f) (f n) i a e) (λ g.
     go (inl g) rec = rec g
     go (inr g) rec = sym g.1 ∙ ap f (sym (g.0 ∙ each_size n f))
 
-all_each : {N V : Type 0} (n : ℕ) (Is : ℕ → N → V → Type 0) (nodes : ℕ → N) (f : ℕ → V) (vs : List V) → vs ≡ each n nobody f → ((x : ℕ) → Is x (nodes x) (f x)) → AreAll n Is nodes vs
-all_each {N} {V} n Is nodes f vs e h = record { size = ap length e ∙ each_size n f; each = λ x v g. subst (Is x (nodes x)) (sym (each_at n f x v (sym (ap (λ (z : List V). slice_get z x) e) ∙ g))) (h x) }
+all_each : {N V : Type 0} (n : ℕ) (Is : ℕ → N → V → Type 0) (nodes : ℕ → N) (f : ℕ → V) (vs : List V)
+    → vs ≡ each n nobody f → ((x : ℕ) → Is x (nodes x) (f x)) → AreAll n Is nodes vs
+all_each {N} {V} n Is nodes f vs e h = record {
+  size = ap length e ∙ each_size n f;
+  each = λ x v g. subst (Is x (nodes x)) (sym (each_at n f x v (sym (ap (λ (z : List V). slice_get z x) e) ∙ g))) (h x);
+}
 
 new_is : {S T : Type 0} (t : Tier) (whole : S → T) (open_of : S → ℕ) → IsNode {S = S} {T = T} t whole open_of (stands Down []) new_part
 new_is t whole open_of = record { mode = refl; placed = λ e. absurd (cc); doubted = refl; within = (blank_within, tt); stand = none_stand t; opened = tt }
@@ -49,7 +54,8 @@ new_nodes u depth nodes k tiers.Pay = all_each (2 * u + 1) (IsAt u depth tiers.P
     (λ x. record { faults = refl; tier = refl; deep = refl; me = refl; part = new_is tiers.Pay (state_at u depth tiers.Pay x) (open_in (shape tiers.Pay)) })
 
 -- nothing was sent, and all nodes are down
-pub begins : (u depth : ℕ) (parts : Parts) → u ≤ 2 → parts.u ≡ u → AreNew u depth parts.nodes → parts.clients.items ≡ each 17 nobody fresh → parts.soup ≡ [] → parts.watch ≡ new_watch u → Shows u depth start parts
+pub begins : (u depth : ℕ) (parts : Parts) → u ≤ 2 → parts.u ≡ u → AreNew u depth parts.nodes
+    → parts.clients.items ≡ each 17 nobody fresh → parts.soup ≡ [] → parts.watch ≡ new_watch u → Shows u depth start parts
 begins u depth parts few size k c s w = record {
   size = size;
   few = few;

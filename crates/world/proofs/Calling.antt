@@ -1,5 +1,6 @@
 -- A call at a node, as its steps make it; and what it asks.
-use Rattle.std.proofs.Common.{◌≡◌, ℕ, ◌+◌, ◌*◌, ◌<◌, ◌≤◌, Bool, true, false, List, [], ◌∷◌, refl, sym, ap, ◌∙◌, subst, length, arith, slice_index_or, Option, Some, zero, suc}
+use Rattle.std.proofs.Common.{◌≡◌, ℕ, ◌+◌, ◌*◌, ◌<◌, ◌≤◌, Bool, true, false, List, [], ◌∷◌, refl, sym, ap, ◌∙◌, subst}
+use Rattle.std.proofs.Common.{length, arith, slice_index_or, Option, Some, zero, suc}
 use Rattle.world.proofs.Passing.{passes}
 use Rattle.std.proofs.lemmas.Option.{slice_get_within}
 use Rattle.std.specs.Prelude.{slice_get, slice_set, map}
@@ -30,8 +31,10 @@ use Rattle.world.proofs.Doing.{up_state}
 use Rattle.log_model.proofs.Basics.{get_within}
 
 -- the disk was armed first, and then the power was put back
-pub called_by : (old between new : Nodes) (n : NodeId) (stop : Option StopAt) (disk armed called disk_after : DiskState) (before after : List (End × List ℕ)) (row : RowOf) (answer : Result Answer Fault) (met : Bool)
-    → armed ≡ armed_with stop disk → NodesMove old between n armed called before after row answer → met ≡ called.stopped → disk_after ≡ at_rest called → IsSureIf met between new n.tier n.index
+pub called_by : (old between new : Nodes) (n : NodeId) (stop : Option StopAt) (disk armed called disk_after : DiskState)
+    (before after : List (End × List ℕ)) (row : RowOf) (answer : Result Answer Fault) (met : Bool)
+    → armed ≡ armed_with stop disk → NodesMove old between n armed called before after row answer → met ≡ called.stopped
+    → disk_after ≡ at_rest called → IsSureIf met between new n.tier n.index
     → Called old new n.tier n.index stop disk disk_after before after row answer met
 called_by old between new n stop disk armed called disk_after before after row answer met a m e r s = record {
   between = between;
@@ -44,29 +47,38 @@ called_by old between new n stop disk armed called disk_after before after row a
 
 -- WHERE A NODE'S DISK IS
 
-disk_at : {A : Type 0} (state : A → DiskState) (disks : List A) (x : ℕ) (d : A) → x < length disks → slice_get (map state disks) x ≡ Some (state (slice_index_or disks x d))
+disk_at : {A : Type 0} (state : A → DiskState) (disks : List A) (x : ℕ) (d : A) → x < length disks
+    → slice_get (map state disks) x ≡ Some (state (slice_index_or disks x d))
 disk_at state [] x d l = absurd (omega arith)
 disk_at state (b ∷ disks) zero d l = refl
 disk_at state (b ∷ disks) (suc x) d l = disk_at state disks x d (omega arith)
 
 -- the one that is read there, and all with it written back
-pub disk_read : {A : Type 0} (state : A → DiskState) (disks : List A) (x p : ℕ) (d : A) → p ≡ x → p < 15 → length (map state disks) ≡ 15 → slice_get (map state disks) x ≡ Some (state (slice_index_or disks p d))
-disk_read state disks x p d e l all = subst (λ z. slice_get (map state disks) z ≡ Some (state (slice_index_or disks p d))) e (disk_at state disks p d (omega (arith, l, all, length-map disks state)))
+pub disk_read : {A : Type 0} (state : A → DiskState) (disks : List A) (x p : ℕ) (d : A) → p ≡ x → p < 15
+    → length (map state disks) ≡ 15 → slice_get (map state disks) x ≡ Some (state (slice_index_or disks p d))
+disk_read state disks x p d e l all = subst (λ z. slice_get (map state disks) z
+    ≡ Some (state (slice_index_or disks p d))) e (disk_at state disks p d (omega (arith, l, all, length-map disks state)))
 
 disks_set : {A : Type 0} (state : A → DiskState) (disks : List A) (x : ℕ) (d : A) → map state (slice_set disks x d) ≡ slice_set (map state disks) x (state d)
 disks_set state [] x d = refl
 disks_set state (b ∷ disks) zero d = refl
 disks_set state (b ∷ disks) (suc x) d = ap (λ z. state b ∷ z) (disks_set state disks x d)
 
-pub disks_left : {A : Type 0} (state : A → DiskState) (disks : List A) (x p : ℕ) (d : A) → p ≡ x → map state (slice_set disks p d) ≡ slice_set (map state disks) x (state d)
+pub disks_left : {A : Type 0} (state : A → DiskState) (disks : List A) (x p : ℕ) (d : A) → p ≡ x
+    → map state (slice_set disks p d) ≡ slice_set (map state disks) x (state d)
 disks_left state disks x p d e = disks_set state disks p d ∙ ap (λ z. slice_set (map state disks) z (state d)) e
 
 -- WHAT A CALL ASKS OF THE DISK
 
-may_write : {S T : Type 0} (t : Tier) (whole : S → T) (open_of : S → ℕ) (node : NodeOf T Fact) (part : NodePart S) (disk : DiskState) (stop : Option StopAt) → IsNode t whole open_of node part → IsDiskOf node disk → is_up part ≡ true → MayWrite part (armed_with stop disk)
+may_write : {S T : Type 0} (t : Tier) (whole : S → T) (open_of : S → ℕ) (node : NodeOf T Fact) (part : NodePart S)
+    (disk : DiskState) (stop : Option StopAt) → IsNode t whole open_of node part → IsDiskOf node disk
+    → is_up part ≡ true → MayWrite part (armed_with stop disk)
 may_write t whole open_of node part disk stop k d e tells =
-    let s = up_state part e in
-    (node.records, same_facts node.records disk (armed_with stop disk) part.place (up_has t whole open_of node part disk s.0 k d s.1) (armed_content stop disk).0)
+    let s = up_state part e in (
+      node.records,
+      same_facts node.records disk (armed_with stop disk) part.place
+          (up_has t whole open_of node part disk s.0 k d s.1) (armed_content stop disk).0,
+    )
 
 pub may_write_at : (u depth : ℕ) (w : BookingWorld) (nodes : Nodes) (t : Tier) (x : ℕ) (disks : List DiskState) (disk : DiskState) (stop : Option StopAt)
     → u ≤ 2 → AreNodes u depth w nodes → AreDisks w disks → x < 2 * u + 1 → slice_get disks (first_of t + x) ≡ Some disk → up_in nodes t x ≡ true
@@ -77,7 +89,8 @@ may_write_at u depth w nodes t x disks disk stop few k d l e up =
     (sym (ap view_up f) ∙ sym (up_is nodes t x) ∙ up))
 
 -- a disk for each node
-pub disk_of : (w : BookingWorld) (u x : ℕ) (t : Tier) (disks : List DiskState) → u ≤ 2 → AreDisks w disks → x < 2 * u + 1 → (disk : DiskState) × (slice_get disks (first_of t + x) ≡ Some disk)
+pub disk_of : (w : BookingWorld) (u x : ℕ) (t : Tier) (disks : List DiskState) → u ≤ 2 → AreDisks w disks
+    → x < 2 * u + 1 → (disk : DiskState) × (slice_get disks (first_of t + x) ≡ Some disk)
 disk_of w u x tiers.Mid disks few d l = get_within disks (0 + x) (omega (arith, d.all, few, l))
 disk_of w u x tiers.Inv disks few d l = get_within disks (5 + x) (omega (arith, d.all, few, l))
 disk_of w u x tiers.Pay disks few d l = get_within disks (10 + x) (omega (arith, d.all, few, l))

@@ -1,5 +1,6 @@
 -- What a call of a node that is up comes to, by its answer.
-use Rattle.std.proofs.Common.{◌≡◌, ℕ, ◌+◌, ◌≤◌, Bool, true, false, cond, List, [], ◌∷◌, ◌++◌, refl, sym, ap, ◌∙◌, subst, inl, inr, arith, Option, Some, None, Result, Ok, Err}
+use Rattle.std.proofs.Common.{◌≡◌, ℕ, ◌+◌, ◌≤◌, Bool, true, false, cond, List, [], ◌∷◌, ◌++◌, refl, sym, ap, ◌∙◌, subst}
+use Rattle.std.proofs.Common.{inl, inr, arith, Option, Some, None, Result, Ok, Err}
 use Rattle.std.specs.Prelude.{nat_lt, nat_le, map, ◌⊎◌, ◌&&◌}
 use Rattle.std.proofs.lemmas.Bool.{cond_both, ltb-true, ltb-false, leb-true, leb-false}
 use Rattle.aeg_base.specs.declared.limits.TheConstants.{JOURNAL_BYTES}
@@ -28,23 +29,35 @@ use Rattle.world.specs.Disks.{IsDiskOf}
 use Rattle.world.specs.Parts.{NodePart, StandIn, AllStand, AllReach, AreFit, sealed}
 use Rattle.world.specs.Standing.{mode_by, journal_of, IsPlaced, IsDoubted, AllWithin, IsOpen, IsNode}
 use Rattle.world.specs.Telling.{HadMemory}
-use Rattle.world.proofs.Moving.{journal-with, open_with, more_within, past_writes, written_all, stand_more, stand_both, stand_cut, armed_content, rest_content, armed_stopped, armed_faults, armed_later, up_placed, sure_alone, up_open, up_has, up_stand, fate_is, fate_full, is_ok, ill_by, moved_by, moved_well, moved_ill, sent_by, sent_well, sent_ill, no_fit, no_reach, sure_if, Came, Call, asked_can, no_cause, asked_well, unmet}
+use Rattle.world.proofs.Moving.{journal-with, open_with, more_within, past_writes, written_all, stand_more, stand_both}
+use Rattle.world.proofs.Moving.{stand_cut, armed_content, rest_content, armed_stopped, armed_faults, armed_later}
+use Rattle.world.proofs.Moving.{up_placed, sure_alone, up_open, up_has, up_stand, fate_is, fate_full, is_ok, ill_by}
+use Rattle.world.proofs.Moving.{moved_by, moved_well, moved_ill, sent_by, sent_well, sent_ill, no_fit, no_reach}
+use Rattle.world.proofs.Moving.{sure_if, Came, Call, asked_can, no_cause, asked_well, unmet}
 
 -- the node's own facts fit behind its records
-in_place : {S T : Type 0} (t : Tier) (whole : S → T) (open_of : S → ℕ) (node : NodeOf T Fact) (part : NodePart S) (s : S) (facts : List Fact) → IsNode t whole open_of node part → part.mode ≡ Up s → StandIn t (open_of s) facts → StandIn t (open_after_all 0 (all_facts node.records)) facts
+in_place : {S T : Type 0} (t : Tier) (whole : S → T) (open_of : S → ℕ) (node : NodeOf T Fact) (part : NodePart S)
+    (s : S) (facts : List Fact) → IsNode t whole open_of node part → part.mode ≡ Up s → StandIn t (open_of s) facts
+    → StandIn t (open_after_all 0 (all_facts node.records)) facts
 in_place t whole open_of node part s facts k e h = subst (λ z. StandIn t z facts) (up_open t whole open_of node part s k e) h
 
-armed_has : {S T : Type 0} (t : Tier) (whole : S → T) (open_of : S → ℕ) (node : NodeOf T Fact) (part : NodePart S) (disk : DiskState) (stop : Option StopAt) (s : S) → IsNode t whole open_of node part → IsDiskOf node disk → part.mode ≡ Up s → HasFacts node.records (armed_with stop disk) part.place
-armed_has t whole open_of node part disk stop s k d e = same_facts node.records disk (armed_with stop disk) part.place (up_has t whole open_of node part disk s k d e) (armed_content stop disk).0
+armed_has : {S T : Type 0} (t : Tier) (whole : S → T) (open_of : S → ℕ) (node : NodeOf T Fact) (part : NodePart S)
+    (disk : DiskState) (stop : Option StopAt) (s : S) → IsNode t whole open_of node part → IsDiskOf node disk
+    → part.mode ≡ Up s → HasFacts node.records (armed_with stop disk) part.place
+armed_has t whole open_of node part disk stop s k d e = same_facts node.records disk (armed_with stop disk) part.place
+    (up_has t whole open_of node part disk s k d e) (armed_content stop disk).0
 
 armed_tells : {T : Type 0} (node : NodeOf T Fact) (disk : DiskState) (stop : Option StopAt) → IsDiskOf node disk → (armed_with stop disk).tells ≡ true
 armed_tells node disk stop d = (armed_content stop disk).1 ∙ d.lists.tells
 
 -- THE MOVE IS MADE
 
-came_ok : {S T : Type 0} (t : Tier) (whole : S → T) (open_of : S → ℕ) (u depth : ℕ) (node : NodeOf T Fact) (part new : NodePart S) (disk called : DiskState) (stop : Option StopAt) (s : S) (v : Move T) (after : List (End × List ℕ)) (answer : Answer)
+came_ok : {S T : Type 0} (t : Tier) (whole : S → T) (open_of : S → ℕ) (u depth : ℕ) (node : NodeOf T Fact)
+    (part new : NodePart S) (disk called : DiskState) (stop : Option StopAt) (s : S) (v : Move T)
+    (after : List (End × List ℕ)) (answer : Answer)
     → Call t whole open_of u node part new disk called stop s v after (Ok answer)
-    → Came t whole open_of u node new disk (at_rest called) (fate (config u depth) (asked_of stop) node.records v.facts) (asked_of stop) (asked_of stop) false v after (Ok answer)
+    → Came t whole open_of u node new disk (at_rest called) (fate (config u depth) (asked_of stop) node.records v.facts)
+    (asked_of stop) (asked_of stop) false v after (Ok answer)
 came_ok {S} {T} t whole open_of u depth node part new disk called stop s v after answer k = record {
   is = subst (λ z. IsNode t whole open_of z new) (sym is_up) up_node;
   on = subst (λ z. IsDiskOf z (at_rest called)) (sym is_up) up_disk;
@@ -83,7 +96,8 @@ came_ok {S} {T} t whole open_of u depth node part new disk called stop s v after
     fits = in_place t whole open_of node part s v.facts k.is k.up k.fits
 
     opened : open_of k.row.1.0 ≡ open_after_all 0 (all_facts recs)
-    opened = k.opens k.row.1.0 k.row.1.2 ∙ ap (λ z. open_after_all z v.facts) (up_open t whole open_of node part s k.is k.up) ∙ sym (open_with node.records v.facts)
+    opened = k.opens k.row.1.0 k.row.1.2
+        ∙ ap (λ z. open_after_all z v.facts) (up_open t whole open_of node part s k.is k.up) ∙ sym (open_with node.records v.facts)
 
     up_node : IsNode t whole open_of (stands (Up v.state) recs) new
     up_node = record {
@@ -96,19 +110,32 @@ came_ok {S} {T} t whole open_of u depth node part new disk called stop s v after
     }
 
     has : HasFacts recs (at_rest called) new.place
-    has = same_facts recs called (at_rest called) new.place (k.wrote.0 node.records (armed_tells node disk stop k.on) (armed_has t whole open_of node part disk stop s k.is k.on k.up)) (rest_content called)
+    has = same_facts recs called (at_rest called) new.place
+        (k.wrote.0 node.records (armed_tells node disk stop k.on)
+        (armed_has t whole open_of node part disk stop s k.is k.on k.up)) (rest_content called)
 
     up_disk : IsDiskOf (stands (Up v.state) recs) (at_rest called)
-    up_disk = record { rest = (refl, refl); lists = having_stands recs (at_rest called) new.place (k.later.tells ∙ armed_tells node disk stop k.on) has; ready = (new.place, has) }
+    up_disk = record {
+      rest = (refl, refl);
+      lists = having_stands recs (at_rest called) new.place (k.later.tells ∙ armed_tells node disk stop k.on) has;
+      ready = (new.place, has);
+    }
 
 -- and the armed stop was not met
-ok_unmet : {S T : Type 0} (t : Tier) (whole : S → T) (open_of : S → ℕ) (u : ℕ) (node : NodeOf T Fact) (part new : NodePart S) (disk called : DiskState) (stop : Option StopAt) (s : S) (v : Move T) (after : List (End × List ℕ)) (answer : Answer) → Call t whole open_of u node part new disk called stop s v after (Ok answer) → called.stopped ≡ false
-ok_unmet t whole open_of u node part new disk called stop s v after answer k = unmet stop disk called v.facts k.stops k.on.rest.1 k.wrote.1 k.wrote.2 k.later k.on.rest.0
+ok_unmet : {S T : Type 0} (t : Tier) (whole : S → T) (open_of : S → ℕ) (u : ℕ) (node : NodeOf T Fact)
+    (part new : NodePart S) (disk called : DiskState) (stop : Option StopAt) (s : S) (v : Move T)
+    (after : List (End × List ℕ)) (answer : Answer)
+    → Call t whole open_of u node part new disk called stop s v after (Ok answer) → called.stopped ≡ false
+ok_unmet t whole open_of u node part new disk called stop s v after answer k = unmet stop disk called v.facts k.stops
+    k.on.rest.1 k.wrote.1 k.wrote.2 k.later k.on.rest.0
 
 -- THE NODE GOES DOWN
 
 -- it knows its place, or is in no doubt
-pub down_node : {S T : Type 0} (t : Tier) (whole : S → T) (open_of : S → ℕ) (records : List (List Fact)) (others : List (List (List Fact))) (new : NodePart S) → new.mode ≡ Down → (new.doubt ≡ true → new.place + 1 ≡ journal_of records) → IsDoubted new.doubt records others → AllWithin (records ∷ others) → AllStand t (records ∷ others)
+pub down_node : {S T : Type 0} (t : Tier) (whole : S → T) (open_of : S → ℕ) (records : List (List Fact))
+    (others : List (List (List Fact))) (new : NodePart S) → new.mode ≡ Down
+    → (new.doubt ≡ true → new.place + 1 ≡ journal_of records) → IsDoubted new.doubt records others
+    → AllWithin (records ∷ others) → AllStand t (records ∷ others)
     → IsNode t whole open_of (record { mode = Down; records = records; others = others }) new
 down_node t whole open_of records others new m p d l a = record {
   mode = sym (ap (mode_by whole) m);
@@ -119,16 +146,24 @@ down_node t whole open_of records others new m p d l a = record {
   opened = subst (λ z. IsOpen open_of z records) (sym m) tt;
 }
 
-down_disk : {T : Type 0} (records : List (List Fact)) (others : List (List (List Fact))) (disk : DiskState) → StandsFor (records ∷ others) disk → IsDiskOf {S = T} (record { mode = Down; records = records; others = others }) (at_rest disk)
-down_disk records others disk h = record { rest = (refl, refl); lists = same_stands (records ∷ others) disk (at_rest disk) h (rest_content disk) refl; ready = tt }
+down_disk : {T : Type 0} (records : List (List Fact)) (others : List (List (List Fact))) (disk : DiskState)
+    → StandsFor (records ∷ others) disk
+    → IsDiskOf {S = T} (record { mode = Down; records = records; others = others }) (at_rest disk)
+down_disk records others disk h = record {
+  rest = (refl, refl);
+  lists = same_stands (records ∷ others) disk (at_rest disk) h (rest_content disk) refl;
+  ready = tt;
+}
 
 no_doubt : (doubt : Bool) (P : Type 0) → doubt ≡ false → doubt ≡ true → P
 no_doubt doubt P e f = absurd (cc)
 
 -- the journal is full
-came_full : {S T : Type 0} (t : Tier) (whole : S → T) (open_of : S → ℕ) (u depth size : ℕ) (node : NodeOf T Fact) (part new : NodePart S) (disk called : DiskState) (stop : Option StopAt) (s : S) (v : Move T) (after : List (End × List ℕ))
+came_full : {S T : Type 0} (t : Tier) (whole : S → T) (open_of : S → ℕ) (u depth size : ℕ) (node : NodeOf T Fact)
+    (part new : NodePart S) (disk called : DiskState) (stop : Option StopAt) (s : S) (v : Move T) (after : List (End × List ℕ))
     → Call t whole open_of u node part new disk called stop s v after (Err (faults.JournalFull size))
-    → Came t whole open_of u node new disk (at_rest called) (fate (config u depth) (asked_of stop) node.records v.facts) (asked_of stop) (asked_of stop) false v after (Err (faults.JournalFull size))
+    → Came t whole open_of u node new disk (at_rest called) (fate (config u depth) (asked_of stop) node.records v.facts)
+    (asked_of stop) (asked_of stop) false v after (Err (faults.JournalFull size))
 came_full {S} {T} t whole open_of u depth size node part new disk called stop s v after k = record {
   is = subst (λ z. IsNode t whole open_of z new) (sym is_down) is;
   on = subst (λ z. IsDiskOf z (at_rest called)) (sym is_down) on;
@@ -167,15 +202,21 @@ came_full {S} {T} t whole open_of u depth size node part new disk called stop s 
     alone = sure_alone t whole open_of node part k.is placed.1
 
     is : IsNode t whole open_of (stands Down node.records) new
-    is = down_node t whole open_of node.records [] new k.row.1 (no_doubt new.doubt _ sure) (subst (λ b. IsDoubted b node.records []) (sym sure) refl) (k.is.within.0, tt) (up_stand t whole open_of node part k.is)
+    is = down_node t whole open_of node.records [] new k.row.1 (no_doubt new.doubt _ sure)
+        (subst (λ b. IsDoubted b node.records []) (sym sure) refl) (k.is.within.0, tt) (up_stand t whole open_of node part k.is)
 
     same : StandsFor (node.records ∷ []) called
-    same = subst (StandsFor (node.records ∷ [])) (sym k.wrote) (same_stands (node.records ∷ []) disk (armed_with stop disk) (subst (λ z. StandsFor (node.records ∷ z) disk) alone k.on.lists) (armed_content stop disk).0 (armed_content stop disk).1)
+    same = subst (StandsFor (node.records ∷ [])) (sym k.wrote)
+        (same_stands (node.records ∷ []) disk (armed_with stop disk)
+        (subst (λ z. StandsFor (node.records ∷ z) disk) alone k.on.lists) (armed_content stop disk).0 (armed_content stop disk).1)
 
     on : IsDiskOf {S = T} (stands Down node.records) (at_rest called)
     on = down_disk node.records [] called same
 
-full_unmet : {S T : Type 0} (t : Tier) (whole : S → T) (open_of : S → ℕ) (u size : ℕ) (node : NodeOf T Fact) (part new : NodePart S) (disk called : DiskState) (stop : Option StopAt) (s : S) (v : Move T) (after : List (End × List ℕ)) → Call t whole open_of u node part new disk called stop s v after (Err (faults.JournalFull size)) → called.stopped ≡ false
+full_unmet : {S T : Type 0} (t : Tier) (whole : S → T) (open_of : S → ℕ) (u size : ℕ) (node : NodeOf T Fact)
+    (part new : NodePart S) (disk called : DiskState) (stop : Option StopAt) (s : S) (v : Move T)
+    (after : List (End × List ℕ))
+    → Call t whole open_of u node part new disk called stop s v after (Err (faults.JournalFull size)) → called.stopped ≡ false
 full_unmet t whole open_of u size node part new disk called stop s v after k = ap (λ (d : DiskState). d.stopped) k.wrote ∙ armed_stopped stop disk ∙ k.on.rest.1
 
 -- THE DISK STOPPED WHERE THAT WAS ARMED
@@ -193,8 +234,11 @@ kept_is nth keep = go keep (nat_le 3 nth) (nat_lt 2 nth) refl refl
     go true true false e f = absurd (omega (arith, leb-true 3 nth e, ltb-false 2 nth f))
     go true false true e f = absurd (omega (arith, leb-false 3 nth e, ltb-true 2 nth f))
 
-cut_failed : {T : Type 0} (node : NodeOf T Fact) (facts : List Fact) (nth : ℕ) (keep : Bool) → failed node facts (device_of (Cut nth keep)) ≡ stands Down (cond (is_kept nth keep) (recorded node.records facts) node.records)
-cut_failed {T} node facts nth keep = subst (λ b. failed node facts (device_of (Cut nth keep)) ≡ stands Down (cond b (recorded node.records facts) node.records)) (kept_is nth keep) (by (keep && nat_le 3 nth))
+cut_failed : {T : Type 0} (node : NodeOf T Fact) (facts : List Fact) (nth : ℕ) (keep : Bool)
+    → failed node facts (device_of (Cut nth keep))
+    ≡ stands Down (cond (is_kept nth keep) (recorded node.records facts) node.records)
+cut_failed {T} node facts nth keep = subst (λ b. failed node facts (device_of (Cut nth keep))
+    ≡ stands Down (cond b (recorded node.records facts) node.records)) (kept_is nth keep) (by (keep && nat_le 3 nth))
   where
     by : (b : Bool) → failed node facts (cond b CutKeep CutDrop) ≡ stands Down (cond b (recorded node.records facts) node.records)
     by true = refl
@@ -203,13 +247,17 @@ cut_failed {T} node facts nth keep = subst (λ b. failed node facts (device_of (
 cut_ill : (nth : ℕ) (keep : Bool) → is_ok (device_of (Cut nth keep)) ≡ false
 cut_ill nth keep = cond_both (keep && nat_le 3 nth) CutKeep CutDrop (λ d. is_ok d ≡ false) (λ e. refl) (λ e. refl)
 
-cut_within : (records : List (List Fact)) (facts : List Fact) (kept : Bool) → journal_of records ≤ JOURNAL_BYTES → is_past (journal_of records) facts ≡ false → journal_of (cond kept (recorded records facts) records) ≤ JOURNAL_BYTES
+cut_within : (records : List (List Fact)) (facts : List Fact) (kept : Bool) → journal_of records ≤ JOURNAL_BYTES
+    → is_past (journal_of records) facts ≡ false → journal_of (cond kept (recorded records facts) records) ≤ JOURNAL_BYTES
 cut_within records facts true l e = more_within records facts l e
 cut_within records facts false l e = l
 
-came_cut : {S T : Type 0} (t : Tier) (whole : S → T) (open_of : S → ℕ) (u depth : ℕ) (node : NodeOf T Fact) (part new : NodePart S) (disk called : DiskState) (stop : Option StopAt) (s : S) (v : Move T) (after : List (End × List ℕ)) → called.stopped ≡ true
+came_cut : {S T : Type 0} (t : Tier) (whole : S → T) (open_of : S → ℕ) (u depth : ℕ) (node : NodeOf T Fact)
+    (part new : NodePart S) (disk called : DiskState) (stop : Option StopAt) (s : S) (v : Move T)
+    (after : List (End × List ℕ)) → called.stopped ≡ true
     → Call t whole open_of u node part new disk called stop s v after (Err faults.Disk)
-    → Came t whole open_of u node new disk (at_rest called) (fate (config u depth) (asked_of stop) node.records v.facts) (asked_of stop) (asked_of stop) true v after (Err faults.Disk)
+    → Came t whole open_of u node new disk (at_rest called) (fate (config u depth) (asked_of stop) node.records v.facts)
+    (asked_of stop) (asked_of stop) true v after (Err faults.Disk)
 came_cut {S} {T} t whole open_of u depth node part new disk called None s v after met k = absurd (omega (arith, cut.first, k.on.rest.0))
   where
     cut : IsCut node.records v.facts disk called
@@ -228,7 +276,8 @@ came_cut {S} {T} t whole open_of u depth node part new disk called (Some at) s v
     dev = fate (config u depth) (Cut at.nth at.keep) node.records v.facts
 
     cut : IsCut node.records v.facts (armed_with (Some at) disk) called
-    cut = (k.wrote.2 node.records (armed_tells node disk (Some at) k.on) (armed_has t whole open_of node part disk (Some at) s k.is k.on k.up)).1 k.on.rest.1 met
+    cut = (k.wrote.2 node.records (armed_tells node disk (Some at) k.on)
+        (armed_has t whole open_of node part disk (Some at) s k.is k.on k.up)).1 k.on.rest.1 met
 
     placed : (part.place + 1 ≡ journal_of node.records) × (part.doubt ≡ false)
     placed = up_placed t whole open_of node part s k.is k.up
@@ -252,8 +301,10 @@ came_cut {S} {T} t whole open_of u depth node part new disk called (Some at) s v
     none = sent_ill dev v ill
 
     is : IsNode t whole open_of (stands Down left) (sure_if true new)
-    is = down_node t whole open_of left [] (sure_if true new) k.row.1 (λ e. absurd (cc)) refl (cut_within node.records v.facts (is_kept at.nth at.keep) k.is.within.0 past, tt)
-        (stand_cut t node.records v.facts (is_kept at.nth at.keep) (up_stand t whole open_of node part k.is) (in_place t whole open_of node part s v.facts k.is k.up k.fits))
+    is = down_node t whole open_of left [] (sure_if true new) k.row.1 (λ e. absurd (cc)) refl
+        (cut_within node.records v.facts (is_kept at.nth at.keep) k.is.within.0 past, tt)
+        (stand_cut t node.records v.facts (is_kept at.nth at.keep) (up_stand t whole open_of node part k.is)
+        (in_place t whole open_of node part s v.facts k.is k.up k.fits))
 
 -- THE DISK FAILED
 
@@ -261,9 +312,12 @@ or_is : (records : List (List Fact)) (facts : List Fact) → writes facts ≡ tr
 or_is records [] e = absurd (cc)
 or_is records (f ∷ fs) e = refl
 
-came_fault : {S T : Type 0} (t : Tier) (whole : S → T) (open_of : S → ℕ) (u depth : ℕ) (node : NodeOf T Fact) (part new : NodePart S) (disk called : DiskState) (stop : Option StopAt) (s : S) (v : Move T) (after : List (End × List ℕ)) → called.stopped ≡ false
+came_fault : {S T : Type 0} (t : Tier) (whole : S → T) (open_of : S → ℕ) (u depth : ℕ) (node : NodeOf T Fact)
+    (part new : NodePart S) (disk called : DiskState) (stop : Option StopAt) (s : S) (v : Move T)
+    (after : List (End × List ℕ)) → called.stopped ≡ false
     → Call t whole open_of u node part new disk called stop s v after (Err faults.Disk)
-    → Came t whole open_of u node new disk (at_rest called) (fate (config u depth) Fault node.records v.facts) (asked_of stop) Fault false v after (Err faults.Disk)
+    → Came t whole open_of u node new disk (at_rest called) (fate (config u depth) Fault node.records v.facts)
+    (asked_of stop) Fault false v after (Err faults.Disk)
 came_fault {S} {T} t whole open_of u depth node part new disk called stop s v after met k = record {
   is = subst (λ z. IsNode t whole open_of z new) (sym is_down) is;
   on = subst (λ z. IsDiskOf z (at_rest called)) (sym is_down) (down_disk node.records (recorded node.records v.facts ∷ []) called two.0);
@@ -271,7 +325,12 @@ came_fault {S} {T} t whole open_of u depth node part new disk called stop s v af
   fit = subst AreFit (sym none) no_fit;
   reach = subst (AllReach u) (sym none) (no_reach u);
   out = (ill, past, refl);
-  how = record { fares = inr refl; can = refl; cause = λ e. subst (λ z. Rose z called.faults) (armed_faults stop disk) (rose k.wrote.1); later = armed_later stop disk called k.later };
+  how = record {
+    fares = inr refl;
+    can = refl;
+    cause = λ e. subst (λ z. Rose z called.faults) (armed_faults stop disk) (rose k.wrote.1);
+    later = armed_later stop disk called k.later;
+  };
 }
   where
     dev : Device
@@ -281,7 +340,9 @@ came_fault {S} {T} t whole open_of u depth node part new disk called stop s v af
     rose (inl e) = absurd (cc)
     rose (inr r) = r
 
-    two : StandsFor (old_or_new node.records v.facts) called × ((armed_with stop disk).stopped ≡ false → called.stopped ≡ true → IsCut node.records v.facts (armed_with stop disk) called)
+    two : StandsFor (old_or_new node.records v.facts) called
+        × ((armed_with stop disk).stopped ≡ false → called.stopped ≡ true
+        → IsCut node.records v.facts (armed_with stop disk) called)
     two = k.wrote.2 node.records (armed_tells node disk stop k.on) (armed_has t whole open_of node part disk stop s k.is k.on k.up)
 
     placed : (part.place + 1 ≡ journal_of node.records) × (part.doubt ≡ false)
@@ -310,21 +371,35 @@ came_fault {S} {T} t whole open_of u depth node part new disk called stop s v af
     more = (v.facts, k.wrote.0, ap (λ z. z ∷ []) (written_all node.records v.facts k.wrote.0))
 
     is : IsNode t whole open_of (record { mode = Down; records = node.records; others = recorded node.records v.facts ∷ [] }) new
-    is = down_node t whole open_of node.records (recorded node.records v.facts ∷ []) new k.row.1 (λ e. place) (subst (λ b. IsDoubted b node.records (recorded node.records v.facts ∷ [])) (sym k.row.3) more) (k.is.within.0, (more_within node.records v.facts k.is.within.0 past, tt))
+    is = down_node t whole open_of node.records (recorded node.records v.facts ∷ []) new k.row.1 (λ e. place)
+        (subst (λ b. IsDoubted b node.records (recorded node.records v.facts ∷ [])) (sym k.row.3) more) (
+          k.is.within.0,
+          (more_within node.records v.facts k.is.within.0 past, tt),
+        )
         (stand_both t node.records v.facts (up_stand t whole open_of node part k.is) (in_place t whole open_of node part s v.facts k.is k.up k.fits))
 
 -- BY ITS ANSWER
 
-pub came : {S T : Type 0} (t : Tier) (whole : S → T) (open_of : S → ℕ) (u depth : ℕ) (node : NodeOf T Fact) (part new : NodePart S) (disk called : DiskState) (stop : Option StopAt) (met : Bool) (s : S) (v : Move T) (after : List (End × List ℕ)) (answer : Result Answer NodeFault) → met ≡ called.stopped → HadMemory answer
+pub came : {S T : Type 0} (t : Tier) (whole : S → T) (open_of : S → ℕ) (u depth : ℕ) (node : NodeOf T Fact)
+    (part new : NodePart S) (disk called : DiskState) (stop : Option StopAt) (met : Bool) (s : S) (v : Move T)
+    (after : List (End × List ℕ)) (answer : Result Answer NodeFault) → met ≡ called.stopped → HadMemory answer
     → Call t whole open_of u node part new disk called stop s v after answer
-    → Came t whole open_of u node new disk (at_rest called) (fate (config u depth) (fared_by stop met answer) node.records v.facts) (asked_of stop) (fared_by stop met answer) met v after answer
-came t whole open_of u depth node part new disk called stop false s v after (Ok answer) e h k = came_ok t whole open_of u depth node part new disk called stop s v after answer k
-came t whole open_of u depth node part new disk called stop true s v after (Ok answer) e h k = absurd (let f = ok_unmet t whole open_of u node part new disk called stop s v after answer k in cc)
-came t whole open_of u depth node part new disk called stop false s v after (Err (faults.JournalFull size)) e h k = came_full t whole open_of u depth size node part new disk called stop s v after k
-came t whole open_of u depth node part new disk called stop true s v after (Err (faults.JournalFull size)) e h k = absurd (let f = full_unmet t whole open_of u size node part new disk called stop s v after k in cc)
+    → Came t whole open_of u node new disk (at_rest called)
+    (fate (config u depth) (fared_by stop met answer) node.records v.facts) (asked_of stop)
+    (fared_by stop met answer) met v after answer
+came t whole open_of u depth node part new disk called stop false s v after (Ok answer) e h k = came_ok t whole open_of
+    u depth node part new disk called stop s v after answer k
+came t whole open_of u depth node part new disk called stop true s v after (Ok answer) e h k = absurd
+    (let f = ok_unmet t whole open_of u node part new disk called stop s v after answer k in cc)
+came t whole open_of u depth node part new disk called stop false s v after (Err (faults.JournalFull size)) e h
+    k = came_full t whole open_of u depth size node part new disk called stop s v after k
+came t whole open_of u depth node part new disk called stop true s v after (Err (faults.JournalFull size)) e h
+    k = absurd (let f = full_unmet t whole open_of u size node part new disk called stop s v after k in cc)
 came t whole open_of u depth node part new disk called stop met s v after (Err faults.Memory) e h k = absurd h
-came t whole open_of u depth node part new disk called stop true s v after (Err faults.Disk) e h k = came_cut t whole open_of u depth node part new disk called stop s v after (sym e) k
-came t whole open_of u depth node part new disk called stop false s v after (Err faults.Disk) e h k = came_fault t whole open_of u depth node part new disk called stop s v after (sym e) k
+came t whole open_of u depth node part new disk called stop true s v after (Err faults.Disk) e h k = came_cut t whole
+    open_of u depth node part new disk called stop s v after (sym e) k
+came t whole open_of u depth node part new disk called stop false s v after (Err faults.Disk) e h k = came_fault t whole
+    open_of u depth node part new disk called stop s v after (sym e) k
 came t whole open_of u depth node part new disk called stop met s v after (Err (faults.BadRecord at)) e h k = absurd k.row
 
 -- A CALL THAT WRITES NOTHING
@@ -333,7 +408,9 @@ resting : (disk : DiskState) → disk.armed ≡ 0 → disk.stopped ≡ false →
 resting disk a s = (λ i. record disk { stopped = sym s i; armed = sym a i })
 
 -- it touches no disk
-pub came_quiet : {S T : Type 0} (t : Tier) (whole : S → T) (open_of : S → ℕ) (u depth : ℕ) (node : NodeOf T Fact) (part new : NodePart S) (disk : DiskState) (s : S) (v : Move T) (after : List (End × List ℕ)) (answer : Result Answer NodeFault) → v.facts ≡ [] → HadMemory answer
+pub came_quiet : {S T : Type 0} (t : Tier) (whole : S → T) (open_of : S → ℕ) (u depth : ℕ) (node : NodeOf T Fact)
+    (part new : NodePart S) (disk : DiskState) (s : S) (v : Move T) (after : List (End × List ℕ))
+    (answer : Result Answer NodeFault) → v.facts ≡ [] → HadMemory answer
     → Call t whole open_of u node part new disk disk None s v after answer
     → Came t whole open_of u node new disk disk (unwritten node.records v.facts) Fine Fine false v after answer
 came_quiet t whole open_of u depth node part new disk s v after (Ok answer) e h k =
@@ -341,14 +418,18 @@ came_quiet t whole open_of u depth node part new disk s v after (Ok answer) e h 
     let dev = fate (config u depth) Fine node.records v.facts in
     record {
       is = subst (λ z. IsNode t whole open_of z new) (moved_well node dev v r.out.0) r.is;
-      on = subst (λ z. IsDiskOf (stands (Up v.state) (recorded node.records v.facts)) z) (resting disk k.on.rest.0 k.on.rest.1) (subst (λ z. IsDiskOf z (at_rest disk)) (moved_well node dev v r.out.0) r.on);
+      on = subst (λ z. IsDiskOf (stands (Up v.state) (recorded node.records v.facts)) z)
+          (resting disk k.on.rest.0 k.on.rest.1) (subst (λ z. IsDiskOf z (at_rest disk)) (moved_well node dev v r.out.0) r.on);
       sends = r.sends ∙ ap (map sealed) (sent_well dev v r.out.0);
       fit = subst AreFit (sent_well dev v r.out.0) r.fit;
       reach = subst (AllReach u) (sent_well dev v r.out.0) r.reach;
       out = (refl, r.out.1);
       how = record { fares = inl refl; can = refl; cause = λ f. absurd (cc); later = omega arith };
     }
-came_quiet t whole open_of u depth node part new disk s v after (Err (faults.JournalFull size)) e h k = absurd (let f : writes v.facts ≡ true = past_writes (part.place + 1) v.facts k.row.0 in let g : writes v.facts ≡ false = ap writes e in cc)
+came_quiet t whole open_of u depth node part new disk s v after (Err (faults.JournalFull size)) e h k = absurd
+    (let f : writes v.facts ≡ true = past_writes (part.place + 1) v.facts k.row.0 in let g : writes v.facts
+    ≡ false = ap writes e in cc)
 came_quiet t whole open_of u depth node part new disk s v after (Err faults.Memory) e h k = absurd h
-came_quiet t whole open_of u depth node part new disk s v after (Err faults.Disk) e h k = absurd (let f : writes v.facts ≡ true = k.wrote.0 in let g : writes v.facts ≡ false = ap writes e in cc)
+came_quiet t whole open_of u depth node part new disk s v after (Err faults.Disk) e h k = absurd (let f : writes v.facts
+    ≡ true = k.wrote.0 in let g : writes v.facts ≡ false = ap writes e in cc)
 came_quiet t whole open_of u depth node part new disk s v after (Err (faults.BadRecord at)) e h k = absurd k.row

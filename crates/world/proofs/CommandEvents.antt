@@ -39,8 +39,12 @@ becomes_by Offer n asked fared h = fares_is (λ f. events.Offer n f) asked fared
 
 -- WHAT HAPPENS
 
-pub happens_by : (u depth : ℕ) (w : BookingWorld) (n : NodeId) (command : Command) (fared : Fared) (nodes : Nodes) (disks : List DiskState) (after : List (End × List ℕ)) (told : List ℕ) → can_fare fared ≡ true → Commanded u depth w (world_by u depth w command fared n n.tier) nodes disks after (text_by u depth w command fared n n.tier) told
-    → Commanded u depth w (happens (config u depth) w (event_of command n fared)) nodes disks after (texts.own_text (config u depth) w (event_of command n fared)) told
+pub happens_by : (u depth : ℕ) (w : BookingWorld) (n : NodeId) (command : Command) (fared : Fared) (nodes : Nodes)
+    (disks : List DiskState) (after : List (End × List ℕ)) (told : List ℕ) → can_fare fared ≡ true
+    → Commanded u depth w (world_by u depth w command fared n n.tier) nodes disks after
+    (text_by u depth w command fared n n.tier) told
+    → Commanded u depth w (happens (config u depth) w (event_of command n fared)) nodes disks after
+    (texts.own_text (config u depth) w (event_of command n fared)) told
 happens_by u depth w n Lead fared nodes disks after told can k =
     if_can u depth w (worlds.leads (config u depth) w fared n.tier n.index) nodes disks after fared (texts.leads_text (config u depth) w fared n n.tier) told
     can k

@@ -1,5 +1,6 @@
 -- Commands at nodes: what they make of the world, and what they print.
-use Rattle.std.proofs.Common.{◌≡◌, ℕ, ◌+◌, ◌*◌, ◌<◌, ◌≤◌, Bool, true, false, List, [], ◌∷◌, refl, sym, ap, ◌∙◌, subst, arith, Option, Some, None, Result, Ok, Err}
+use Rattle.std.proofs.Common.{◌≡◌, ℕ, ◌+◌, ◌*◌, ◌<◌, ◌≤◌, Bool, true, false, List, [], ◌∷◌, refl, sym, ap, ◌∙◌, subst}
+use Rattle.std.proofs.Common.{arith, Option, Some, None, Result, Ok, Err}
 use Rattle.std.specs.Prelude.{map, nat_lt, slice_get, slice_set}
 use Rattle.std.proofs.lemmas.Bool.{cond-true, cond-false, lt-ltb}
 use Rattle.std.proofs.lemmas.List.{length-set}
@@ -102,31 +103,50 @@ past_same u depth records [] = refl
 past_same u depth records (f ∷ fs) = refl
 
 -- what the move prints is what the call told
-told_by : {T : Type 0} (u depth : ℕ) (n : NodeId) (records : List (List Fact)) (fared : Fared) (met : Bool) (tells : List ℕ → Answer → List ℕ) (told : Answer → List ℕ) (v : Move T) (result : Result Answer Fault) (whole : Result Answer Fault → List ℕ) → tells (texts.node_name n) v.answer ≡ told v.answer
-    → ((answer : Answer) → whole (Ok answer) ≡ told answer) → ((fault : Fault) → whole (Err fault) ≡ told_fault n met fault) → CameOut result met (is_well (fate (config u depth) fared records v.facts) v.facts) fared (is_past (journal_of records) v.facts) v
+told_by : {T : Type 0} (u depth : ℕ) (n : NodeId) (records : List (List Fact)) (fared : Fared) (met : Bool)
+    (tells : List ℕ → Answer → List ℕ) (told : Answer → List ℕ) (v : Move T) (result : Result Answer Fault)
+    (whole : Result Answer Fault → List ℕ) → tells (texts.node_name n) v.answer ≡ told v.answer
+    → ((answer : Answer) → whole (Ok answer) ≡ told answer)
+    → ((fault : Fault) → whole (Err fault) ≡ told_fault n met fault)
+    → CameOut result met (is_well (fate (config u depth) fared records v.facts) v.facts) fared
+    (is_past (journal_of records) v.facts) v
     → texts.moves_text (config u depth) n fared records tells v ≡ whole result
 told_by u depth n records fared met tells told v (Ok answer) whole t o f h =
-    cond-true (is_well (fate (config u depth) fared records v.facts) v.facts) (tells (texts.node_name n) v.answer) (texts.down_line (texts.node_name n) (texts.fault_text (worlds.is_past (config u depth) records v.facts) fared)) h.0
+    cond-true (is_well (fate (config u depth) fared records v.facts) v.facts) (tells (texts.node_name n) v.answer)
+    (texts.down_line (texts.node_name n) (texts.fault_text (worlds.is_past (config u depth) records v.facts) fared)) h.0
     ∙ t ∙ ap told (sym h.1) ∙ sym (o answer)
 told_by u depth n records fared met tells told v (Err (faults.JournalFull size)) whole t o f h =
-    cond-false (is_well (fate (config u depth) fared records v.facts) v.facts) (tells (texts.node_name n) v.answer) (texts.down_line (texts.node_name n) (texts.fault_text (worlds.is_past (config u depth) records v.facts) fared)) h.0
+    cond-false (is_well (fate (config u depth) fared records v.facts) v.facts) (tells (texts.node_name n) v.answer)
+    (texts.down_line (texts.node_name n) (texts.fault_text (worlds.is_past (config u depth) records v.facts) fared)) h.0
     ∙ ap (λ z. texts.down_line (texts.node_name n) (texts.fault_text z fared)) (past_same u depth records v.facts ∙ h.1) ∙ sym (f (faults.JournalFull size))
 told_by u depth n records fared met tells told v (Err faults.Memory) whole t o f h = absurd h
 told_by u depth n records fared true tells told v (Err faults.Disk) whole t o f h =
-    cond-false (is_well (fate (config u depth) fared records v.facts) v.facts) (tells (texts.node_name n) v.answer) (texts.down_line (texts.node_name n) (texts.fault_text (worlds.is_past (config u depth) records v.facts) fared)) h.0
-    ∙ ap (λ z. texts.down_line (texts.node_name n) (texts.fault_text z fared)) (past_same u depth records v.facts ∙ h.1) ∙ ap (texts.down_line (texts.node_name n)) h.2 ∙ sym (f faults.Disk)
+    cond-false (is_well (fate (config u depth) fared records v.facts) v.facts) (tells (texts.node_name n) v.answer)
+    (texts.down_line (texts.node_name n) (texts.fault_text (worlds.is_past (config u depth) records v.facts) fared)) h.0
+    ∙ ap (λ z. texts.down_line (texts.node_name n) (texts.fault_text z fared)) (past_same u depth records v.facts ∙ h.1)
+    ∙ ap (texts.down_line (texts.node_name n)) h.2 ∙ sym (f faults.Disk)
 told_by u depth n records fared false tells told v (Err faults.Disk) whole t o f h =
-    cond-false (is_well (fate (config u depth) fared records v.facts) v.facts) (tells (texts.node_name n) v.answer) (texts.down_line (texts.node_name n) (texts.fault_text (worlds.is_past (config u depth) records v.facts) fared)) h.0
-    ∙ ap (λ z. texts.down_line (texts.node_name n) (texts.fault_text z fared)) (past_same u depth records v.facts ∙ h.1) ∙ ap (texts.down_line (texts.node_name n)) h.2 ∙ sym (f faults.Disk)
+    cond-false (is_well (fate (config u depth) fared records v.facts) v.facts) (tells (texts.node_name n) v.answer)
+    (texts.down_line (texts.node_name n) (texts.fault_text (worlds.is_past (config u depth) records v.facts) fared)) h.0
+    ∙ ap (λ z. texts.down_line (texts.node_name n) (texts.fault_text z fared)) (past_same u depth records v.facts ∙ h.1)
+    ∙ ap (texts.down_line (texts.node_name n)) h.2 ∙ sym (f faults.Disk)
 told_by u depth n records fared met tells told v (Err (faults.BadRecord at)) whole t o f h = absurd h
 
-pub moves_told : {T : Type 0} (u depth : ℕ) (n : NodeId) (records : List (List Fact)) (fared : Fared) (met : Bool) (v : Move T) (result : Result Answer Fault) → NotRan v.answer → CameOut result met (is_well (fate (config u depth) fared records v.facts) v.facts) fared (is_past (journal_of records) v.facts) v
+pub moves_told : {T : Type 0} (u depth : ℕ) (n : NodeId) (records : List (List Fact)) (fared : Fared) (met : Bool)
+    (v : Move T) (result : Result Answer Fault) → NotRan v.answer
+    → CameOut result met (is_well (fate (config u depth) fared records v.facts) v.facts) fared
+    (is_past (journal_of records) v.facts) v
     → texts.moves_text (config u depth) n fared records texts.tells_command v ≡ told_command n met result
-moves_told u depth n records fared met v result k h = told_by u depth n records fared met texts.tells_command (told_command_turn n) v result (told_command n met) (tells_is n v.answer k) (λ a. refl) (λ f. refl) h
+moves_told u depth n records fared met v result k h = told_by u depth n records fared met texts.tells_command
+    (told_command_turn n) v result (told_command n met) (tells_is n v.answer k) (λ a. refl) (λ f. refl) h
 
-pub frames_told : {T : Type 0} (u depth : ℕ) (n : NodeId) (records : List (List Fact)) (fared : Fared) (met : Bool) (v : Move T) (result : Result Answer Fault) → CameOut result met (is_well (fate (config u depth) fared records v.facts) v.facts) fared (is_past (journal_of records) v.facts) v
+pub frames_told : {T : Type 0} (u depth : ℕ) (n : NodeId) (records : List (List Fact)) (fared : Fared) (met : Bool)
+    (v : Move T) (result : Result Answer Fault)
+    → CameOut result met (is_well (fate (config u depth) fared records v.facts) v.facts) fared
+    (is_past (journal_of records) v.facts) v
     → texts.moves_text (config u depth) n fared records texts.tells_frame v ≡ told_frame n met result
-frames_told u depth n records fared met v result h = told_by u depth n records fared met texts.tells_frame (told_frame_turn n) v result (told_frame n met) (frame_tells n v.answer) (λ a. refl) (λ f. refl) h
+frames_told u depth n records fared met v result h = told_by u depth n records fared met texts.tells_frame
+    (told_frame_turn n) v result (told_frame n met) (frame_tells n v.answer) (λ a. refl) (λ f. refl) h
 
 -- THE COMMANDS
 
@@ -135,7 +155,8 @@ log_not_ran None = tt
 log_not_ran (Some idle) = tt
 
 -- What a command comes to: packets, a world with new nodes on these disks, and a text.
-pub record Commanded (u depth : ℕ) (w new : BookingWorld) (nodes : Nodes) (disks : List DiskState) (after : List (End × List ℕ)) (text told : List ℕ) : Type 0 where
+pub record Commanded (u depth : ℕ) (w new : BookingWorld) (nodes : Nodes) (disks : List DiskState)
+    (after : List (End × List ℕ)) (text told : List ℕ) : Type 0 where
   pub packets : List Packet
   pub sends : after ≡ map sealed packets
   pub leads : Leads u depth w new nodes packets

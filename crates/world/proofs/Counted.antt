@@ -23,15 +23,23 @@ same_read o a b e f = let g : Some a ≡ Some b = sym e ∙ f in cc
 pub falls_none : (disks : List DiskState) → NoneFell disks disks
 falls_none disks = (refl, λ x a b e f. subst (λ (z : DiskState). a.faults ≤ z.faults) (same_read (slice_get disks x) a b e f) (omega arith))
 
-set_counts : (ds : List DiskState) (at : ℕ) (disk disk_after : DiskState) (x : ℕ) (a b : DiskState) → slice_get ds at ≡ Some disk → disk.faults ≤ disk_after.faults → slice_get ds x ≡ Some a → slice_get (slice_set ds at disk_after) x ≡ Some b → a.faults ≤ b.faults
+set_counts : (ds : List DiskState) (at : ℕ) (disk disk_after : DiskState) (x : ℕ) (a b : DiskState)
+    → slice_get ds at ≡ Some disk → disk.faults ≤ disk_after.faults → slice_get ds x ≡ Some a
+    → slice_get (slice_set ds at disk_after) x ≡ Some b → a.faults ≤ b.faults
 set_counts [] at disk disk_after x a b e l g h = absurd (cc)
-set_counts (d ∷ ds) zero disk disk_after zero a b e l g h = let p : disk ≡ a = cc in let q : disk_after ≡ b = cc in subst (λ (z : DiskState). z.faults ≤ b.faults) p (subst (λ (z : DiskState). disk.faults ≤ z.faults) q l)
+set_counts (d ∷ ds) zero disk disk_after zero a b e l g h = let p : disk ≡ a = cc in let q : disk_after
+    ≡ b = cc in subst (λ (z : DiskState). z.faults ≤ b.faults) p (subst (λ (z : DiskState). disk.faults ≤ z.faults) q l)
 set_counts (d ∷ ds) zero disk disk_after (suc x) a b e l g h = subst (λ (z : DiskState). a.faults ≤ z.faults) (same_read (slice_get ds x) a b g h) (omega arith)
 set_counts (d ∷ ds) (suc at) disk disk_after zero a b e l g h = let p : a ≡ b = cc in subst (λ (z : DiskState). a.faults ≤ z.faults) p (omega arith)
 set_counts (d ∷ ds) (suc at) disk disk_after (suc x) a b e l g h = set_counts ds at disk disk_after x a b e l g h
 
-pub falls_set : (disks disks_after : List DiskState) (at : ℕ) (disk disk_after : DiskState) → slice_get disks at ≡ Some disk → disks_after ≡ slice_set disks at disk_after → disk.faults ≤ disk_after.faults → NoneFell disks disks_after
-falls_set disks disks_after at disk disk_after e f l = subst (NoneFell disks) (sym f) (length-set disks at disk_after, λ x a b g h. set_counts disks at disk disk_after x a b e l g h)
+pub falls_set : (disks disks_after : List DiskState) (at : ℕ) (disk disk_after : DiskState)
+    → slice_get disks at ≡ Some disk → disks_after ≡ slice_set disks at disk_after → disk.faults ≤ disk_after.faults
+    → NoneFell disks disks_after
+falls_set disks disks_after at disk disk_after e f l = subst (NoneFell disks) (sym f) (
+  length-set disks at disk_after,
+  λ x a b g h. set_counts disks at disk disk_after x a b e l g h,
+)
 
 pub falls_then : (before mid after : List DiskState) → NoneFell before mid → NoneFell mid after → NoneFell before after
 falls_then before mid after h k = (
@@ -70,7 +78,8 @@ later_cause before mid after e k h = λ f. let c = h f in (c.0, c.1, later_rose 
 sooner_cause : (before mid after : List DiskState) (e : TraceEvent) → NoneFell before mid → HasCause start mid after e → HasCause start before after e
 sooner_cause before mid after e k h = λ f. let c = h f in (c.0, c.1, sooner_rose before mid after c.0 k c.2)
 
-pub all_caused : (before mid after : List DiskState) (es fs : List TraceEvent) → NoneFell before mid → NoneFell mid after → AllCaused before mid es → AllCaused mid after fs → AllCaused before after (es ++ fs)
+pub all_caused : (before mid after : List DiskState) (es fs : List TraceEvent) → NoneFell before mid
+    → NoneFell mid after → AllCaused before mid es → AllCaused mid after fs → AllCaused before after (es ++ fs)
 all_caused before mid after (e ∷ es) fs h k a b = (later_cause before mid after e k a.0, all_caused before mid after es fs h k a.1 b)
 all_caused before mid after [] fs h k a b = sooner fs b
   where
@@ -79,7 +88,8 @@ all_caused before mid after [] fs h k a b = sooner fs b
     sooner (f ∷ fs) b = (sooner_cause before mid after f h b.0, sooner fs b.1)
 
 -- a restart's cause is the same in every world
-pub restart_cause : (w : BookingWorld) (n : NodeId) (before after : List DiskState) (e : TraceEvent) → Becomes (Restart n (Reads 0)) e → HasCause w before after e → HasCause start before after e
+pub restart_cause : (w : BookingWorld) (n : NodeId) (before after : List DiskState) (e : TraceEvent)
+    → Becomes (Restart n (Reads 0)) e → HasCause w before after e → HasCause start before after e
 restart_cause w n before after (Restart m found) b h = h
 restart_cause w n before after (Submit y text) b h = λ f. absurd (cc)
 restart_cause w n before after (Deliver k Fine) b h = λ f. absurd (cc)

@@ -29,14 +29,22 @@ use Rattle.world.proofs.Present.{node_at, node_up, node_condition}
 
 -- A NODE THAT IS UP
 
-crashed_is : {S T : Type 0} (t : Tier) (whole : S → T) (open_of : S → ℕ) (node : NodeOf T Fact) (part : NodePart S) (disk : DiskState) (s : S) → IsNode t whole open_of node part → IsDiskOf node disk → part.mode ≡ Up s
+crashed_is : {S T : Type 0} (t : Tier) (whole : S → T) (open_of : S → ℕ) (node : NodeOf T Fact) (part : NodePart S)
+    (disk : DiskState) (s : S) → IsNode t whole open_of node part → IsDiskOf node disk → part.mode ≡ Up s
     → IsNode t whole open_of (crashed node node.mode) (goes_down part) × IsDiskOf (crashed node node.mode) disk × (node.mode ≡ Up (whole s))
 crashed_is {S} {T} t whole open_of node part disk s k d e =
     let p = up_placed t whole open_of node part s k e in
     let up : node.mode ≡ Up (whole s) = k.mode ∙ ap (mode_by whole) e in
     let is : crashed node node.mode ≡ stands Down node.records = ap (crashed node) up in (
-      subst (λ z. IsNode t whole open_of z (goes_down part)) (sym is) (down_node t whole open_of node.records [] (goes_down part) refl (λ f. p.0) (subst (λ b. IsDoubted b node.records []) (sym p.1) refl) (k.within.0, tt) (up_stand t whole open_of node part k)),
-      subst (λ z. IsDiskOf z disk) (sym is) (record { rest = d.rest; lists = subst (λ z. StandsFor (node.records ∷ z) disk) (sure_alone t whole open_of node part k p.1) d.lists; ready = tt }),
+      subst (λ z. IsNode t whole open_of z (goes_down part)) (sym is)
+          (down_node t whole open_of node.records [] (goes_down part) refl (λ f. p.0)
+          (subst (λ b. IsDoubted b node.records []) (sym p.1) refl) (k.within.0, tt) (up_stand t whole open_of node part k)),
+      subst (λ z. IsDiskOf z disk) (sym is)
+          (record {
+            rest = d.rest;
+            lists = subst (λ z. StandsFor (node.records ∷ z) disk) (sure_alone t whole open_of node part k p.1) d.lists;
+            ready = tt;
+          }),
       up,
     )
 

@@ -1,5 +1,6 @@
 -- A call at a node is the node's event in the world, on the node's disk.
-use Rattle.std.proofs.Common.{◌≡◌, ℕ, ◌+◌, ◌*◌, ◌<◌, Bool, true, false, List, [], ◌∷◌, refl, sym, ap, ◌∙◌, subst, inl, inr, arith, Option, Some, None, Result, zero, suc}
+use Rattle.std.proofs.Common.{◌≡◌, ℕ, ◌+◌, ◌*◌, ◌<◌, Bool, true, false, List, [], ◌∷◌, refl, sym, ap, ◌∙◌, subst, inl}
+use Rattle.std.proofs.Common.{inr, arith, Option, Some, None, Result, zero, suc}
 use Rattle.world.proofs.Passing.{passes}
 use Rattle.std.specs.Prelude.{slice_get, slice_set, map, ◌==◌, ◌⊎◌}
 use Rattle.std.proofs.lemmas.Bool.{cond-true, cond-false, eq-eqb, ne_eqb}
@@ -29,7 +30,8 @@ use Rattle.world.specs.Arming.{CanStop, asked_of, armed_with, fared_by, at_rest}
 use Rattle.world.specs.Calling.{IsSureIf, Called}
 use Rattle.world.specs.Disks.{IsDiskOf, AreDisksOf}
 use Rattle.run_model.specs.Resolving as resolving
-use Rattle.world.specs.Parts.{NodePart, View, PartOf, Shape, shape, mid_shape, back_shape, open_in, Moves, IsSameView, is_up, is_sure_now, view_with, sealed, AreFit, AllReach}
+use Rattle.world.specs.Parts.{NodePart, View, PartOf, Shape, shape, mid_shape, back_shape, open_in, Moves, IsSameView}
+use Rattle.world.specs.Parts.{is_up, is_sure_now, view_with, sealed, AreFit, AllReach}
 use Rattle.world.specs.NodeLists.{depth_at, views, view_up, RowOf, ListMoves, KeepsElse}
 use Rattle.world.specs.Telling.{HadMemory}
 use Rattle.world.specs.Standing.{mode_by, journal_of, state_at, IsNode, IsAt, AreAll}
@@ -39,7 +41,8 @@ use Rattle.world.proofs.Coming.{came, came_quiet}
 
 -- ONE OF ALL
 
-get_set : {A : Type 0} (xs : List A) (x y : ℕ) (a v : A) → slice_get (slice_set xs x a) y ≡ Some v → ((y ≡ x) × (a ≡ v)) ⊎ (((y ≡ x) → ⊥) × (slice_get xs y ≡ Some v))
+get_set : {A : Type 0} (xs : List A) (x y : ℕ) (a v : A) → slice_get (slice_set xs x a) y ≡ Some v → ((y ≡ x) × (a ≡ v))
+    ⊎ (((y ≡ x) → ⊥) × (slice_get xs y ≡ Some v))
 get_set [] x y a v e = absurd (cc)
 get_set (b ∷ xs) zero zero a v e = inl (refl, cc)
 get_set (b ∷ xs) zero (suc y) a v e = inr ((λ f. absurd (omega arith)), e)
@@ -61,33 +64,44 @@ set_again (y ∷ xs) zero a b = refl
 set_again (y ∷ xs) (suc x) a b = ap (λ z. y ∷ z) (set_again xs x a b)
 
 -- one of them is another now
-pub set_one : {N V : Type 0} (n : ℕ) (Is : ℕ → N → V → Type 0) (nodes : ℕ → N) (vs : List V) (x : ℕ) (node : N) (v : V) → AreAll n Is nodes vs → Is x node v → AreAll n Is (put nodes x node) (slice_set vs x v)
+pub set_one : {N V : Type 0} (n : ℕ) (Is : ℕ → N → V → Type 0) (nodes : ℕ → N) (vs : List V) (x : ℕ) (node : N) (v : V)
+    → AreAll n Is nodes vs → Is x node v → AreAll n Is (put nodes x node) (slice_set vs x v)
 set_one {N} {V} n Is nodes vs x node v k h = record { size = length-set vs x v ∙ k.size; each = λ y u e. at y u (get_set vs x y v u e) }
   where
     at : (y : ℕ) (u : V) → ((y ≡ x) × (v ≡ u)) ⊎ (((y ≡ x) → ⊥) × (slice_get vs y ≡ Some u)) → Is y (put nodes x node y) u
-    at y u (inl e) = subst (λ z. Is y z u) (sym (cond-true (y == x) node (nodes y) (eq-eqb y x e.0))) (subst (λ z. Is z node u) (sym e.0) (subst (λ z. Is x node z) e.1 h))
+    at y u (inl e) = subst (λ z. Is y z u) (sym (cond-true (y == x) node (nodes y) (eq-eqb y x e.0)))
+        (subst (λ z. Is z node u) (sym e.0) (subst (λ z. Is x node z) e.1 h))
     at y u (inr e) = subst (λ z. Is y z u) (sym (cond-false (y == x) node (nodes y) (ne_eqb y x e.0))) (k.each y u e.1)
 
 -- and so is its disk
-pub set_disk : {S : Type 0} (nodes : ℕ → NodeOf S Fact) (first x : ℕ) (node : NodeOf S Fact) (disks : List DiskState) (disk : DiskState) → AreDisksOf nodes first disks → IsDiskOf node disk → AreDisksOf (put nodes x node) first (slice_set disks (first + x) disk)
+pub set_disk : {S : Type 0} (nodes : ℕ → NodeOf S Fact) (first x : ℕ) (node : NodeOf S Fact) (disks : List DiskState)
+    (disk : DiskState) → AreDisksOf nodes first disks → IsDiskOf node disk
+    → AreDisksOf (put nodes x node) first (slice_set disks (first + x) disk)
 set_disk {S} nodes first x node disks disk k h = λ y b l e. at y b l (get_set disks (first + x) (first + y) disk b e)
   where
-    at : (y : ℕ) (b : DiskState) → y < 5 → ((first + y ≡ first + x) × (disk ≡ b)) ⊎ (((first + y ≡ first + x) → ⊥) × (slice_get disks (first + y) ≡ Some b)) → IsDiskOf (put nodes x node y) b
-    at y b l (inl e) = let f : y ≡ x = let g = e.0 in omega (arith, g) in subst (λ z. IsDiskOf z b) (sym (cond-true (y == x) node (nodes y) (eq-eqb y x f))) (subst (IsDiskOf node) e.1 h)
+    at : (y : ℕ) (b : DiskState) → y < 5 → ((first + y ≡ first + x) × (disk ≡ b))
+        ⊎ (((first + y ≡ first + x) → ⊥) × (slice_get disks (first + y) ≡ Some b)) → IsDiskOf (put nodes x node y) b
+    at y b l (inl e) = let f : y
+        ≡ x = let g = e.0 in omega (arith, g) in subst (λ z. IsDiskOf z b)
+        (sym (cond-true (y == x) node (nodes y) (eq-eqb y x f))) (subst (IsDiskOf node) e.1 h)
     at y b l (inr e) = subst (λ z. IsDiskOf z b) (sym (cond-false (y == x) node (nodes y) (ne_eqb y x (λ f. e.0 (ap (λ z. first + z) f))))) (k y b l e.1)
 
 -- the disks of other tiers stay
-pub else_disk : {S : Type 0} (nodes : ℕ → NodeOf S Fact) (first at : ℕ) (disks : List DiskState) (disk : DiskState) → ((x : ℕ) → x < 5 → first + x ≡ at → ⊥) → AreDisksOf nodes first disks → AreDisksOf nodes first (slice_set disks at disk)
+pub else_disk : {S : Type 0} (nodes : ℕ → NodeOf S Fact) (first at : ℕ) (disks : List DiskState) (disk : DiskState)
+    → ((x : ℕ) → x < 5 → first + x ≡ at → ⊥) → AreDisksOf nodes first disks → AreDisksOf nodes first (slice_set disks at disk)
 else_disk {S} nodes first at disks disk h k = λ y b l e. go y b l (get_set disks at (first + y) disk b e)
   where
-    go : (y : ℕ) (b : DiskState) → y < 5 → ((first + y ≡ at) × (disk ≡ b)) ⊎ (((first + y ≡ at) → ⊥) × (slice_get disks (first + y) ≡ Some b)) → IsDiskOf (nodes y) b
+    go : (y : ℕ) (b : DiskState) → y < 5 → ((first + y ≡ at) × (disk ≡ b))
+        ⊎ (((first + y ≡ at) → ⊥) × (slice_get disks (first + y) ≡ Some b)) → IsDiskOf (nodes y) b
     go y b l (inl e) = absurd (h y l e.0)
     go y b l (inr e) = k y b l e.1
 
 -- WHAT BECAME OF A CALL
 
 -- A node is up, makes the move as the device fares, and sends what it sends.
-pub record Done {T V : Type 0} (n x u : ℕ) (Is : ℕ → NodeOf T Fact → V → Type 0) (nodes : ℕ → NodeOf T Fact) (new : List V) (disk_before disk_after : DiskState) (after : List (End × List ℕ)) (d : Fate) (asked fared : Fared) (met : Bool) (row : T → Move T) (result : Result Answer Fault) : Type 0 where
+pub record Done {T V : Type 0} (n x u : ℕ) (Is : ℕ → NodeOf T Fact → V → Type 0) (nodes : ℕ
+    → NodeOf T Fact) (new : List V) (disk_before disk_after : DiskState) (after : List (End × List ℕ)) (d : Fate)
+    (asked fared : Fared) (met : Bool) (row : T → Move T) (result : Result Answer Fault) : Type 0 where
   pub state : T
   pub up : (nodes x).mode ≡ Up state
   pub all : AreAll n Is (put nodes x (moved_by (nodes x) (d (nodes x).records (row state).facts) (row state))) new
@@ -95,7 +109,8 @@ pub record Done {T V : Type 0} (n x u : ℕ) (Is : ℕ → NodeOf T Fact → V �
   pub sends : after ≡ map sealed (sent_by (d (nodes x).records (row state).facts) (row state))
   pub fit : AreFit (sent_by (d (nodes x).records (row state).facts) (row state))
   pub reach : AllReach u (sent_by (d (nodes x).records (row state).facts) (row state))
-  pub out : CameOut result met (is_well (d (nodes x).records (row state).facts) (row state).facts) fared (is_past (journal_of (nodes x).records) (row state).facts) (row state)
+  pub out : CameOut result met (is_well (d (nodes x).records (row state).facts) (row state).facts) fared
+      (is_past (journal_of (nodes x).records) (row state).facts) (row state)
   pub how : Faring asked fared disk_before disk_after
 
 pub up_state : {S : Type 0} (part : NodePart S) → is_up part ≡ true → (s : S) × (part.mode ≡ Up s)
@@ -107,14 +122,19 @@ up_state {S} part e = go part.mode refl e
     go Gone f e = absurd (cc)
 
 -- one call, whatever the tier
-done : {S T V : Type 0} (n x u : ℕ) (t : Tier) (Is : ℕ → NodeOf T Fact → V → Type 0) (nodes : ℕ → NodeOf T Fact) (vs : List V) (v : V) (whole : S → T) (open_of : S → ℕ) (part new : NodePart S) (s : S) (disk_before disk_after : DiskState) (after : List (End × List ℕ)) (d : Fate) (asked fared : Fared) (met : Bool) (row : T → Move T) (result : Result Answer Fault)
-    → AreAll n Is nodes vs → IsNode t whole open_of (nodes x) part → part.mode ≡ Up s → ((node : NodeOf T Fact) → IsNode t whole open_of node (sure_if met new) → Is x node v)
+done : {S T V : Type 0} (n x u : ℕ) (t : Tier) (Is : ℕ → NodeOf T Fact → V → Type 0) (nodes : ℕ
+    → NodeOf T Fact) (vs : List V) (v : V) (whole : S → T) (open_of : S → ℕ) (part new : NodePart S) (s : S)
+    (disk_before disk_after : DiskState) (after : List (End × List ℕ)) (d : Fate) (asked fared : Fared) (met : Bool)
+    (row : T → Move T) (result : Result Answer Fault)
+    → AreAll n Is nodes vs → IsNode t whole open_of (nodes x) part → part.mode ≡ Up s
+    → ((node : NodeOf T Fact) → IsNode t whole open_of node (sure_if met new) → Is x node v)
     → Came t whole open_of u (nodes x) new disk_before disk_after (d (nodes x).records (row (whole s)).facts) asked fared met (row (whole s)) after result
     → Done n x u Is nodes (slice_set vs x v) disk_before disk_after after d asked fared met row result
 done n x u t Is nodes vs v whole open_of part new s disk_before disk_after after d asked fared met row result k i m is c = record {
   state = whole s;
   up = i.mode ∙ ap (mode_by whole) m;
-  all = set_one n Is nodes vs x (moved_by (nodes x) (d (nodes x).records (row (whole s)).facts) (row (whole s))) v k (is (moved_by (nodes x) (d (nodes x).records (row (whole s)).facts) (row (whole s))) c.is);
+  all = set_one n Is nodes vs x (moved_by (nodes x) (d (nodes x).records (row (whole s)).facts) (row (whole s))) v k
+      (is (moved_by (nodes x) (d (nodes x).records (row (whole s)).facts) (row (whole s))) c.is);
   on = c.on;
   sends = c.sends;
   fit = c.fit;

@@ -22,22 +22,32 @@ within_after p (Err stops.Limit) s = tt
 within_after p (Err stops.Memory) s = tt
 
 -- want of memory says nothing
-memory_says_nothing : (old new : Run) (disks_before disks_after : List DiskState) (before now : List ℕ) (line : Event) (place : Place) (due : Option TraceEvent) → AppliesBy old new disks_before disks_after before now line place due (Err stops.Memory)
+memory_says_nothing : (old new : Run) (disks_before disks_after : List DiskState) (before now : List ℕ) (line : Event)
+    (place : Place) (due : Option TraceEvent)
+    → AppliesBy old new disks_before disks_after before now line place due (Err stops.Memory)
 memory_says_nothing old new disks_before disks_after before now line place None = tt
 memory_says_nothing old new disks_before disks_after before now line place (Some due) = tt
 
 -- what a world that has ended answers
-pub applies_ended : (old new : Run) (disks_before disks_after : List DiskState) (before now : List ℕ) (line : Event) → Applies old new disks_before disks_after before now line (Err stops.Memory)
-applies_ended old new disks_before disks_after before now line = memory_says_nothing old new disks_before disks_after before now line (turn_of old line).place (turn_of old line).event
+pub applies_ended : (old new : Run) (disks_before disks_after : List DiskState) (before now : List ℕ) (line : Event)
+    → Applies old new disks_before disks_after before now line (Err stops.Memory)
+applies_ended old new disks_before disks_after before now line = memory_says_nothing old new disks_before disks_after
+    before now line (turn_of old line).place (turn_of old line).event
 
 -- what a world that goes on answers, which has ended then exactly where memory was wanted
-pub applies_in : (r : Run) (p q : Progress) (ended : Bool) (disks_before disks_after : List DiskState) (before now : List ℕ) (line : Event) (answer : Result Bool Stop) → r ≡ run_of p → (IsTrue ended → answer ≡ Err stops.Memory)
-    → Applies (run_of p) (run_of q) disks_before disks_after before now line answer → Applies r (run_with ended q) disks_before disks_after before now line answer
-applies_in r p q true disks_before disks_after before now line answer v ends a = let P : Result Bool Stop → Type 0 = λ z. Applies r (run_with true q) disks_before disks_after before now line z in subst P (sym (ends (search rules))) (applies_ended r (run_with true q) disks_before disks_after before now line)
-applies_in r p q false disks_before disks_after before now line answer v ends a = let P : Run → Type 0 = λ z. Applies z (run_of q) disks_before disks_after before now line answer in subst P (sym v) a
+pub applies_in : (r : Run) (p q : Progress) (ended : Bool) (disks_before disks_after : List DiskState)
+    (before now : List ℕ) (line : Event) (answer : Result Bool Stop) → r ≡ run_of p → (IsTrue ended → answer ≡ Err stops.Memory)
+    → Applies (run_of p) (run_of q) disks_before disks_after before now line answer
+    → Applies r (run_with ended q) disks_before disks_after before now line answer
+applies_in r p q true disks_before disks_after before now line answer v ends a = let P : Result Bool Stop
+    → Type 0 = λ z. Applies r (run_with true q) disks_before disks_after before now line z in subst P
+    (sym (ends (search rules))) (applies_ended r (run_with true q) disks_before disks_after before now line)
+applies_in r p q false disks_before disks_after before now line answer v ends a = let P : Run
+    → Type 0 = λ z. Applies z (run_of q) disks_before disks_after before now line answer in subst P (sym v) a
 
 -- one that goes on has come further, whether it has ended now
-pub further_in : (r : Run) (p q : Progress) (ended : Bool) (answer : Result Bool Stop) → r ≡ run_of p → ComesFurther (run_of p) (run_of q) answer → ComesFurther r (run_with ended q) answer
+pub further_in : (r : Run) (p q : Progress) (ended : Bool) (answer : Result Bool Stop) → r ≡ run_of p
+    → ComesFurther (run_of p) (run_of q) answer → ComesFurther r (run_with ended q) answer
 further_in r p q ended answer v f = let P : Run → Type 0 = λ z. ComesFurther z (run_with ended q) answer in subst P (sym v) (come answer f)
   where
     come : (answer : Result Bool Stop) → ComesFurther (run_of p) (run_of q) answer → ComesFurther (run_of p) (run_with ended q) answer
@@ -47,8 +57,11 @@ further_in r p q ended answer v f = let P : Run → Type 0 = λ z. ComesFurther 
 
 -- STARTING
 
-pub starts_in : (r : Run) (p q : Progress) (ended : Bool) (disks_before disks_after : List DiskState) (before now : List ℕ) (answer : Result (Unit {0}) Memory) → r ≡ run_of p → (IsTrue ended → IsErr answer)
-    → OnOk answer (Starts (run_of p) (run_of q) disks_before disks_after before now) → OnOk answer (Starts r (run_with ended q) disks_before disks_after before now)
+pub starts_in : (r : Run) (p q : Progress) (ended : Bool) (disks_before disks_after : List DiskState)
+    (before now : List ℕ) (answer : Result (Unit {0}) Memory) → r ≡ run_of p → (IsTrue ended → IsErr answer)
+    → OnOk answer (Starts (run_of p) (run_of q) disks_before disks_after before now)
+    → OnOk answer (Starts r (run_with ended q) disks_before disks_after before now)
 starts_in r p q true disks_before disks_after before now (Ok done) v ends s = let wrong : false ≡ true = ends (search rules) in absurd (cc)
-starts_in r p q false disks_before disks_after before now (Ok done) v ends s = let P : Run → Type 0 = λ z. Starts z (run_of q) disks_before disks_after before now in subst P (sym v) s
+starts_in r p q false disks_before disks_after before now (Ok done) v ends s = let P : Run
+    → Type 0 = λ z. Starts z (run_of q) disks_before disks_after before now in subst P (sym v) s
 starts_in r p q ended disks_before disks_after before now (Err wants) v ends s = tt

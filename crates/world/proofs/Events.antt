@@ -52,9 +52,14 @@ pub record Ended (old new : Parts) (nodes : Nodes) (packets : List (End × List 
   pub within : length new.soup ≤ PACKETS
   pub watch : new.watch ≡ all_grown (hears_packets old.watch packets)
 
-pub ends : (u depth : ℕ) (w w1 : BookingWorld) (old new : Parts) (nodes : Nodes) (ks : List Packet) → Shows u depth w old → Leads u depth w w1 nodes ks → Ended old new nodes (map sealed ks) → AreAll 17 IsClientEnd w1.clients new.clients.items
+pub ends : (u depth : ℕ) (w w1 : BookingWorld) (old new : Parts) (nodes : Nodes) (ks : List Packet)
+    → Shows u depth w old → Leads u depth w w1 nodes ks → Ended old new nodes (map sealed ks)
+    → AreAll 17 IsClientEnd w1.clients new.clients.items
     → Shows u depth (grows (config u depth) w1) new × (growth_text w (grows (config u depth) w1) ≡ [])
-ends u depth w w1 old new nodes ks s l e clients = (subst (λ z. Shows u depth z new) (sym g.1) shown, growth_is_silent (config u depth) w w1 carried l.logs l.hist)
+ends u depth w w1 old new nodes ks s l e clients = (
+  subst (λ z. Shows u depth z new) (sym g.1) shown,
+  growth_is_silent (config u depth) w w1 carried l.logs l.hist,
+)
   where
     reach : AllReach u w1.soup
     reach = subst (AllReach u) (sym l.soup) (reach-append u w.soup ks s.reach l.reach)
@@ -66,7 +71,8 @@ ends u depth w w1 old new nodes ks s l e clients = (subst (λ z. Shows u depth z
     g = grown_is (config u depth) w1 carried
 
     watch : new.watch ≡ seen_in (config u depth) (grows (config u depth) w1)
-    watch = e.watch ∙ ap (λ z. all_grown (hears_packets z (map sealed ks))) s.watch ∙ ap all_grown (heard_in (config u depth) w w1 ks l.fit l.soup l.logs) ∙ watch_grows (config u depth) w1 carried
+    watch = e.watch ∙ ap (λ z. all_grown (hears_packets z (map sealed ks))) s.watch
+        ∙ ap all_grown (heard_in (config u depth) w w1 ks l.fit l.soup l.logs) ∙ watch_grows (config u depth) w1 carried
 
     shown : Shows u depth (record w1 { logs = g.0 }) new
     shown = record {

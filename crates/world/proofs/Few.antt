@@ -13,7 +13,9 @@ use Rattle.log_model.specs.declared.message.PaxMsg.TheVariants.{Prepare, Promise
 use Rattle.log_model.specs.declared.turn.LogIdle.{LogIdle}
 use Rattle.log_model.specs.declared.turn.LogIdle.TheVariants.{BallotSpent, Stale, Behind as IsBehind, Nothing}
 use Rattle.log_model.specs.Log.{Leader, LogState, Turn, open_at, idles, stays, says, seen_at, count_below, to_each, nobody, is, is_at, is_from, with_ballot}
-use Rattle.log_model.specs.Rows.{tells, tell, next_ballot, leads, lead, promises, joins, on_prepare, on_promise, promised_by, to_offer, offers, offer_as, offer, accepts, says_again, on_accept, learned_turn, notes, on_accepted, on_learn, on_ask, on_msg}
+use Rattle.log_model.specs.Rows.{tells, tell, next_ballot, leads, lead, promises, joins, on_prepare, on_promise}
+use Rattle.log_model.specs.Rows.{promised_by, to_offer, offers, offer_as, offer, accepts, says_again, on_accept}
+use Rattle.log_model.specs.Rows.{learned_turn, notes, on_accepted, on_learn, on_ask, on_msg}
 use Rattle.log_model.proofs.Ranged.{length_push}
 use Rattle.log_values.specs.declared.any_value.AnyValue.{AnyValue}
 use Rattle.round_model.specs.Lists.{each}
@@ -26,13 +28,15 @@ use Rattle.log_model.proofs.Basics.{between}
 pub each_few : {A : Type 0} (n : ℕ) (skip : ℕ → Bool) (f : ℕ → A) → length (each n skip f) ≤ n
 each_few zero skip f = omega arith
 each_few {A} (suc n) skip f =
-    let last : length (cond {A = List A} (skip n) [] (f n ∷ [])) ≤ 1 = cond_both {A = List A} (skip n) [] (f n ∷ []) (λ z. length z ≤ 1) (λ e. omega arith) (λ e. omega arith) in
+    let last : length (cond {A = List A} (skip n) [] (f n ∷ [])) ≤ 1 = cond_both {A = List A} (skip n) [] (f n ∷ [])
+    (λ z. length z ≤ 1) (λ e. omega arith) (λ e. omega arith) in
     omega (arith, length-append (each n skip f) (cond {A = List A} (skip n) [] (f n ∷ [])), each_few n skip f)
 
 to_each_few : {V : Type 0} (n : ℕ) (skip : ℕ → Bool) (m : PaxMsg V) → length (to_each n skip m) ≤ n
 to_each_few zero skip m = omega arith
 to_each_few {V} (suc n) skip m =
-    let last : length (cond {A = List (ℕ × PaxMsg V)} (skip n) [] ((n, m) ∷ [])) ≤ 1 = cond_both {A = List (ℕ × PaxMsg V)} (skip n) [] ((n, m) ∷ []) (λ z. length z ≤ 1) (λ e. omega arith) (λ e. omega arith) in
+    let last : length (cond {A = List (ℕ × PaxMsg V)} (skip n) [] ((n, m) ∷ [])) ≤ 1 = cond_both
+    {A = List (ℕ × PaxMsg V)} (skip n) [] ((n, m) ∷ []) (λ z. length z ≤ 1) (λ e. omega arith) (λ e. omega arith) in
     omega (arith, length-append (to_each n skip m) (cond {A = List (ℕ × PaxMsg V)} (skip n) [] ((n, m) ∷ [])), to_each_few n skip m)
 
 -- TURNS
@@ -91,9 +95,11 @@ promises_few u log s b p = record { most = omega arith; written = refl }
 prepare_few : {V : Type 0} (u : ℕ) (log : LogState V) (s : ℕ) (b : Ballot) (p : ℕ) → IsFew u log (on_prepare log s b p)
 prepare_few u log s b p = either u log _ _ _ (tell_few u log s p) (either u log _ _ _ (idle_few u log (Stale log.promised)) (promises_few u log s b p))
 
-promise_few : {V : Type 0} (u : ℕ) (log : LogState V) (o : Option (Leader V)) (s : ℕ) (b : Ballot) (p : ℕ) (a : Option (Ballot × V)) → IsFew u log (on_promise log o s b p a)
+promise_few : {V : Type 0} (u : ℕ) (log : LogState V) (o : Option (Leader V)) (s : ℕ) (b : Ballot) (p : ℕ)
+    (a : Option (Ballot × V)) → IsFew u log (on_promise log o s b p a)
 promise_few u log None s b p a = idle_few u log Nothing
-promise_few u log (Some l) s b p a = either u log _ (joins log l s p a) (idles log Nothing) (record { most = omega arith; written = refl }) (idle_few u log Nothing)
+promise_few u log (Some l) s b p a = either u log _ (joins log l s p a) (idles log Nothing)
+    (record { most = omega arith; written = refl }) (idle_few u log Nothing)
 
 again_few : {V : Type 0} (u : ℕ) (b : Ballot) (p : ℕ) (o : Option (Ballot × V)) → length (says_again u b p o) ≤ 4 * u + 2
 again_few u b p None = omega arith
@@ -110,7 +116,8 @@ accept_few u log s b p v =
     either u log _ _ _ (tell_few u log s p) (either u log _ _ _ (behind_few u log s (open_at log)) (either u log _ _ _ (idle_few u log (Stale log.promised))
     (either u log _ _ _ (says_few u log (says_again u b p log.accepted) (again_few u b p log.accepted)) (accepts_few u log b p v))))
 
-learned_few : {V : Type 0} (u : ℕ) (log : LogState V) (p : ℕ) (v : V) (sends : List (ℕ × PaxMsg V)) → length sends ≤ 1 → p ≡ open_at log → IsFew u log (learned_turn log p v sends)
+learned_few : {V : Type 0} (u : ℕ) (log : LogState V) (p : ℕ) (v : V) (sends : List (ℕ × PaxMsg V)) → length sends ≤ 1
+    → p ≡ open_at log → IsFew u log (learned_turn log p v sends)
 learned_few u log p v sends l e = record { most = omega (arith, l); written = (e, omega (arith, length_push log.learned v)) }
 
 notes_few : {V : Type 0} (u : ℕ) (log : LogState V) (s : ℕ) (b : Ballot) → IsFew u log (notes log s b)
@@ -118,12 +125,16 @@ notes_few u log s b = record { most = omega arith; written = refl }
 
 accepted_few : {V : Type 0} (u : ℕ) (log : LogState V) (s : ℕ) (b : Ballot) (p : ℕ) (v : V) → IsFew u log (on_accepted u log s b p v)
 accepted_few u log s b p v =
-    or_else u log (nat_lt p (open_at log)) _ _ (idle_few u log Nothing) (λ e. or_else u log (nat_lt (open_at log) p) _ _ (idle_few u log (IsBehind (open_at log))) (λ f. either u log (is_from b (seen_at log.seen s)) _ _ (idle_few u log Nothing)
-    (either u log (nat_lt u (count_below (2 * u + 1) (with_ballot log.seen s b))) _ _ (learned_few u log p v [] (omega arith) (between p (open_at log) e f)) (notes_few u log s b))))
+    or_else u log (nat_lt p (open_at log)) _ _ (idle_few u log Nothing)
+    (λ e. or_else u log (nat_lt (open_at log) p) _ _ (idle_few u log (IsBehind (open_at log)))
+    (λ f. either u log (is_from b (seen_at log.seen s)) _ _ (idle_few u log Nothing)
+    (either u log (nat_lt u (count_below (2 * u + 1) (with_ballot log.seen s b))) _ _
+    (learned_few u log p v [] (omega arith) (between p (open_at log) e f)) (notes_few u log s b))))
 
 learn_few : {V : Type 0} (u : ℕ) (log : LogState V) (s p : ℕ) (v : V) → IsFew u log (on_learn log s p v)
 learn_few u log s p v =
-    or_else u log (nat_lt p (open_at log)) _ _ (idle_few u log Nothing) (λ e. or_else u log (nat_lt (open_at log) p) _ _ (idle_few u log (IsBehind (open_at log)))
+    or_else u log (nat_lt p (open_at log)) _ _ (idle_few u log Nothing)
+    (λ e. or_else u log (nat_lt (open_at log) p) _ _ (idle_few u log (IsBehind (open_at log)))
     (λ f. learned_few u log p v ((s, Ask (p + 1)) ∷ []) (omega arith) (between p (open_at log) e f)))
 
 pub msg_few : {V : Type 0} (u : ℕ) (log : LogState V) (s : ℕ) (m : PaxMsg V) → IsFew u log (on_msg u log s m)
@@ -146,13 +157,21 @@ lead_few u x log = either u log _ _ _ (idle_few u log BallotSpent) (leads_few u 
 offers_few : {V : Type 0} (u x : ℕ) (log : LogState V) (l : Leader V) (o : Option V) → IsFew u log (offers u x log l o)
 offers_few u x log l None = stay_few u log
 offers_few u x log l (Some v) = record {
-  most = omega (arith, length-append (to_each (2 * u + 1) (is x) (Accept l.ballot (open_at log) v)) (to_each (2 * u + 1) nobody (Accepted l.ballot (open_at log) v)), to_each_few (2 * u + 1) (is x) (Accept l.ballot (open_at log) v), to_each_few (2 * u + 1) nobody (Accepted l.ballot (open_at log) v));
+  most = omega (
+    arith,
+    length-append (to_each (2 * u + 1) (is x) (Accept l.ballot (open_at log) v))
+        (to_each (2 * u + 1) nobody (Accepted l.ballot (open_at log) v)),
+    to_each_few (2 * u + 1) (is x) (Accept l.ballot (open_at log) v),
+    to_each_few (2 * u + 1) nobody (Accepted l.ballot (open_at log) v),
+  );
   written = refl;
 }
 
 offer_as_few : {V : Type 0} (u x : ℕ) (log : LogState V) (o : Option (Leader V)) (own : Option V) → IsFew u log (offer_as u x log o own)
 offer_as_few u x log None own = stay_few u log
-offer_as_few u x log (Some l) own = either u log (nat_le (promised_by u l) u) _ _ (stay_few u log) (either u log (open_at log == POSITIONS) _ _ (stay_few u log) (either u log (is_at l.last (open_at log)) _ _ (stay_few u log) (offers_few u x log l (to_offer (open_at log) l own))))
+offer_as_few u x log (Some l) own = either u log (nat_le (promised_by u l) u) _ _ (stay_few u log)
+    (either u log (open_at log == POSITIONS) _ _ (stay_few u log)
+    (either u log (is_at l.last (open_at log)) _ _ (stay_few u log) (offers_few u x log l (to_offer (open_at log) l own))))
 
 pub offer_few : {V : Type 0} (u x : ℕ) (log : LogState V) (own : Option V) → IsFew u log (offer u x log own)
 offer_few u x log own = offer_as_few u x log log.leader own

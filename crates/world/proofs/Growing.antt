@@ -1,5 +1,6 @@
 -- What the chosen logs gain where the middle log carries batches alone and the others carry nothing.
-use Rattle.std.proofs.Common.{◌≡◌, ℕ, ◌+◌, ◌*◌, Bool, true, false, cond, List, [], ◌∷◌, ◌++◌, refl, sym, ap, ◌∙◌, subst, length, drop, append-nil, Option, Some, None, length-append}
+use Rattle.std.proofs.Common.{◌≡◌, ℕ, ◌+◌, ◌*◌, Bool, true, false, cond, List, [], ◌∷◌, ◌++◌, refl, sym, ap, ◌∙◌, subst}
+use Rattle.std.proofs.Common.{length, drop, append-nil, Option, Some, None, length-append}
 use Rattle.std.proofs.Math.Seq.{drop-append_seam, drop-length}
 use Rattle.std.specs.Prelude.{◌==◌, ◌&&◌}
 use Rattle.aeg_base.specs.declared.names.Tier.{Tier}
@@ -43,7 +44,8 @@ VotesAre Q (Behind p) = Unit {0}
 abbrev pub AllVotes : (AnyValue → Type 0) → List (LogPacket AnyValue) → Type 0
 AllVotes Q ks = Every (λ k. VotesAre Q k.msg) ks
 
-reached_value : (Q : AnyValue → Type 0) (u : ℕ) (soup : List (LogPacket AnyValue)) (p : ℕ) (m : PaxMsg AnyValue) (v : AnyValue) → VotesAre Q m → reached_by u soup p m ≡ Some v → Q v
+reached_value : (Q : AnyValue → Type 0) (u : ℕ) (soup : List (LogPacket AnyValue)) (p : ℕ) (m : PaxMsg AnyValue)
+    (v : AnyValue) → VotesAre Q m → reached_by u soup p m ≡ Some v → Q v
 reached_value Q u soup p (Accepted b q w) v k e = go (q == p && is_reached u soup p b) e
   where
     go : (a : Bool) → cond a (Some w) None ≡ Some v → Q v
@@ -57,7 +59,8 @@ reached_value Q u soup p (Learn q w) v k e = absurd (cc)
 reached_value Q u soup p (Behind q) v k e = absurd (cc)
 
 -- what is chosen is such a value
-chosen_value : (Q : AnyValue → Type 0) (u : ℕ) (soup : List (LogPacket AnyValue)) (p : ℕ) (ks : List (LogPacket AnyValue)) (v : AnyValue) → AllVotes Q ks → chosen_among u soup p ks ≡ Some v → Q v
+chosen_value : (Q : AnyValue → Type 0) (u : ℕ) (soup : List (LogPacket AnyValue)) (p : ℕ)
+    (ks : List (LogPacket AnyValue)) (v : AnyValue) → AllVotes Q ks → chosen_among u soup p ks ≡ Some v → Q v
 chosen_value Q u soup p [] v a e = absurd (cc)
 chosen_value Q u soup p (k ∷ ks) v a e = go (reached_by u soup p k.msg) refl e (chosen_value Q u soup p ks v a.1)
   where
@@ -160,13 +163,21 @@ false_if : (b : Bool) → (b ≡ true → b ≡ false) → b ≡ false
 false_if true f = f refl
 false_if false f = refl
 
-seen_grows : (u : ℕ) (soup : List (LogPacket AnyValue)) (n : ℕ) (o : Option AnyValue) → AreFrom (2 * u + 1) soup → chosen_among u soup n soup ≡ o → (log : List AnyValue) → length log ≡ n → grown (seen_of u soup n) ≡ seen_of u soup (length (log ++ gained o))
-seen_grows u soup n None l e log h = grows_by_none u soup n (false_if (is_chosen u (tallied soup) n) (λ f. let s = counted_is_chosen u soup n l f in let g : None ≡ Some s.0 = sym e ∙ s.1 in absurd (cc)))
+seen_grows : (u : ℕ) (soup : List (LogPacket AnyValue)) (n : ℕ) (o : Option AnyValue) → AreFrom (2 * u + 1) soup
+    → chosen_among u soup n soup ≡ o → (log : List AnyValue) → length log ≡ n
+    → grown (seen_of u soup n) ≡ seen_of u soup (length (log ++ gained o))
+seen_grows u soup n None l e log h = grows_by_none u soup n
+    (false_if (is_chosen u (tallied soup) n) (λ f. let s = counted_is_chosen u soup n l f in let g : None
+    ≡ Some s.0 = sym e ∙ s.1 in absurd (cc)))
     ∙ ap (seen_of u soup) (sym h ∙ sym (ap length (append-nil log)))
-seen_grows u soup n (Some v) l e log h = grows_by_one u soup n (chosen_is_counted u soup n v l e) ∙ ap (seen_of u soup) (ap (λ z. z + 1) (sym h) ∙ sym (length-append log (v ∷ [])))
+seen_grows u soup n (Some v) l e log h = grows_by_one u soup n (chosen_is_counted u soup n v l e)
+    ∙ ap (seen_of u soup) (ap (λ z. z + 1) (sym h) ∙ sym (length-append log (v ∷ [])))
 
-seen_stays : (u : ℕ) (soup : List (LogPacket AnyValue)) (n : ℕ) → AreFrom (2 * u + 1) soup → AllVotes IsNothing soup → grown (seen_of u soup n) ≡ seen_of u soup n
-seen_stays u soup n l a = grows_by_none u soup n (false_if (is_chosen u (tallied soup) n) (λ f. let s = counted_is_chosen u soup n l f in let g : None ≡ Some s.0 = sym (none_chosen u soup n soup a) ∙ s.1 in absurd (cc)))
+seen_stays : (u : ℕ) (soup : List (LogPacket AnyValue)) (n : ℕ) → AreFrom (2 * u + 1) soup → AllVotes IsNothing soup
+    → grown (seen_of u soup n) ≡ seen_of u soup n
+seen_stays u soup n l a = grows_by_none u soup n
+    (false_if (is_chosen u (tallied soup) n) (λ f. let s = counted_is_chosen u soup n l f in let g : None
+    ≡ Some s.0 = sym (none_chosen u soup n soup a) ∙ s.1 in absurd (cc)))
 
 -- an observer that goes on is one of the world whose logs have grown
 pub watch_grows : {B : Type 0} (c : Config B) (w : World B) → Carry c w → all_grown (seen_in c w) ≡ seen_in c (grows c w)

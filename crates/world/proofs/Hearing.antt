@@ -1,5 +1,6 @@
 -- The packets of a world carry on what is seen of it.
-use Rattle.std.proofs.Common.{◌≡◌, ℕ, ◌+◌, ◌*◌, ◌<◌, Bool, true, false, cond, List, [], ◌∷◌, ◌++◌, refl, sym, ap, ◌∙◌, subst, length, append_assoc, append-nil, zero, suc}
+use Rattle.std.proofs.Common.{◌≡◌, ℕ, ◌+◌, ◌*◌, ◌<◌, Bool, true, false, cond, List, [], ◌∷◌, ◌++◌, refl, sym, ap, ◌∙◌}
+use Rattle.std.proofs.Common.{subst, length, append_assoc, append-nil, zero, suc}
 use Rattle.std.specs.Prelude.{map, nat_lt, ◌&&◌}
 use Rattle.std.proofs.lemmas.Bool.{and_parts, ltb-true}
 use Rattle.aeg_base.specs.declared.names.Tier.{Tier}
@@ -44,21 +45,27 @@ abbrev seen_with : ℕ → List Packet → ℕ → ℕ → ℕ → OfTiers Seen
 seen_with u soup a b d = record { mid = seen_of u (log_soup Mid soup) a; inv = seen_of u (log_soup Inv soup) b; pay = seen_of u (log_soup Pay soup) d }
 
 -- a packet of no log
-unheard : (u : ℕ) (soup : List Packet) (a b d : ℕ) (k : Packet) → ((t : Tier) → log_part t k.from k.to k.message ≡ []) → seen_with u soup a b d ≡ seen_with u (soup ++ k ∷ []) a b d
+unheard : (u : ℕ) (soup : List Packet) (a b d : ℕ) (k : Packet) → ((t : Tier) → log_part t k.from k.to k.message ≡ [])
+    → seen_with u soup a b d ≡ seen_with u (soup ++ k ∷ []) a b d
 unheard u soup a b d k e =
-    let same : (t : Tier) → log_soup t soup ≡ log_soup t (soup ++ k ∷ []) = λ t. sym (log-last t soup k ∙ ap (λ z. log_soup t soup ++ z) (e t) ∙ append-nil (log_soup t soup)) in
+    let same : (t : Tier) → log_soup t soup ≡ log_soup t (soup ++ k ∷ []) = λ t. sym (log-last t soup k
+    ∙ ap (λ z. log_soup t soup ++ z) (e t) ∙ append-nil (log_soup t soup)) in
     λ i. record { mid = seen_of u (same Mid i) a; inv = seen_of u (same Inv i) b; pay = seen_of u (same Pay i) d }
 
 -- the tiers to which nothing is added
-other : (u : ℕ) (t : Tier) (soup : List Packet) (a : ℕ) (k : Packet) → log_part t k.from k.to k.message ≡ [] → seen_of u (log_soup t soup) a ≡ seen_of u (log_soup t (soup ++ k ∷ [])) a
+other : (u : ℕ) (t : Tier) (soup : List Packet) (a : ℕ) (k : Packet) → log_part t k.from k.to k.message ≡ []
+    → seen_of u (log_soup t soup) a ≡ seen_of u (log_soup t (soup ++ k ∷ [])) a
 other u t soup a k e = ap (λ z. seen_of u z a) (sym (log-last t soup k ∙ ap (λ z. log_soup t soup ++ z) e ∙ append-nil (log_soup t soup)))
 
 -- and the one to which the message is
-own : (u : ℕ) (t : Tier) (soup : List Packet) (a x to : ℕ) (m : PaxMsg AnyValue) (k : Packet) → log_part t k.from k.to k.message ≡ record { from = x; to = to; msg = m } ∷ [] → hears (seen_of u (log_soup t soup) a) x m ≡ seen_of u (log_soup t (soup ++ k ∷ [])) a
+own : (u : ℕ) (t : Tier) (soup : List Packet) (a x to : ℕ) (m : PaxMsg AnyValue) (k : Packet)
+    → log_part t k.from k.to k.message ≡ record { from = x; to = to; msg = m } ∷ []
+    → hears (seen_of u (log_soup t soup) a) x m ≡ seen_of u (log_soup t (soup ++ k ∷ [])) a
 own u t soup a x to m k e = hears_more u (log_soup t soup) a x to m ∙ ap (λ z. seen_of u z a) (sym (log-last t soup k ∙ ap (λ z. log_soup t soup ++ z) e))
 
 node_heard : (u : ℕ) (soup : List Packet) (a b d : ℕ) (t : Tier) (x : ℕ) (to : End) (m : PaxMsg AnyValue)
-    → hears_log (seen_with u soup a b d) (Node (record { tier = t; index = x })) m ≡ seen_with u (soup ++ record { from = Node (record { tier = t; index = x }); to = to; message = msgs.Log m } ∷ []) a b d
+    → hears_log (seen_with u soup a b d) (Node (record { tier = t; index = x })) m
+    ≡ seen_with u (soup ++ record { from = Node (record { tier = t; index = x }); to = to; message = msgs.Log m } ∷ []) a b d
 node_heard u soup a b d Mid x to m =
     let k : Packet = record { from = Node (record { tier = Mid; index = x }); to = to; message = msgs.Log m } in
     let p = own u Mid soup a x (end_index to) m k refl in let q = other u Inv soup b k refl in let r = other u Pay soup d k refl in
@@ -72,11 +79,15 @@ node_heard u soup a b d Pay x to m =
     let p = other u Mid soup a k refl in let q = other u Inv soup b k refl in let r = own u Pay soup d x (end_index to) m k refl in
     λ i. record { mid = p i; inv = q i; pay = r i }
 
-log_heard : (u : ℕ) (soup : List Packet) (a b d : ℕ) (from to : End) (m : PaxMsg AnyValue) → hears_log (seen_with u soup a b d) from m ≡ seen_with u (soup ++ record { from = from; to = to; message = msgs.Log m } ∷ []) a b d
+log_heard : (u : ℕ) (soup : List Packet) (a b d : ℕ) (from to : End) (m : PaxMsg AnyValue)
+    → hears_log (seen_with u soup a b d) from m
+    ≡ seen_with u (soup ++ record { from = from; to = to; message = msgs.Log m } ∷ []) a b d
 log_heard u soup a b d (Node n) to m = node_heard u soup a b d n.tier n.index to m
 log_heard u soup a b d (Client y) to m = unheard u soup a b d _ (λ t. refl)
 
-message_heard : (u : ℕ) (soup : List Packet) (a b d : ℕ) (from to : End) (message : Msg) → hears_message (seen_with u soup a b d) from message ≡ seen_with u (soup ++ record { from = from; to = to; message = message } ∷ []) a b d
+message_heard : (u : ℕ) (soup : List Packet) (a b d : ℕ) (from to : End) (message : Msg)
+    → hears_message (seen_with u soup a b d) from message
+    ≡ seen_with u (soup ++ record { from = from; to = to; message = message } ∷ []) a b d
 message_heard u soup a b d from to (msgs.Log m) = log_heard u soup a b d from to m
 message_heard u soup a b d from to (msgs.Request seq text) = unheard u soup a b d _ (λ t. refl)
 message_heard u soup a b d from to (msgs.Reply who text) = unheard u soup a b d _ (λ t. refl)
@@ -86,7 +97,8 @@ message_heard u soup a b d from to (msgs.Answer n code) = unheard u soup a b d _
 message_heard u soup a b d from to (msgs.Have t n code) = unheard u soup a b d _ (λ t. refl)
 message_heard u soup a b d from to (msgs.Settle g) = unheard u soup a b d _ (λ t. refl)
 
-packet_heard : (u : ℕ) (soup : List Packet) (a b d : ℕ) (k : Packet) → FitsFrame k.from k.message → hears_frame (seen_with u soup a b d) (frame k.from k.message) ≡ seen_with u (soup ++ k ∷ []) a b d
+packet_heard : (u : ℕ) (soup : List Packet) (a b d : ℕ) (k : Packet) → FitsFrame k.from k.message
+    → hears_frame (seen_with u soup a b d) (frame k.from k.message) ≡ seen_with u (soup ++ k ∷ []) a b d
 packet_heard u soup a b d k f = ap (hears_found (seen_with u soup a b d)) (frame_again k.from k.message f) ∙ message_heard u soup a b d k.from k.to k.message
 
 pub fit-head : (k : Packet) (ks : List Packet) → AreFit (k ∷ ks) → FitsFrame k.from k.message
@@ -98,10 +110,12 @@ fit-tail k ks f i l e = f (suc i) l e
 all_heard : (u : ℕ) (soup ks : List Packet) (a b d : ℕ) → AreFit ks → hears_packets (seen_with u soup a b d) (map sealed ks) ≡ seen_with u (soup ++ ks) a b d
 all_heard u soup [] a b d f = ap (λ z. seen_with u z a b d) (sym (append-nil soup))
 all_heard u soup (k ∷ ks) a b d f =
-    ap (λ z. hears_packets z (map sealed ks)) (packet_heard u soup a b d k (fit-head k ks f)) ∙ all_heard u (soup ++ k ∷ []) ks a b d (fit-tail k ks f) ∙ ap (λ z. seen_with u z a b d) (append_assoc soup (k ∷ []) ks)
+    ap (λ z. hears_packets z (map sealed ks)) (packet_heard u soup a b d k (fit-head k ks f))
+    ∙ all_heard u (soup ++ k ∷ []) ks a b d (fit-tail k ks f) ∙ ap (λ z. seen_with u z a b d) (append_assoc soup (k ∷ []) ks)
 
 -- more packets of a world whose logs are as they were
-pub heard_in : {B : Type 0} (c : Config B) (old new : World B) (ks : List Packet) → AreFit ks → new.soup ≡ old.soup ++ ks → new.logs ≡ old.logs → hears_packets (seen_in c old) (map sealed ks) ≡ seen_in c new
+pub heard_in : {B : Type 0} (c : Config B) (old new : World B) (ks : List Packet) → AreFit ks
+    → new.soup ≡ old.soup ++ ks → new.logs ≡ old.logs → hears_packets (seen_in c old) (map sealed ks) ≡ seen_in c new
 heard_in c old new ks f s m =
     all_heard c.u old.soup ks (length (old.logs Mid)) (length (old.logs Inv)) (length (old.logs Pay)) f
     ∙ ap (λ z. seen_with c.u z (length (old.logs Mid)) (length (old.logs Inv)) (length (old.logs Pay))) (sym s)
@@ -135,7 +149,8 @@ record Rides (u : ℕ) (t : Tier) (k : LogPacket AnyValue) : Type 0 where
   from : k.from < 2 * u + 1
   votes : VotesAre (Carried t) k.msg
 
-node_rides : (u : ℕ) (t v s : Tier) (x to : ℕ) (m : PaxMsg AnyValue) → (same_tier s v && nat_lt x (2 * u + 1)) ≡ true → IsLogMessage v m → (e : Bool) → same_tier s t ≡ e → Every (Rides u t) (cond e (record { from = x; to = to; msg = m } ∷ []) [])
+node_rides : (u : ℕ) (t v s : Tier) (x to : ℕ) (m : PaxMsg AnyValue) → (same_tier s v && nat_lt x (2 * u + 1)) ≡ true
+    → IsLogMessage v m → (e : Bool) → same_tier s t ≡ e → Every (Rides u t) (cond e (record { from = x; to = to; msg = m } ∷ []) [])
 node_rides u t v s x to m f k false e = tt
 node_rides u t v s x to m f k true e =
     let r = and_parts (same_tier s v) (nat_lt x (2 * u + 1)) f in
@@ -159,7 +174,8 @@ part_rides u t from to (msgs.Settle g) k = tt
 
 all_ride : (u : ℕ) (t : Tier) (ks : List Packet) → AllReach u ks → Every (Rides u t) (log_soup t ks)
 all_ride u t [] k = tt
-all_ride u t (p ∷ ks) k = every-append (Rides u t) (log_part t p.from p.to p.message) (log_soup t ks) (part_rides u t p.from p.to p.message (k zero p refl)) (all_ride u t ks (λ i l e. k (suc i) l e))
+all_ride u t (p ∷ ks) k = every-append (Rides u t) (log_part t p.from p.to p.message) (log_soup t ks)
+    (part_rides u t p.from p.to p.message (k zero p refl)) (all_ride u t ks (λ i l e. k (suc i) l e))
 
 rides_from : (u : ℕ) (t : Tier) (ks : List (LogPacket AnyValue)) → Every (Rides u t) ks → AreFrom (2 * u + 1) ks
 rides_from u t [] k = tt

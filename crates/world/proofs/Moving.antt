@@ -1,5 +1,6 @@
 -- A node with its disk makes its move in the world too.
-use Rattle.std.proofs.Common.{◌≡◌, ℕ, ◌+◌, ◌≤◌, Bool, true, false, cond, List, [], ◌∷◌, ◌++◌, refl, sym, ap, ◌∙◌, subst, length, append-nil, arith, Option, Some, None, Result, Ok, Err, zero, suc}
+use Rattle.std.proofs.Common.{◌≡◌, ℕ, ◌+◌, ◌≤◌, Bool, true, false, cond, List, [], ◌∷◌, ◌++◌, refl, sym, ap, ◌∙◌, subst}
+use Rattle.std.proofs.Common.{length, append-nil, arith, Option, Some, None, Result, Ok, Err, zero, suc}
 use Rattle.std.specs.Prelude.{nat_lt, nat_le, map, codes, slice_get, ◌&&◌}
 use Rattle.std.specs.Result.{OnOk}
 use Rattle.std.specs.List.{AllByRecursion}
@@ -36,7 +37,8 @@ use Rattle.world.proofs.Places.{all-both}
 
 -- LENGTHS
 
-pub journal-last : (bytes : List Fact → ℕ) (rs : List (List Fact)) (r : List Fact) → journal_length bytes (rs ++ r ∷ []) ≡ journal_length bytes rs + (5 + bytes r)
+pub journal-last : (bytes : List Fact → ℕ) (rs : List (List Fact)) (r : List Fact) → journal_length bytes (rs ++ r ∷ [])
+    ≡ journal_length bytes rs + (5 + bytes r)
 journal-last bytes [] r = refl
 journal-last bytes (q ∷ rs) r = let h = journal-last bytes rs r in omega (arith, h)
 
@@ -67,7 +69,8 @@ facts_with : (rs : List (List Fact)) (facts : List Fact) → all_facts (recorded
 facts_with rs [] = sym (append-nil (all_facts rs))
 facts_with rs (f ∷ fs) = all_more rs (f ∷ fs)
 
-pub open_with : (rs : List (List Fact)) (facts : List Fact) → open_after_all 0 (all_facts (recorded rs facts)) ≡ open_after_all (open_after_all 0 (all_facts rs)) facts
+pub open_with : (rs : List (List Fact)) (facts : List Fact) → open_after_all 0 (all_facts (recorded rs facts))
+    ≡ open_after_all (open_after_all 0 (all_facts rs)) facts
 open_with rs facts = ap (open_after_all 0) (facts_with rs facts) ∙ open_after_then 0 (all_facts rs) facts
 
 pub stand_alone : (t : Tier) (rs : List (List Fact)) → Fit t rs → AllByRecursion (CanWrite t) (all_facts rs) → AllStand t (rs ∷ [])
@@ -80,13 +83,16 @@ stand_alone t rs fit write = record { fit = (fit, tt); can = can }
 pub stand_one : (t : Tier) (rs : List (List Fact)) (others : List (List (List Fact))) → AllStand t (rs ∷ others) → AllStand t (rs ∷ [])
 stand_one t rs others k = stand_alone t rs k.fit.0 (k.can 0 rs refl)
 
-with_facts : (t : Tier) (rs : List (List Fact)) (facts : List Fact) → AllStand t (rs ∷ []) → StandIn t (open_after_all 0 (all_facts rs)) facts → AllByRecursion (CanWrite t) (all_facts (recorded rs facts))
+with_facts : (t : Tier) (rs : List (List Fact)) (facts : List Fact) → AllStand t (rs ∷ [])
+    → StandIn t (open_after_all 0 (all_facts rs)) facts → AllByRecursion (CanWrite t) (all_facts (recorded rs facts))
 with_facts t rs facts k h = subst (AllByRecursion (CanWrite t)) (sym (facts_with rs facts)) (all-both (CanWrite t) (all_facts rs) facts (k.can 0 rs refl) h.can)
 
-pub stand_more : (t : Tier) (rs : List (List Fact)) (facts : List Fact) → AllStand t (rs ∷ []) → StandIn t (open_after_all 0 (all_facts rs)) facts → AllStand t (recorded rs facts ∷ [])
+pub stand_more : (t : Tier) (rs : List (List Fact)) (facts : List Fact) → AllStand t (rs ∷ [])
+    → StandIn t (open_after_all 0 (all_facts rs)) facts → AllStand t (recorded rs facts ∷ [])
 stand_more t rs facts k h = stand_alone t (recorded rs facts) (fit_recorded t rs facts k.fit.0 h.fit) (with_facts t rs facts k h)
 
-pub stand_both : (t : Tier) (rs : List (List Fact)) (facts : List Fact) → AllStand t (rs ∷ []) → StandIn t (open_after_all 0 (all_facts rs)) facts → AllStand t (rs ∷ recorded rs facts ∷ [])
+pub stand_both : (t : Tier) (rs : List (List Fact)) (facts : List Fact) → AllStand t (rs ∷ [])
+    → StandIn t (open_after_all 0 (all_facts rs)) facts → AllStand t (rs ∷ recorded rs facts ∷ [])
 stand_both t rs facts k h = record { fit = (k.fit.0, (fit_recorded t rs facts k.fit.0 h.fit, tt)); can = can }
   where
     can : (i : ℕ) (qs : List (List Fact)) → slice_get (rs ∷ recorded rs facts ∷ []) i ≡ Some qs → AllByRecursion (CanWrite t) (all_facts qs)
@@ -95,7 +101,8 @@ stand_both t rs facts k h = record { fit = (k.fit.0, (fit_recorded t rs facts k.
     can (suc (suc i)) qs e = absurd (cc)
 
 -- a cut keeps the record or not
-pub stand_cut : (t : Tier) (rs : List (List Fact)) (facts : List Fact) (kept : Bool) → AllStand t (rs ∷ []) → StandIn t (open_after_all 0 (all_facts rs)) facts → AllStand t (cond kept (recorded rs facts) rs ∷ [])
+pub stand_cut : (t : Tier) (rs : List (List Fact)) (facts : List Fact) (kept : Bool) → AllStand t (rs ∷ [])
+    → StandIn t (open_after_all 0 (all_facts rs)) facts → AllStand t (cond kept (recorded rs facts) rs ∷ [])
 stand_cut t rs facts true k h = stand_more t rs facts k h
 stand_cut t rs facts false k h = k
 
@@ -122,17 +129,23 @@ armed_later stop disk called h = subst (λ z. z ≤ called.faults) (armed_faults
 
 -- A NODE THAT IS UP
 
-pub up_placed : {S T : Type 0} (t : Tier) (whole : S → T) (open_of : S → ℕ) (node : NodeOf T Fact) (part : NodePart S) (s : S) → IsNode t whole open_of node part → part.mode ≡ Up s → (part.place + 1 ≡ journal_of node.records) × (part.doubt ≡ false)
+pub up_placed : {S T : Type 0} (t : Tier) (whole : S → T) (open_of : S → ℕ) (node : NodeOf T Fact) (part : NodePart S)
+    (s : S) → IsNode t whole open_of node part → part.mode ≡ Up s → (part.place + 1 ≡ journal_of node.records)
+    × (part.doubt ≡ false)
 up_placed t whole open_of node part s k e = subst (λ m. IsPlaced m part.place part.doubt node.records) e k.placed
 
-pub sure_alone : {S T : Type 0} (t : Tier) (whole : S → T) (open_of : S → ℕ) (node : NodeOf T Fact) (part : NodePart S) → IsNode t whole open_of node part → part.doubt ≡ false → node.others ≡ []
+pub sure_alone : {S T : Type 0} (t : Tier) (whole : S → T) (open_of : S → ℕ) (node : NodeOf T Fact) (part : NodePart S)
+    → IsNode t whole open_of node part → part.doubt ≡ false → node.others ≡ []
 sure_alone t whole open_of node part k e = subst (λ b. IsDoubted b node.records node.others) e k.doubted
 
-pub up_open : {S T : Type 0} (t : Tier) (whole : S → T) (open_of : S → ℕ) (node : NodeOf T Fact) (part : NodePart S) (s : S) → IsNode t whole open_of node part → part.mode ≡ Up s → open_of s ≡ open_after_all 0 (all_facts node.records)
+pub up_open : {S T : Type 0} (t : Tier) (whole : S → T) (open_of : S → ℕ) (node : NodeOf T Fact) (part : NodePart S)
+    (s : S) → IsNode t whole open_of node part → part.mode ≡ Up s → open_of s ≡ open_after_all 0 (all_facts node.records)
 up_open t whole open_of node part s k e = subst (λ m. IsOpen open_of m node.records) e k.opened
 
 -- its disk has its records, and the gate at its place
-pub up_has : {S T : Type 0} (t : Tier) (whole : S → T) (open_of : S → ℕ) (node : NodeOf T Fact) (part : NodePart S) (disk : DiskState) (s : S) → IsNode t whole open_of node part → IsDiskOf node disk → part.mode ≡ Up s → HasFacts node.records disk part.place
+pub up_has : {S T : Type 0} (t : Tier) (whole : S → T) (open_of : S → ℕ) (node : NodeOf T Fact) (part : NodePart S)
+    (disk : DiskState) (s : S) → IsNode t whole open_of node part → IsDiskOf node disk → part.mode ≡ Up s
+    → HasFacts node.records disk part.place
 up_has t whole open_of node part disk s k d e =
     let up : node.mode ≡ Up (whole s) = k.mode ∙ ap (mode_by whole) e in
     let r : (at : ℕ) × HasFacts node.records disk at = subst (λ m. IsReady m node.records disk) up d.ready in
@@ -140,22 +153,28 @@ up_has t whole open_of node part disk s k d e =
     let q : r.0 ≡ part.place = omega (arith, p, r.1.long, size_is node.records) in
     subst (HasFacts node.records disk) q r.1
 
-pub up_stand : {S T : Type 0} (t : Tier) (whole : S → T) (open_of : S → ℕ) (node : NodeOf T Fact) (part : NodePart S) → IsNode t whole open_of node part → AllStand t (node.records ∷ [])
+pub up_stand : {S T : Type 0} (t : Tier) (whole : S → T) (open_of : S → ℕ) (node : NodeOf T Fact) (part : NodePart S)
+    → IsNode t whole open_of node part → AllStand t (node.records ∷ [])
 up_stand t whole open_of node part k = stand_one t node.records node.others k.stand
 
 -- its journal is within its limit, and stays so with facts that don't pass it
-pub more_within : (records : List (List Fact)) (facts : List Fact) → journal_of records ≤ JOURNAL_BYTES → is_past (journal_of records) facts ≡ false → journal_of (recorded records facts) ≤ JOURNAL_BYTES
+pub more_within : (records : List (List Fact)) (facts : List Fact) → journal_of records ≤ JOURNAL_BYTES
+    → is_past (journal_of records) facts ≡ false → journal_of (recorded records facts) ≤ JOURNAL_BYTES
 more_within records facts l e = let m = short (journal_of records) facts e l in omega (arith, m, journal-with records facts)
 
 -- HOW THE WORLD'S DEVICE FARES
 
-pub fate_is : (u depth : ℕ) (fared : Fared) (records : List (List Fact)) (facts : List Fact) → writes facts ≡ true → is_past (journal_of records) facts ≡ false → fate (config u depth) fared records facts ≡ device_of fared
+pub fate_is : (u depth : ℕ) (fared : Fared) (records : List (List Fact)) (facts : List Fact) → writes facts ≡ true
+    → is_past (journal_of records) facts ≡ false → fate (config u depth) fared records facts ≡ device_of fared
 fate_is u depth fared records [] w e = absurd (cc)
-fate_is u depth fared records (f ∷ fs) w e = cond-false (nat_lt JOURNAL_BYTES (journal_of records + (5 + length (record_text (f ∷ fs))))) CutDrop (device_of fared) e
+fate_is u depth fared records (f ∷ fs) w e = cond-false
+    (nat_lt JOURNAL_BYTES (journal_of records + (5 + length (record_text (f ∷ fs))))) CutDrop (device_of fared) e
 
-pub fate_full : (u depth : ℕ) (fared : Fared) (records : List (List Fact)) (facts : List Fact) → is_past (journal_of records) facts ≡ true → fate (config u depth) fared records facts ≡ CutDrop
+pub fate_full : (u depth : ℕ) (fared : Fared) (records : List (List Fact)) (facts : List Fact)
+    → is_past (journal_of records) facts ≡ true → fate (config u depth) fared records facts ≡ CutDrop
 fate_full u depth fared records [] e = absurd (cc)
-fate_full u depth fared records (f ∷ fs) e = cond-true (nat_lt JOURNAL_BYTES (journal_of records + (5 + length (record_text (f ∷ fs))))) CutDrop (device_of fared) e
+fate_full u depth fared records (f ∷ fs) e = cond-true
+    (nat_lt JOURNAL_BYTES (journal_of records + (5 + length (record_text (f ∷ fs))))) CutDrop (device_of fared) e
 
 abbrev pub is_ok : Device → Bool
 is_ok WasFine = true
@@ -231,7 +250,9 @@ pub record Faring (asked fared : Fared) (disk_before disk_after : DiskState) : T
   pub later : disk_before.faults ≤ disk_after.faults
 
 -- The node and its disk are those of the move as its device fared, and it sends what it sends.
-pub record Came {S T : Type 0} (t : Tier) (whole : S → T) (open_of : S → ℕ) (u : ℕ) (node : NodeOf T Fact) (new : NodePart S) (disk_before disk_after : DiskState) (dev : Device) (asked fared : Fared) (met : Bool) (v : Move T) (after : List (End × List ℕ)) (answer : Result Answer NodeFault) : Type 0 where
+pub record Came {S T : Type 0} (t : Tier) (whole : S → T) (open_of : S → ℕ) (u : ℕ) (node : NodeOf T Fact)
+    (new : NodePart S) (disk_before disk_after : DiskState) (dev : Device) (asked fared : Fared) (met : Bool)
+    (v : Move T) (after : List (End × List ℕ)) (answer : Result Answer NodeFault) : Type 0 where
   pub is : IsNode t whole open_of (moved_by node dev v) (sure_if met new)
   pub on : IsDiskOf (moved_by node dev v) disk_after
   pub sends : after ≡ map sealed (sent_by dev v)
@@ -241,7 +262,9 @@ pub record Came {S T : Type 0} (t : Tier) (whole : S → T) (open_of : S → ℕ
   pub how : Faring asked fared disk_before disk_after
 
 -- a call of a node that is up, with its disk
-pub record Call {S T : Type 0} (t : Tier) (whole : S → T) (open_of : S → ℕ) (u : ℕ) (node : NodeOf T Fact) (part new : NodePart S) (disk called : DiskState) (stop : Option StopAt) (s : S) (v : Move T) (after : List (End × List ℕ)) (answer : Result Answer NodeFault) : Type 0 where
+pub record Call {S T : Type 0} (t : Tier) (whole : S → T) (open_of : S → ℕ) (u : ℕ) (node : NodeOf T Fact)
+    (part new : NodePart S) (disk called : DiskState) (stop : Option StopAt) (s : S) (v : Move T)
+    (after : List (End × List ℕ)) (answer : Result Answer NodeFault) : Type 0 where
   pub is : IsNode t whole open_of node part
   pub on : IsDiskOf node disk
   pub up : part.mode ≡ Up s
@@ -270,17 +293,23 @@ pub no_cause : (stop : Option StopAt) (P : Type 0) → is_fault (asked_of stop) 
 no_cause stop P e = absurd (let f : is_fault (asked_of stop) ≡ false = asked_no_fault stop in cc)
 
 -- a stop that a record was written under was none
-pub asked_well : (u depth : ℕ) (stop : Option StopAt) (disk : DiskState) (records : List (List Fact)) (facts : List Fact) → CanStop stop → is_past (journal_of records) facts ≡ false → (writes facts ≡ true → (armed_with stop disk).armed ≤ 4 → (armed_with stop disk).armed ≡ 0)
+pub asked_well : (u depth : ℕ) (stop : Option StopAt) (disk : DiskState) (records : List (List Fact))
+    (facts : List Fact) → CanStop stop → is_past (journal_of records) facts ≡ false
+    → (writes facts ≡ true → (armed_with stop disk).armed ≤ 4 → (armed_with stop disk).armed ≡ 0)
     → is_well (fate (config u depth) (asked_of stop) records facts) facts ≡ true
 asked_well u depth stop disk records facts k p h = go (writes facts) refl stop k h
   where
-    go : (b : Bool) → writes facts ≡ b → (o : Option StopAt) → CanStop o → (writes facts ≡ true → (armed_with o disk).armed ≤ 4 → (armed_with o disk).armed ≡ 0) → is_well (fate (config u depth) (asked_of o) records facts) facts ≡ true
+    go : (b : Bool) → writes facts ≡ b → (o : Option StopAt) → CanStop o
+        → (writes facts ≡ true → (armed_with o disk).armed ≤ 4 → (armed_with o disk).armed ≡ 0)
+        → is_well (fate (config u depth) (asked_of o) records facts) facts ≡ true
     go false e o c f = asked_silent u depth o records facts e
     go true e None c f = well_fine (fate (config u depth) Fine records facts) facts (fate_is u depth Fine records facts e p)
     go true e (Some s) c f = absurd (let none : s.nth ≡ 0 = f e c.1 in omega (arith, none, c.0))
 
 -- and none was met
-pub unmet : (stop : Option StopAt) (disk called : DiskState) (facts : List Fact) → CanStop stop → disk.stopped ≡ false → (writes facts ≡ true → (armed_with stop disk).armed ≤ 4 → (armed_with stop disk).armed ≡ 0) → (writes facts ≡ false → called ≡ armed_with stop disk) → Later (armed_with stop disk) called
+pub unmet : (stop : Option StopAt) (disk called : DiskState) (facts : List Fact) → CanStop stop → disk.stopped ≡ false
+    → (writes facts ≡ true → (armed_with stop disk).armed ≤ 4 → (armed_with stop disk).armed ≡ 0)
+    → (writes facts ≡ false → called ≡ armed_with stop disk) → Later (armed_with stop disk) called
     → disk.armed ≡ 0 → called.stopped ≡ false
 unmet stop disk called facts k still h same later quiet = go (writes facts) refl
   where

@@ -23,7 +23,8 @@ mode_up whole (Up s) = refl
 mode_up whole Down = refl
 mode_up whole Gone = refl
 
-part_up : {S T : Type 0} (t : Tier) (whole : S → T) (open_of : S → ℕ) (node : NodeOf T Fact) (part : NodePart S) → IsNode t whole open_of node part → is_up part ≡ resolving.is_up node.mode
+part_up : {S T : Type 0} (t : Tier) (whole : S → T) (open_of : S → ℕ) (node : NodeOf T Fact) (part : NodePart S)
+    → IsNode t whole open_of node part → is_up part ≡ resolving.is_up node.mode
 part_up t whole open_of node part k = mode_up whole part.mode ∙ ap resolving.is_up (sym k.mode)
 
 -- its place in the list, and that it is the world's
@@ -34,7 +35,8 @@ node_at u depth w nodes t x k l =
     let v = get_within (views nodes t) x (omega (arith, all.size, l)) in
     (v.0, v.1, all.each x v.0 v.1)
 
-pub node_up : (u depth : ℕ) (w : BookingWorld) (nodes : Nodes) (t : Tier) (x : ℕ) → AreNodes u depth w nodes → x < 2 * u + 1 → up_in nodes t x ≡ is_node_up w t x
+pub node_up : (u depth : ℕ) (w : BookingWorld) (nodes : Nodes) (t : Tier) (x : ℕ) → AreNodes u depth w nodes
+    → x < 2 * u + 1 → up_in nodes t x ≡ is_node_up w t x
 node_up u depth w nodes t x k l =
     let v = node_at u depth w nodes t x k l in
     up_is nodes t x ∙ ap view_up v.1 ∙ part_up _ _ _ (w.nodes t x) v.0.part v.2.part
@@ -44,7 +46,8 @@ mode_condition whole (Up s) = refl
 mode_condition whole Down = refl
 mode_condition whole Gone = refl
 
-part_condition : {S T : Type 0} (t : Tier) (whole : S → T) (open_of : S → ℕ) (node : NodeOf T Fact) (part : NodePart S) → IsNode t whole open_of node part → condition_in part.mode ≡ condition_in node.mode
+part_condition : {S T : Type 0} (t : Tier) (whole : S → T) (open_of : S → ℕ) (node : NodeOf T Fact) (part : NodePart S)
+    → IsNode t whole open_of node part → condition_in part.mode ≡ condition_in node.mode
 part_condition t whole open_of node part k = mode_condition whole part.mode ∙ ap condition_in (sym k.mode)
 
 pub node_condition : (u depth : ℕ) (w : BookingWorld) (nodes : Nodes) (t : Tier) (x : ℕ) → AreNodes u depth w nodes → x < 2 * u + 1

@@ -1,5 +1,6 @@
 -- A node restarts, and comes up from one of the lists that its disk stands for, or its disk fails.
-use Rattle.std.proofs.Common.{◌≡◌, ℕ, ◌+◌, ◌*◌, ◌<◌, ◌≤◌, Bool, true, false, cond, List, [], ◌∷◌, ◌++◌, refl, sym, ap, ◌∙◌, subst, inl, inr, arith, length, Option, Some, None, Result, Ok, Err, zero, suc}
+use Rattle.std.proofs.Common.{◌≡◌, ℕ, ◌+◌, ◌*◌, ◌<◌, ◌≤◌, Bool, true, false, cond, List, [], ◌∷◌, ◌++◌, refl, sym, ap}
+use Rattle.std.proofs.Common.{◌∙◌, subst, inl, inr, arith, length, Option, Some, None, Result, Ok, Err, zero, suc}
 use Rattle.std.specs.Prelude.{nat_lt, slice_get, slice_set, codes, ◌⊎◌}
 use Rattle.std.specs.List.{AllByRecursion}
 use Rattle.std.proofs.lemmas.Bool.{le-ltb, lt-ltb}
@@ -53,7 +54,10 @@ stand_get : (t : Tier) (lists : List (List (List Fact))) (k : ℕ) (rs : List (L
 stand_get t lists k rs h e = stand_alone t rs (each_get t lists k rs h.fit e) (h.can k rs e)
 
 -- its length tells which one it is
-names : {S : Type 0} (recover : List Fact → S) (node : NodeOf S Fact) (doubt : Bool) (k list known found : ℕ) (rs : List (List Fact)) → IsDoubted doubt node.records node.others → (doubt ≡ true → known + 1 ≡ journal_of node.records) → slice_get (node.records ∷ node.others) k ≡ Some rs → found + 1 ≡ journal_of rs → list ≡ list_found doubt known found
+names : {S : Type 0} (recover : List Fact → S) (node : NodeOf S Fact) (doubt : Bool) (k list known found : ℕ)
+    (rs : List (List Fact)) → IsDoubted doubt node.records node.others
+    → (doubt ≡ true → known + 1 ≡ journal_of node.records) → slice_get (node.records ∷ node.others) k ≡ Some rs
+    → found + 1 ≡ journal_of rs → list ≡ list_found doubt known found
     → (found_at recover node list ≡ up_from recover rs) × (list ≤ length node.others)
 names recover node false zero list known found rs d p g f e =
     let same : node.records ≡ rs = cc in
@@ -69,11 +73,13 @@ names recover node true (suc zero) list known found rs d p g f e =
     let h : slice_get ((node.records ++ d.0 ∷ []) ∷ []) 0 ≡ Some rs = subst (λ z. slice_get z 0 ≡ Some rs) d.2 g in
     let same : node.records ++ d.0 ∷ [] ≡ rs = cc in
     let long : known + 1 ≡ journal_of node.records = p refl in
-    let longer : found + 1 ≡ journal_of node.records + (5 + length (record_text d.0)) = f ∙ ap journal_of (sym same) ∙ journal-last (λ facts. length (record_text facts)) node.records d.0 in
+    let longer : found + 1 ≡ journal_of node.records + (5 + length (record_text d.0)) = f ∙ ap journal_of (sym same)
+    ∙ journal-last (λ facts. length (record_text facts)) node.records d.0 in
     let more : nat_lt known found ≡ true = lt-ltb known found (omega (arith, long, longer)) in
     let one : list ≡ 1 = e ∙ ap (λ z. cond z 1 0) more in
     (ap (found_at recover node) one ∙ ap (up_as recover node) g, omega (arith, one, ap length d.2))
-names recover node true (suc (suc k)) list known found rs d p g f e = absurd (let h : slice_get ((node.records ++ d.0 ∷ []) ∷ []) (suc k) ≡ Some rs = subst (λ z. slice_get z (suc k) ≡ Some rs) d.2 g in cc)
+names recover node true (suc (suc k)) list known found rs d p g f e = absurd
+    (let h : slice_get ((node.records ++ d.0 ∷ []) ∷ []) (suc k) ≡ Some rs = subst (λ z. slice_get z (suc k) ≡ Some rs) d.2 g in cc)
 
 -- A NODE THAT IS DOWN
 
@@ -86,14 +92,18 @@ is_failing (ReadsList k) = false
 is_failing Fails = true
 
 -- it came up with one of the lists, or its disk failed
-pub record Risen {S T : Type 0} (t : Tier) (whole : S → T) (open_of : S → ℕ) (recover : List Fact → T) (node : NodeOf T Fact) (new : NodePart S) (disk disk_after : DiskState) (found : Found) : Type 0 where
+pub record Risen {S T : Type 0} (t : Tier) (whole : S → T) (open_of : S → ℕ) (recover : List Fact
+    → T) (node : NodeOf T Fact) (new : NodePart S) (disk disk_after : DiskState) (found : Found) : Type 0 where
   pub is : IsNode t whole open_of (restarted recover node (list_of found) node.mode) new
   pub on : IsDiskOf (restarted recover node (list_of found) node.mode) disk_after
   pub among : IsAmong node.others found
   pub cause : is_failing found ≡ true → Rose disk.faults disk_after.faults
 
-rises : {S T : Type 0} (t : Tier) (whole : S → T) (open_of : S → ℕ) (recover : List Fact → T) (node : NodeOf T Fact) (part new : NodePart S) (disk disk_after : DiskState) (result : Result ℕ NodeFault) → IsNode t whole open_of node part → IsDiskOf node disk → part.mode ≡ Down → HadMemory result
-    → Reads t whole open_of recover part new (at_rest disk) disk_after (node.records ∷ node.others) result → Later (at_rest disk) disk_after → Risen t whole open_of recover node new disk disk_after (found_of result)
+rises : {S T : Type 0} (t : Tier) (whole : S → T) (open_of : S → ℕ) (recover : List Fact → T) (node : NodeOf T Fact)
+    (part new : NodePart S) (disk disk_after : DiskState) (result : Result ℕ NodeFault)
+    → IsNode t whole open_of node part → IsDiskOf node disk → part.mode ≡ Down → HadMemory result
+    → Reads t whole open_of recover part new (at_rest disk) disk_after (node.records ∷ node.others) result
+    → Later (at_rest disk) disk_after → Risen t whole open_of recover node new disk disk_after (found_of result)
 rises {S} {T} t whole open_of recover node part new disk disk_after (Ok list) k d m memory h later = record {
   is = subst (λ z. IsNode t whole open_of z new) (sym is_up) (record {
     mode = ap Up (sym h.3.2) ∙ sym (ap (mode_by whole) h.3.1);
@@ -103,7 +113,12 @@ rises {S} {T} t whole open_of recover node part new disk disk_after (Ok list) k 
     stand = stand_get t (node.records ∷ node.others) h.0 h.1 k.stand h.2;
     opened = subst (λ z. IsOpen open_of z h.1) (sym h.3.1) h.3.3;
   });
-  on = subst (λ z. IsDiskOf z disk_after) (sym is_up) (record { rest = later.free refl refl; lists = having_stands h.1 disk_after new.place (later.tells ∙ d.lists.tells) h.5; ready = (new.place, h.5) });
+  on = subst (λ z. IsDiskOf z disk_after) (sym is_up)
+      (record {
+        rest = later.free refl refl;
+        lists = having_stands h.1 disk_after new.place (later.tells ∙ d.lists.tells) h.5;
+        ready = (new.place, h.5);
+      });
   among = named.1;
   cause = λ e. absurd (cc);
 }
@@ -124,7 +139,8 @@ rises {S} {T} t whole open_of recover node part new disk disk_after (Ok list) k 
     is_up = ap (restarted recover node (Some list)) down ∙ named.0
 rises {S} {T} t whole open_of recover node part new disk disk_after (Err faults.Disk) k d m memory h later = record {
   is = subst (λ z. IsNode t whole open_of z new) (sym same) (subst (IsNode t whole open_of node) (sym h.0) k);
-  on = subst (λ z. IsDiskOf z disk_after) (sym same) (record { rest = later.free refl refl; lists = h.1; ready = subst (λ z. IsReady z node.records disk_after) (sym down) tt });
+  on = subst (λ z. IsDiskOf z disk_after) (sym same)
+      (record { rest = later.free refl refl; lists = h.1; ready = subst (λ z. IsReady z node.records disk_after) (sym down) tt });
   among = tt;
   cause = λ e. rose h.2;
 }
@@ -155,14 +171,17 @@ IsRestart (Err faults.Memory) = Unit {0}
 IsRestart (Err (faults.JournalFull size)) = ⊥
 IsRestart (Err (faults.BadRecord at)) = ⊥
 
-told_is : {S : Type 0} (n : NodeId) (result : Result ℕ NodeFault) (m : Mode S) → m ≡ Down → HadMemory result → IsRestart result → texts.restart_text (texts.node_name n) (found_of result) m ≡ told_restart n result
+told_is : {S : Type 0} (n : NodeId) (result : Result ℕ NodeFault) (m : Mode S) → m ≡ Down → HadMemory result
+    → IsRestart result → texts.restart_text (texts.node_name n) (found_of result) m ≡ told_restart n result
 told_is n (Ok list) m e k r = ap (texts.restart_text (texts.node_name n) (ReadsList list)) e
 told_is n (Err faults.Disk) m e k r = ap (texts.restart_text (texts.node_name n) Fails) e
 told_is n (Err faults.Memory) m e k r = absurd k
 told_is n (Err (faults.JournalFull size)) m e k r = absurd r
 told_is n (Err (faults.BadRecord at)) m e k r = absurd r
 
-read_is : {S T : Type 0} (t : Tier) (whole : S → T) (open_of : S → ℕ) (recover : List Fact → T) (old new : NodePart S) (before after : DiskState) (lists : List (List (List Fact))) (result : Result ℕ NodeFault) → Reads t whole open_of recover old new before after lists result → IsRestart result
+read_is : {S T : Type 0} (t : Tier) (whole : S → T) (open_of : S → ℕ) (recover : List Fact → T) (old new : NodePart S)
+    (before after : DiskState) (lists : List (List (List Fact))) (result : Result ℕ NodeFault)
+    → Reads t whole open_of recover old new before after lists result → IsRestart result
 read_is t whole open_of recover old new before after lists (Ok list) h = tt
 read_is t whole open_of recover old new before after lists (Err faults.Disk) h = tt
 read_is t whole open_of recover old new before after lists (Err faults.Memory) h = tt
@@ -239,24 +258,28 @@ restart_by u depth w old new n disks disk disk_after result t few k d l b c memo
 
 -- A NODE THAT ISN'T DOWN
 
-restarted_up : {S : Type 0} (recover : List Fact → S) (node : NodeOf S Fact) (found : Option ℕ) (m : Mode S) → condition_in m ≡ conditions.Up → restarted recover node found m ≡ node
+restarted_up : {S : Type 0} (recover : List Fact → S) (node : NodeOf S Fact) (found : Option ℕ) (m : Mode S)
+    → condition_in m ≡ conditions.Up → restarted recover node found m ≡ node
 restarted_up recover node (Some k) (Up s) e = refl
 restarted_up recover node None (Up s) e = refl
 restarted_up recover node found Down e = absurd (cc)
 restarted_up recover node found Gone e = absurd (cc)
 
-restarted_gone : {S : Type 0} (recover : List Fact → S) (node : NodeOf S Fact) (found : Option ℕ) (m : Mode S) → condition_in m ≡ conditions.Gone → restarted recover node found m ≡ node
+restarted_gone : {S : Type 0} (recover : List Fact → S) (node : NodeOf S Fact) (found : Option ℕ) (m : Mode S)
+    → condition_in m ≡ conditions.Gone → restarted recover node found m ≡ node
 restarted_gone recover node found (Up s) e = absurd (cc)
 restarted_gone recover node found Down e = absurd (cc)
 restarted_gone recover node (Some k) Gone e = refl
 restarted_gone recover node None Gone e = refl
 
-up_told : {S : Type 0} (n : NodeId) (found : Found) (m : Mode S) → condition_in m ≡ conditions.Up → texts.restart_text (texts.node_name n) found m ≡ texts.idle_line (texts.node_name n) (codes "up")
+up_told : {S : Type 0} (n : NodeId) (found : Found) (m : Mode S) → condition_in m ≡ conditions.Up
+    → texts.restart_text (texts.node_name n) found m ≡ texts.idle_line (texts.node_name n) (codes "up")
 up_told n found (Up s) e = refl
 up_told n found Down e = absurd (cc)
 up_told n found Gone e = absurd (cc)
 
-gone_told : {S : Type 0} (n : NodeId) (found : Found) (m : Mode S) → condition_in m ≡ conditions.Gone → texts.restart_text (texts.node_name n) found m ≡ texts.gone_line (texts.node_name n)
+gone_told : {S : Type 0} (n : NodeId) (found : Found) (m : Mode S) → condition_in m ≡ conditions.Gone
+    → texts.restart_text (texts.node_name n) found m ≡ texts.gone_line (texts.node_name n)
 gone_told n found (Up s) e = absurd (cc)
 gone_told n found Down e = absurd (cc)
 gone_told n found Gone e = refl

@@ -24,7 +24,9 @@ use Rattle.world.proofs.Few.{each_few}
 
 -- A NODE'S CALL
 
-makes_room : {S T : Type 0} (whole : S → T) (old new : NodePart S) (after : List (End × List ℕ)) (move : Move T) (result : Result Answer Fault) → Makes whole old new [] after move result → OnOk result (HaveRoom move.sends) → HadMemory result → HaveRoom after
+makes_room : {S T : Type 0} (whole : S → T) (old new : NodePart S) (after : List (End × List ℕ)) (move : Move T)
+    (result : Result Answer Fault) → Makes whole old new [] after move result → OnOk result (HaveRoom move.sends)
+    → HadMemory result → HaveRoom after
 makes_room whole old new after move (Ok answer) k few memory = omega (arith, few, ap length k.4, length-map move.sends sealed)
 makes_room whole old new after move (Err (faults.JournalFull size)) k few memory = omega (arith, ap length k.4)
 makes_room whole old new after move (Err faults.Memory) k few memory = absurd memory
@@ -43,7 +45,8 @@ move_room old new t x a b after row result up k memory =
 -- AN EVENT
 
 -- a call of a node that is up
-pub nodes_fit : (old new : Nodes) (t : Tier) (x : ℕ) (a b : DiskState) (soup before after : List (End × List ℕ)) (row : RowOf) (result : Result Answer Fault) → length soup ≤ PACKETS_BEFORE → before ≡ [] → up_in old t x ≡ true
+pub nodes_fit : (old new : Nodes) (t : Tier) (x : ℕ) (a b : DiskState) (soup before after : List (End × List ℕ))
+    (row : RowOf) (result : Result Answer Fault) → length soup ≤ PACKETS_BEFORE → before ≡ [] → up_in old t x ≡ true
     → MoveIn old new t x a b before after row result → HadMemory result → length soup + length after ≤ PACKETS
 nodes_fit old new t x a b soup before after row result l e up k memory =
     omega (arith, l, move_room old new t x a b after row result up (subst (λ z. MoveIn old new t x a b z after row result) e k) memory)
@@ -53,6 +56,15 @@ pub nothing_fits : (soup out : List (End × List ℕ)) → length soup ≤ PACKE
 nothing_fits soup out l e = omega (arith, l, ap length e)
 
 -- a request to each middle node
-pub requests_fit : (u client seq : ℕ) (text : List ℕ) (soup before out : List (End × List ℕ)) → u ≤ 2 → length soup ≤ PACKETS_BEFORE → before ≡ [] → out ≡ before ++ map sealed (requests u client seq text) → length soup + length out ≤ PACKETS
+pub requests_fit : (u client seq : ℕ) (text : List ℕ) (soup before out : List (End × List ℕ)) → u ≤ 2
+    → length soup ≤ PACKETS_BEFORE → before ≡ [] → out ≡ before ++ map sealed (requests u client seq text)
+    → length soup + length out ≤ PACKETS
 requests_fit u client seq text soup before out few l e f =
-    omega (arith, few, l, ap length (f ∙ ap (λ z. z ++ map sealed (requests u client seq text)) e), length-map (requests u client seq text) sealed, each_few (2 * u + 1) nobody (request_to client seq text))
+    omega (
+      arith,
+      few,
+      l,
+      ap length (f ∙ ap (λ z. z ++ map sealed (requests u client seq text)) e),
+      length-map (requests u client seq text) sealed,
+      each_few (2 * u + 1) nobody (request_to client seq text),
+    )

@@ -35,6 +35,9 @@ pub with_mem : (s : List ℕ) (x y : ℕ) → mem y (with_sender s x) ≡ ((x ==
 with_mem s x y = cond_both (mem x s) s (s ++ x ∷ []) (λ r. mem y r ≡ ((x == y) || mem y s)) (λ e. mem-there s x y e) (λ e. mem-last s x y)
 
 -- as many as the numbers below n that are among them
-pub with_size : (n : ℕ) (s : List ℕ) (x : ℕ) → x < n → length s ≡ count_below n (λ y. mem y s) → length (with_sender s x) ≡ count_below n (λ y. mem y (with_sender s x))
+pub with_size : (n : ℕ) (s : List ℕ) (x : ℕ) → x < n → length s ≡ count_below n (λ y. mem y s)
+    → length (with_sender s x) ≡ count_below n (λ y. mem y (with_sender s x))
 with_size n s x l h = cond_both (mem x s) s (s ++ x ∷ []) (λ r. length r ≡ count_below n (λ y. mem y r)) (λ e. h)
-    (λ e. length_push s x ∙ ap suc h ∙ sym (count-same n (λ y. mem y (s ++ x ∷ [])) (λ y. (x == y) || mem y s) (mem-last s x) ∙ count-one n x (λ y. mem y s) l e))
+    (λ e. length_push s x ∙ ap suc h
+    ∙ sym (count-same n (λ y. mem y (s ++ x ∷ [])) (λ y. (x == y) || mem y s) (mem-last s x)
+    ∙ count-one n x (λ y. mem y s) l e))

@@ -51,7 +51,9 @@ pub facts_fit : (t : Tier) (fs : List (LogFact AnyValue)) → AllByRecursion (Is
 facts_fit t [] k = tt
 facts_fit t (f ∷ fs) k = (fact_fits t f k.0, facts_fit t fs k.1)
 
-pub sends_fit : (u : ℕ) (t : Tier) (sends : List (ℕ × PaxMsg AnyValue)) → AllByRecursion (IsSendIn u (CanStand t) FitsBallot) sends → AllByRecursion {X = ℕ × PaxMsg AnyValue} (λ send. FitsLog t send.1) sends
+pub sends_fit : (u : ℕ) (t : Tier) (sends : List (ℕ × PaxMsg AnyValue))
+    → AllByRecursion (IsSendIn u (CanStand t) FitsBallot) sends
+    → AllByRecursion {X = ℕ × PaxMsg AnyValue} (λ send. FitsLog t send.1) sends
 sends_fit u t [] k = tt
 sends_fit u t (s ∷ ss) k = (message_fits t s.1 k.0.1, sends_fit u t ss k.1)
 
@@ -75,7 +77,9 @@ sent_log t (Behind p) = sent_by (log_kind (Behind p)) refl refl t
 packet_fits : (t : Tier) (x : ℕ) (m : PaxMsg AnyValue) → x ≤ 4 → FitsLog t m → FitsFrame (node t x) (msgs.Log m)
 packet_fits t x m l k = record { sender = l; sent = sent_log t m; message = k }
 
-pub are_fit : (t : Tier) (x : ℕ) (sends : List (ℕ × PaxMsg AnyValue)) → x ≤ 4 → AllByRecursion {X = ℕ × PaxMsg AnyValue} (λ send. FitsLog t send.1) sends → (i : ℕ) (k : Packet) → slice_get (log_packets t x sends) i ≡ Some k → FitsFrame k.from k.message
+pub are_fit : (t : Tier) (x : ℕ) (sends : List (ℕ × PaxMsg AnyValue)) → x ≤ 4
+    → AllByRecursion {X = ℕ × PaxMsg AnyValue} (λ send. FitsLog t send.1) sends → (i : ℕ) (k : Packet)
+    → slice_get (log_packets t x sends) i ≡ Some k → FitsFrame k.from k.message
 are_fit t x [] l f i k e = absurd (cc)
 are_fit t x (s ∷ ss) l f zero k e = let same : log_packet t x s ≡ k = cc in subst (λ (z : Packet). FitsFrame z.from z.message) same (packet_fits t x s.1 l f.0)
 are_fit t x (s ∷ ss) l f (suc i) k e = are_fit t x ss l f.1 i k e
@@ -85,9 +89,12 @@ peer_is u InMid x l = lt-ltb x (2 * u + 1) l
 peer_is u Inv x l = lt-ltb x (2 * u + 1) l
 peer_is u Pay x l = lt-ltb x (2 * u + 1) l
 
-pub all_reach : (u : ℕ) (t : Tier) (x : ℕ) (sends : List (ℕ × PaxMsg AnyValue)) → x < 2 * u + 1 → AllByRecursion (IsSendIn u (CanStand t) FitsBallot) sends → (i : ℕ) (k : Packet) → slice_get (log_packets t x sends) i ≡ Some k → Reaches u k.from k.to k.message
+pub all_reach : (u : ℕ) (t : Tier) (x : ℕ) (sends : List (ℕ × PaxMsg AnyValue)) → x < 2 * u + 1
+    → AllByRecursion (IsSendIn u (CanStand t) FitsBallot) sends → (i : ℕ) (k : Packet)
+    → slice_get (log_packets t x sends) i ≡ Some k → Reaches u k.from k.to k.message
 all_reach u t x [] l f i k e = absurd (cc)
-all_reach u t x (s ∷ ss) l f zero k e = let same : log_packet t x s ≡ k = cc in subst (λ (z : Packet). Reaches u z.from z.to z.message) same (f.0.0, (peer_is u t x l, f.0.1))
+all_reach u t x (s ∷ ss) l f zero k e = let same : log_packet t x s
+    ≡ k = cc in subst (λ (z : Packet). Reaches u z.from z.to z.message) same (f.0.0, (peer_is u t x l, f.0.1))
 all_reach u t x (s ∷ ss) l f (suc i) k e = all_reach u t x ss l f.1 i k e
 
 -- BALLOTS

@@ -40,18 +40,41 @@ fares_is event asked (Cut nth keep) (inl e) = ap event (sym e)
 fares_is event asked (Cut nth keep) (inr e) = absurd (cc)
 fares_is event asked Fault e = (asked, refl)
 
-pub one_more : (old new : Progress) (parts : Parts) (due event : TraceEvent) (cursor : ℕ) (disks_before disks_after : List DiskState) (before now : List ℕ) → StandsOn old disks_before → Becomes due event → MakesAny old.parts parts disks_before disks_after before now event
+pub one_more : (old new : Progress) (parts : Parts) (due event : TraceEvent) (cursor : ℕ)
+    (disks_before disks_after : List DiskState) (before now : List ℕ) → StandsOn old disks_before → Becomes due event
+    → MakesAny old.parts parts disks_before disks_after before now event
     → new ≡ noted old parts event cursor → Adds old new disks_before disks_after before now due (place_at cursor)
 one_more old new parts due event cursor disks_before disks_after before now s becomes h e =
     let r = h old.parts.u old.depth (world_of (run_of old)) s.0 s.1 in
     let size : parts.u ≡ old.parts.u = r.shows.size in
-    let is : run_of (noted old parts event cursor) ≡ with_event (run_of old) event (place_at cursor) = (λ i. record { u = size i; depth = old.depth; trace = old.trace ++ event ∷ []; place = place_at cursor; has_ended = false }) in
+    let is : run_of (noted old parts event cursor)
+    ≡ with_event (run_of old) event (place_at cursor) = (λ i. record {
+      u = size i;
+      depth = old.depth;
+      trace = old.trace ++ event ∷ [];
+      place = place_at cursor;
+      has_ended = false;
+    }) in
     let further = run-append (config old.parts.u old.depth) old.trace (event ∷ []) start in
-    let later : Shows old.parts.u old.depth (world (config old.parts.u old.depth) (old.trace ++ event ∷ [])) parts = subst (λ z. Shows old.parts.u old.depth z parts) (sym further) r.shows in
-    let on : AreDisks (world (config old.parts.u old.depth) (old.trace ++ event ∷ [])) disks_after = subst (λ z. AreDisks z disks_after) (sym further) r.disks in
-    let step : IsInStep (noted old parts event cursor) = subst (λ z. Shows z old.depth (world (config z old.depth) (old.trace ++ event ∷ [])) parts) (sym size) later in
-    let run : run_of new ≡ with_event (run_of old) event (place_at cursor) = ap run_of e ∙ is in
-    (subst IsInStep (sym e) step, record { event = event; becomes = becomes; finds = r.finds; cause = r.cause; later = r.later; run = run; told = r.told; disks = subst (λ z. AreDisks (world_of z) disks_after) (sym run) on })
+    let later : Shows old.parts.u old.depth (world (config old.parts.u old.depth) (old.trace ++ event ∷ []))
+    parts = subst (λ z. Shows old.parts.u old.depth z parts) (sym further) r.shows in
+    let on : AreDisks (world (config old.parts.u old.depth) (old.trace ++ event ∷ [])) disks_after = subst
+    (λ z. AreDisks z disks_after) (sym further) r.disks in
+    let step : IsInStep (noted old parts event cursor) = subst
+    (λ z. Shows z old.depth (world (config z old.depth) (old.trace ++ event ∷ [])) parts) (sym size) later in
+    let run : run_of new ≡ with_event (run_of old) event (place_at cursor) = ap run_of e ∙ is in (
+      subst IsInStep (sym e) step,
+      record {
+        event = event;
+        becomes = becomes;
+        finds = r.finds;
+        cause = r.cause;
+        later = r.later;
+        run = run;
+        told = r.told;
+        disks = subst (λ z. AreDisks (world_of z) disks_after) (sym run) on;
+      },
+    )
 
 -- FLOW
 
@@ -63,25 +86,44 @@ packets_of p s = sym (ap length s.soup ∙ length-map (world_of (run_of p)).soup
 abbrev pub behind : Progress → ℕ → Progress
 behind p cursor = record { depth = p.depth; cursor = cursor; trace = p.trace; parts = p.parts }
 
-pub flow_rests : (p : Progress) (cursor : ℕ) (disks : List DiskState) (lines : List ℕ) → IsInStep p → cursor ≡ length p.parts.soup → None ≡ next_packet (world_of (run_of p)) p.cursor → GoesBy p (behind p cursor) disks disks lines lines script.Flow (Ok false)
+pub flow_rests : (p : Progress) (cursor : ℕ) (disks : List DiskState) (lines : List ℕ) → IsInStep p
+    → cursor ≡ length p.parts.soup → None ≡ next_packet (world_of (run_of p)) p.cursor
+    → GoesBy p (behind p cursor) disks disks lines lines script.Flow (Ok false)
 flow_rests p cursor disks lines s e n =
     let end : place_at cursor ≡ at_end (world_of (run_of p)) = ap place_at (e ∙ sym (packets_of p s)) in
-    let rests : AppliesNothing (run_of p) (run_of (behind p cursor)) disks disks lines lines (at_end (world_of (run_of p))) (Ok false) = (ap (at_place (run_of p)) end, refl, refl, refl) in
-    (subst (λ o. AppliesBy (run_of p) (run_of (behind p cursor)) disks disks lines lines script.Flow (flow_by (world_of (run_of p)) o).place (flow_by (world_of (run_of p)) o).event (Ok false)) n rests, s)
+    let rests : AppliesNothing (run_of p) (run_of (behind p cursor)) disks disks lines lines
+    (at_end (world_of (run_of p))) (Ok false) = (ap (at_place (run_of p)) end, refl, refl, refl) in (
+      subst (λ o. AppliesBy (run_of p) (run_of (behind p cursor)) disks disks lines lines script.Flow
+          (flow_by (world_of (run_of p)) o).place (flow_by (world_of (run_of p)) o).event (Ok false)) n rests,
+      s,
+    )
 
 -- what is left is lost
-pub all_lost : (p : Progress) (cursor : ℕ) (disks : List DiskState) (lines : List ℕ) → IsInStep p → cursor ≡ length p.parts.soup → GoesBy p (behind p cursor) disks disks lines lines script.Lose (Ok false)
+pub all_lost : (p : Progress) (cursor : ℕ) (disks : List DiskState) (lines : List ℕ) → IsInStep p
+    → cursor ≡ length p.parts.soup → GoesBy p (behind p cursor) disks disks lines lines script.Lose (Ok false)
 all_lost p cursor disks lines s e = ((ap (at_place (run_of p)) (ap place_at (e ∙ sym (packets_of p s))), refl, refl, refl), s)
 
-pub flow_stops : (p : Progress) (k : ℕ) (disks : List DiskState) (lines : List ℕ) → IsInStep p → PACKETS_BEFORE < length p.parts.soup → Some k ≡ next_packet (world_of (run_of p)) p.cursor → GoesBy p p disks disks lines lines script.Flow (Err stops.Limit)
+pub flow_stops : (p : Progress) (k : ℕ) (disks : List DiskState) (lines : List ℕ) → IsInStep p
+    → PACKETS_BEFORE < length p.parts.soup → Some k ≡ next_packet (world_of (run_of p)) p.cursor
+    → GoesBy p p disks disks lines lines script.Flow (Err stops.Limit)
 flow_stops p k disks lines s l n =
     let many : PACKETS_BEFORE < length (world_of (run_of p)).soup = subst (λ z. PACKETS_BEFORE < z) (sym (packets_of p s)) l in
-    let halts : AppliesEvent (run_of p) (run_of p) disks disks lines lines script.Flow (place_at (k + 1)) (Deliver k Fine) (Err stops.Limit) = (many, refl, refl, refl) in
-    (subst (λ o. AppliesBy (run_of p) (run_of p) disks disks lines lines script.Flow (flow_by (world_of (run_of p)) o).place (flow_by (world_of (run_of p)) o).event (Err stops.Limit)) n halts, s)
+    let halts : AppliesEvent (run_of p) (run_of p) disks disks lines lines script.Flow (place_at (k + 1))
+    (Deliver k Fine) (Err stops.Limit) = (many, refl, refl, refl) in (
+      subst (λ o. AppliesBy (run_of p) (run_of p) disks disks lines lines script.Flow
+          (flow_by (world_of (run_of p)) o).place (flow_by (world_of (run_of p)) o).event (Err stops.Limit)) n halts,
+      s,
+    )
 
-pub flow_goes : (old new : Progress) (k : ℕ) (disks_before disks_after : List DiskState) (before now : List ℕ) → IsInStep old → length old.parts.soup ≤ PACKETS_BEFORE → Some k ≡ next_packet (world_of (run_of old)) old.cursor → Adds old new disks_before disks_after before now (Deliver k Fine) (place_at (k + 1))
+pub flow_goes : (old new : Progress) (k : ℕ) (disks_before disks_after : List DiskState) (before now : List ℕ)
+    → IsInStep old → length old.parts.soup ≤ PACKETS_BEFORE → Some k ≡ next_packet (world_of (run_of old)) old.cursor
+    → Adds old new disks_before disks_after before now (Deliver k Fine) (place_at (k + 1))
     → GoesBy old new disks_before disks_after before now script.Flow (Ok true)
 flow_goes old new k disks_before disks_after before now s l n a =
     let few : length (world_of (run_of old)).soup ≤ PACKETS_BEFORE = subst (λ z. z ≤ PACKETS_BEFORE) (sym (packets_of old s)) l in
-    let goes : AppliesEvent (run_of old) (run_of new) disks_before disks_after before now script.Flow (place_at (k + 1)) (Deliver k Fine) (Ok true) = (few, a.1, refl) in
-    (subst (λ o. AppliesBy (run_of old) (run_of new) disks_before disks_after before now script.Flow (flow_by (world_of (run_of old)) o).place (flow_by (world_of (run_of old)) o).event (Ok true)) n goes, a.0)
+    let goes : AppliesEvent (run_of old) (run_of new) disks_before disks_after before now script.Flow (place_at (k + 1))
+    (Deliver k Fine) (Ok true) = (few, a.1, refl) in (
+      subst (λ o. AppliesBy (run_of old) (run_of new) disks_before disks_after before now script.Flow
+          (flow_by (world_of (run_of old)) o).place (flow_by (world_of (run_of old)) o).event (Ok true)) n goes,
+      a.0,
+    )

@@ -45,7 +45,8 @@ message_unheard s from (msgs.Answer n code) e = refl
 message_unheard s from (msgs.Have t n code) e = refl
 message_unheard s from (msgs.Settle g) e = refl
 
-found_unheard : (s : OfTiers Seen) (bytes : List ℕ) (r : Result (Header × Msg) Refused) → IsBytes bytes → frame_of bytes ≡ r → is_of_vote bytes ≡ false → hears_found s r ≡ s
+found_unheard : (s : OfTiers Seen) (bytes : List ℕ) (r : Result (Header × Msg) Refused) → IsBytes bytes
+    → frame_of bytes ≡ r → is_of_vote bytes ≡ false → hears_found s r ≡ s
 found_unheard s bytes (Err refusal) are is e = refl
 found_unheard s bytes (Ok found) are is e = message_unheard s found.0.from found.1 (ap is_of_vote (sym (frame_takes bytes found are is).0.parts) ∙ e)
 

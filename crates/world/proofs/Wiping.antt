@@ -32,7 +32,8 @@ none_stand t = stand_alone t [] tt tt
 pub blank_within : 1 ≤ JOURNAL_BYTES
 blank_within = omega arith
 
-wiped_is : {S T : Type 0} (t : Tier) (whole : S → T) (open_of : S → ℕ) (part : NodePart S) → IsNode {S = S} {T = T} t whole open_of (stands Gone []) (is_wiped part)
+wiped_is : {S T : Type 0} (t : Tier) (whole : S → T) (open_of : S → ℕ) (part : NodePart S)
+    → IsNode {S = S} {T = T} t whole open_of (stands Gone []) (is_wiped part)
 wiped_is t whole open_of part = record { mode = refl; placed = (refl, refl); doubted = refl; within = (blank_within, tt); stand = none_stand t; opened = tt }
 
 wiped_disk : {T : Type 0} (a b : DiskState) (node : NodeOf T Fact) → IsDiskOf node a → Blank a b → IsDiskOf {S = T} (stands Gone []) b
@@ -67,7 +68,8 @@ gone_mode Down e = absurd (cc)
 gone_mode Gone e = refl
 
 -- it has no records
-gone_is : {S T : Type 0} (t : Tier) (whole : S → T) (open_of : S → ℕ) (node : NodeOf T Fact) (part : NodePart S) → IsNode t whole open_of node part → is_gone_in (condition_in part.mode) ≡ true → stands Gone [] ≡ node
+gone_is : {S T : Type 0} (t : Tier) (whole : S → T) (open_of : S → ℕ) (node : NodeOf T Fact) (part : NodePart S)
+    → IsNode t whole open_of node part → is_gone_in (condition_in part.mode) ≡ true → stands Gone [] ≡ node
 gone_is {S} {T} t whole open_of node part k e =
     let g : part.mode ≡ Gone = gone_mode part.mode e in
     let p : (part.doubt ≡ false) × (node.records ≡ []) = subst (λ m. IsPlaced m part.place part.doubt node.records) g k.placed in

@@ -22,7 +22,8 @@ use Rattle.world.proofs.Sending.{stand_carried}
 
 -- A TURN'S FACTS
 
-written_in_order : (Q : ℕ → AnyValue → Type 0) (first next : ℕ) (fs : List (LogFact AnyValue)) → IsWritten first next fs → AllByRecursion (IsFactIn Q FitsBallot) fs → AreInOrder first fs
+written_in_order : (Q : ℕ → AnyValue → Type 0) (first next : ℕ) (fs : List (LogFact AnyValue)) → IsWritten first next fs
+    → AllByRecursion (IsFactIn Q FitsBallot) fs → AreInOrder first fs
 written_in_order Q first next [] w k = tt
 written_in_order Q first next (logs.Promised b ∷ []) w k = (tt, tt)
 written_in_order Q first next (logs.Accepted p b v ∷ []) w k = (tt, tt)
@@ -41,7 +42,8 @@ written_opens first next (logs.Promised b ∷ g ∷ fs) w = absurd w
 written_opens first next (logs.Accepted p b v ∷ g ∷ fs) w = absurd w
 written_opens first next (logs.Learned p v ∷ g ∷ fs) w = absurd w
 
-facts_carried : (t : Tier) (fs : List (LogFact AnyValue)) → AllByRecursion (IsFactIn (CanStand t) FitsBallot) fs → AllByRecursion (IsFactIn (IsCarried t) FitsBallot) fs
+facts_carried : (t : Tier) (fs : List (LogFact AnyValue)) → AllByRecursion (IsFactIn (CanStand t) FitsBallot) fs
+    → AllByRecursion (IsFactIn (IsCarried t) FitsBallot) fs
 facts_carried t [] k = tt
 facts_carried t (logs.Promised b ∷ fs) k = (k.0, facts_carried t fs k.1)
 facts_carried t (logs.Accepted p b v ∷ fs) k = ((k.0.0, (k.0.1.0, stand_carried t p v k.0.1.1)), facts_carried t fs k.1)
@@ -53,9 +55,11 @@ facts_can t (logs.Promised b ∷ fs) k = (k.0, facts_can t fs k.1)
 facts_can t (logs.Accepted p b v ∷ fs) k = ((k.0.1.0, k.0.1.1), facts_can t fs k.1)
 facts_can t (logs.Learned p v ∷ fs) k = (k.0.1, facts_can t fs k.1)
 
-pub turn_stands : (u : ℕ) (t : Tier) (log : LogState AnyValue) (turn : Turn AnyValue) → IsFew u log turn → IsTurnIn u (CanStand t) FitsBallot turn → StandIn t (open_at log) (map as_fact turn.facts)
+pub turn_stands : (u : ℕ) (t : Tier) (log : LogState AnyValue) (turn : Turn AnyValue) → IsFew u log turn
+    → IsTurnIn u (CanStand t) FitsBallot turn → StandIn t (open_at log) (map as_fact turn.facts)
 turn_stands u t log turn few k = record {
-  fit = from_log t (open_at log) turn.facts (facts_carried t turn.facts k.facts) (written_in_order (CanStand t) (open_at log) (open_at turn.state) turn.facts few.written k.facts);
+  fit = from_log t (open_at log) turn.facts (facts_carried t turn.facts k.facts)
+      (written_in_order (CanStand t) (open_at log) (open_at turn.state) turn.facts few.written k.facts);
   can = facts_can t turn.facts k.facts;
 }
 
@@ -64,14 +68,16 @@ nothing_stands t first = record { fit = tt; can = tt }
 
 -- WHAT A RESTART RESTORES
 
-can_in : (t : Tier) (first : ℕ) (facts : List Fact) → FactsFit t first facts → AllByRecursion (CanWrite t) facts → AllByRecursion (IsFactIn (CanStand t) FitsBallot) (log_facts facts)
+can_in : (t : Tier) (first : ℕ) (facts : List Fact) → FactsFit t first facts → AllByRecursion (CanWrite t) facts
+    → AllByRecursion (IsFactIn (CanStand t) FitsBallot) (log_facts facts)
 can_in t first [] f k = tt
 can_in t first (Promised b ∷ fs) f k = (k.0, can_in t first fs f.1 k.1)
 can_in t first (Accepted p b v ∷ fs) f k = ((f.0.0.0, (k.0.0, k.0.1)), can_in t first fs f.1 k.1)
 can_in t first (Learned p v ∷ fs) f k = ((f.0.0.0, k.0), can_in t (first + 1) fs f.1 k.1)
 can_in t first (Held w number code ∷ fs) f k = absurd k.0
 
-pub restored_stands : (u : ℕ) (t : Tier) (facts : List Fact) → FactsFit t 0 facts → AllByRecursion (CanWrite t) facts → IsLogIn (CanStand t) FitsBallot (recover u (newest_first (log_facts facts)))
+pub restored_stands : (u : ℕ) (t : Tier) (facts : List Fact) → FactsFit t 0 facts → AllByRecursion (CanWrite t) facts
+    → IsLogIn (CanStand t) FitsBallot (recover u (newest_first (log_facts facts)))
 restored_stands u t facts f k = restored_in (CanStand t) FitsBallot u (log_facts facts) (can_in t 0 facts f k) (in_order t 0 facts f)
 
 -- the facts of the log in two parts

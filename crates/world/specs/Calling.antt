@@ -27,7 +27,8 @@ IsSureIf true old new t x = ChangedIn old new t x (λ S. is_sure_now {S = S})
 IsSureIf false old new t x = new ≡ old
 
 -- The disk was armed, the node made its move, and the power was put back.
-pub record Called (old new : Nodes) (t : Tier) (x : ℕ) (stop : Option StopAt) (disk_before disk_after : DiskState) (before after : List (End × List ℕ)) (row : RowOf) (answer : Result Answer Fault) (met : Bool) : Type 0 where
+pub record Called (old new : Nodes) (t : Tier) (x : ℕ) (stop : Option StopAt) (disk_before disk_after : DiskState)
+    (before after : List (End × List ℕ)) (row : RowOf) (answer : Result Answer Fault) (met : Bool) : Type 0 where
   pub between : Nodes
   pub called : DiskState
   pub moves : MoveIn old between t x (armed_with stop disk_before) called before after row answer

@@ -108,7 +108,8 @@ AllCaused before after (e ∷ es) = HasCause start before after e × AllCaused b
 
 -- no disk's count of faults fell
 abbrev pub NoneFell : List DiskState → List DiskState → Type 0
-NoneFell before after = (length after ≡ length before) × ((x : ℕ) (a b : DiskState) → slice_get before x ≡ Some a → slice_get after x ≡ Some b → a.faults ≤ b.faults)
+NoneFell before after = (length after ≡ length before)
+    × ((x : ℕ) (a b : DiskState) → slice_get before x ≡ Some a → slice_get after x ≡ Some b → a.faults ≤ b.faults)
 
 -- all are blank, tell so, and are neither armed nor stopped
 abbrev pub AreBlank : List DiskState → Type 0

@@ -49,7 +49,8 @@ AddsSome old new disks_before disks_after before now None place = ⊥
 AddsSome old new disks_before disks_after before now (Some due) place = Adds old new disks_before disks_after before now due place
 
 abbrev pub AddsLine : Progress → Progress → List DiskState → List DiskState → List ℕ → List ℕ → Event → Type 0
-AddsLine old new disks_before disks_after before now line = AddsSome old new disks_before disks_after before now (turn_of (run_of old) line).event (turn_of (run_of old) line).place
+AddsLine old new disks_before disks_after before now line = AddsSome old new disks_before disks_after before now
+    (turn_of (run_of old) line).event (turn_of (run_of old) line).place
 
 -- the line is one event of those that are made here
 abbrev pub is_one : Event → Bool
@@ -76,7 +77,8 @@ StaysInStep p (Err stops.Memory) = Unit {0}
 
 -- a call with this line
 abbrev pub GoesBy : Progress → Progress → List DiskState → List DiskState → List ℕ → List ℕ → Event → Result Bool Stop → Type 0
-GoesBy old new disks_before disks_after before now line result = Applies (run_of old) (run_of new) disks_before disks_after before now line result × StaysInStep new result
+GoesBy old new disks_before disks_after before now line result = Applies (run_of old) (run_of new) disks_before
+    disks_after before now line result × StaysInStep new result
 
 -- RESTARTS
 

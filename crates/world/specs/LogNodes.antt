@@ -104,7 +104,8 @@ abbrev pub IsSameNode : LogView → LogView → Type 0
 IsSameNode old new = (new.faults ≡ old.faults) × ((new.tier ≡ old.tier) × (new.me ≡ old.me))
 
 -- a call made this turn of its log, in range
-pub record Turns (old new : LogView) (disk_before disk_after : DiskState) (before after : List (End × List ℕ)) (turn : LogState AnyValue → Turn AnyValue) (result : Result Answer Fault) : Type 0 where
+pub record Turns (old new : LogView) (disk_before disk_after : DiskState) (before after : List (End × List ℕ))
+    (turn : LogState AnyValue → Turn AnyValue) (result : Result Answer Fault) : Type 0 where
   pub row : (log : LogState AnyValue) → old.part.mode ≡ Up log → MakesTurn old new before after (turn log) result
   pub disk : (log : LogState AnyValue) → old.part.mode ≡ Up log → WritesTurn old new disk_before disk_after (turn log) result
   pub later : Later disk_before disk_after
@@ -122,7 +123,9 @@ mid_part part pending = record { mode = mid_mode part.mode pending; place = part
 
 -- the own value of a middle node that is up can stand at its first open position
 abbrev pub OwnStands : MidView → Type 0
-OwnStands m = (part : MidPart) → m.part.mode ≡ Up part → IsOwnIn (CanStand tiers.Mid) (open_at part.log) (own_value m.faults booking_service.programs (as_mid m.faults m.me m.depth part))
+OwnStands m = (part : MidPart) → m.part.mode ≡ Up part
+    → IsOwnIn (CanStand tiers.Mid) (open_at part.log)
+    (own_value m.faults booking_service.programs (as_mid m.faults m.me m.depth part))
 
 -- the last packets are those of these messages
 abbrev pub HasSent : Tier → ℕ → List (ℕ × PaxMsg AnyValue) → List (End × List ℕ) → Type 0

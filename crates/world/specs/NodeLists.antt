@@ -19,7 +19,8 @@ use Rattle.tier_model.specs.Kinds.{Kind}
 use Rattle.world.specs.declared.nodes.all_nodes.Nodes.{Nodes}
 use Rattle.world.specs.declared.nodes.condition.Condition.{Condition}
 use Rattle.world.specs.declared.nodes.condition.Condition.TheVariants as conditions
-use Rattle.world.specs.Parts.{NodePart, MidPart, View, MidView, BackView, PartOf, shape, Moves, Restarts, MayWrite, CanReach, is_up, is_down_in, new_part, view_with}
+use Rattle.world.specs.Parts.{NodePart, MidPart, View, MidView, BackView, PartOf, shape, Moves, Restarts, MayWrite}
+use Rattle.world.specs.Parts.{CanReach, is_up, is_down_in, new_part, view_with}
 
 -- NEW NODES
 
@@ -94,13 +95,15 @@ abbrev pub RowOf : Type 1
 RowOf = (S : Type 0) → Kind S → S → Move S
 
 -- the node x of the list makes the move of this row, and no other changes
-abbrev pub ListMoves : (t : Tier) → List (View (PartOf t)) → List (View (PartOf t)) → ℕ → DiskState → DiskState → List (End × List ℕ) → List (End × List ℕ) → RowOf → Result Answer Fault → Type 0
+abbrev pub ListMoves : (t : Tier) → List (View (PartOf t)) → List (View (PartOf t)) → ℕ → DiskState → DiskState
+    → List (End × List ℕ) → List (End × List ℕ) → RowOf → Result Answer Fault → Type 0
 ListMoves t old new x disk_before disk_after before after row result = (v : View (PartOf t)) → slice_get old x ≡ Some v
     → (n : View (PartOf t)) × (new ≡ slice_set old x n) × Moves (shape t) v n disk_before disk_after before after (row _ ((shape t).rows v)) result
 
 -- at a node of the tier, and the other tiers stay
 abbrev pub MoveIn : Nodes → Nodes → Tier → ℕ → DiskState → DiskState → List (End × List ℕ) → List (End × List ℕ) → RowOf → Result Answer Fault → Type 0
-MoveIn old new t x disk_before disk_after before after row result = ListMoves t (views old t) (views new t) x disk_before disk_after before after row result × KeepsElse t old new
+MoveIn old new t x disk_before disk_after before after row result = ListMoves t (views old t) (views new t) x
+    disk_before disk_after before after row result × KeepsElse t old new
 
 abbrev pub NodesMove : Nodes → Nodes → NodeId → DiskState → DiskState → List (End × List ℕ) → List (End × List ℕ) → RowOf → Result Answer Fault → Type 0
 NodesMove old new n disk_before disk_after before after row result = MoveIn old new n.tier n.index disk_before disk_after before after row result
@@ -147,9 +150,15 @@ NodeRestarts old new n before after result = RestartIn old new n.tier n.index be
 
 -- the node's part is changed so, and nothing else
 abbrev pub ChangedIn : Nodes → Nodes → Tier → ℕ → ((S : Type 0) → NodePart S → NodePart S) → Type 0
-ChangedIn old new tiers.Mid x change = ((m : MidView) → slice_get old.mids.items x ≡ Some m → new.mids.items ≡ slice_set old.mids.items x (view_with (change MidPart) m)) × ((new.invs.items ≡ old.invs.items) × (new.pays.items ≡ old.pays.items))
-ChangedIn old new tiers.Inv x change = ((b : BackView) → slice_get old.invs.items x ≡ Some b → new.invs.items ≡ slice_set old.invs.items x (view_with (change (LogState AnyValue)) b)) × ((new.mids.items ≡ old.mids.items) × (new.pays.items ≡ old.pays.items))
-ChangedIn old new tiers.Pay x change = ((b : BackView) → slice_get old.pays.items x ≡ Some b → new.pays.items ≡ slice_set old.pays.items x (view_with (change (LogState AnyValue)) b)) × ((new.mids.items ≡ old.mids.items) × (new.invs.items ≡ old.invs.items))
+ChangedIn old new tiers.Mid x change = ((m : MidView) → slice_get old.mids.items x ≡ Some m
+    → new.mids.items ≡ slice_set old.mids.items x (view_with (change MidPart) m))
+    × ((new.invs.items ≡ old.invs.items) × (new.pays.items ≡ old.pays.items))
+ChangedIn old new tiers.Inv x change = ((b : BackView) → slice_get old.invs.items x ≡ Some b
+    → new.invs.items ≡ slice_set old.invs.items x (view_with (change (LogState AnyValue)) b))
+    × ((new.mids.items ≡ old.mids.items) × (new.pays.items ≡ old.pays.items))
+ChangedIn old new tiers.Pay x change = ((b : BackView) → slice_get old.pays.items x ≡ Some b
+    → new.pays.items ≡ slice_set old.pays.items x (view_with (change (LogState AnyValue)) b))
+    × ((new.mids.items ≡ old.mids.items) × (new.invs.items ≡ old.invs.items))
 
 abbrev pub Changes : Nodes → Nodes → NodeId → ((S : Type 0) → NodePart S → NodePart S) → Type 0
 Changes old new n change = ChangedIn old new n.tier n.index change

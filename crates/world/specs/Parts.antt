@@ -1,5 +1,6 @@
 -- The nodes of the tiers, as far as they go while nothing is run: a node has its log, and a middle node its pending entries.
-use Rattle.std.specs.Prelude.{◌≡◌, ◌⊎◌, ℕ, ◌+◌, ◌*◌, ◌<◌, ◌≤◌, Bool, true, false, ◌&&◌, List, [], ◌++◌, length, map, nat_lt, Option, Some, None, OnOk, slice_get, if◌then◌else◌}
+use Rattle.std.specs.Prelude.{◌≡◌, ◌⊎◌, ℕ, ◌+◌, ◌*◌, ◌<◌, ◌≤◌, Bool, true, false, ◌&&◌, List, [], ◌++◌, length, map}
+use Rattle.std.specs.Prelude.{nat_lt, Option, Some, None, OnOk, slice_get, if◌then◌else◌}
 use Rattle.std.specs.List.{AllByRecursion}
 use Rattle.std.specs.declared.result.Result.{Result}
 use Rattle.std.specs.declared.result.Result.TheVariants.{Ok, Err}
@@ -170,17 +171,22 @@ Wrote old new at now facts (Ok answer) = ((rs : List (List Fact)) → old.tells 
     × (writes facts ≡ true → old.armed ≤ 4 → old.armed ≡ 0) × (writes facts ≡ false → new ≡ old)
 Wrote old new at now facts (Err (faults.JournalFull size)) = new ≡ old
 Wrote old new at now facts (Err faults.Disk) = (writes facts ≡ true) × ((new.stopped ≡ true) ⊎ Rose old.faults new.faults)
-    × ((rs : List (List Fact)) → old.tells ≡ true → HasFacts rs old at → StandsFor (old_or_new rs facts) new × (old.stopped ≡ false → new.stopped ≡ true → IsCut rs facts old new))
+    × ((rs : List (List Fact)) → old.tells ≡ true → HasFacts rs old at → StandsFor (old_or_new rs facts) new
+    × (old.stopped ≡ false → new.stopped ≡ true → IsCut rs facts old new))
 Wrote old new at now facts (Err faults.Memory) = Unit {0}
 Wrote old new at now facts (Err (faults.BadRecord place)) = ⊥
 
 -- The node makes the move: its state, its journal's length, its packets and its answer are the move's. Where the journal
 -- would pass its limit, or the disk failed, the node goes down and sends nothing. Want of memory says nothing.
 abbrev pub Makes : {S T : Type 0} → (S → T) → NodePart S → NodePart S → List (End × List ℕ) → List (End × List ℕ) → Move T → Result Answer Fault → Type 0
-Makes {S = S} whole old new sent_before sent_after move (Ok answer) = (is_past (old.place + 1) move.facts ≡ false) × ((s : S) × (new.mode ≡ Up s) × (whole s ≡ move.state))
-    × (new.place + 1 ≡ length_with (old.place + 1) move.facts) × (new.doubt ≡ old.doubt) × (sent_after ≡ sent_before ++ map sealed move.sends) × AreFit move.sends × (answer ≡ move.answer)
-Makes whole old new sent_before sent_after move (Err (faults.JournalFull size)) = (is_past (old.place + 1) move.facts ≡ true) × (new.mode ≡ Down) × (new.place ≡ old.place) × (new.doubt ≡ old.doubt) × (sent_after ≡ sent_before)
-Makes whole old new sent_before sent_after move (Err faults.Disk) = (is_past (old.place + 1) move.facts ≡ false) × (new.mode ≡ Down) × (new.place ≡ old.place) × (new.doubt ≡ true) × (sent_after ≡ sent_before)
+Makes {S = S} whole old new sent_before sent_after move (Ok answer) = (is_past (old.place + 1) move.facts ≡ false)
+    × ((s : S) × (new.mode ≡ Up s) × (whole s ≡ move.state))
+    × (new.place + 1 ≡ length_with (old.place + 1) move.facts) × (new.doubt ≡ old.doubt)
+    × (sent_after ≡ sent_before ++ map sealed move.sends) × AreFit move.sends × (answer ≡ move.answer)
+Makes whole old new sent_before sent_after move (Err (faults.JournalFull size)) = (is_past (old.place + 1) move.facts
+    ≡ true) × (new.mode ≡ Down) × (new.place ≡ old.place) × (new.doubt ≡ old.doubt) × (sent_after ≡ sent_before)
+Makes whole old new sent_before sent_after move (Err faults.Disk) = (is_past (old.place + 1) move.facts ≡ false)
+    × (new.mode ≡ Down) × (new.place ≡ old.place) × (new.doubt ≡ true) × (sent_after ≡ sent_before)
 Makes whole old new sent_before sent_after move (Err faults.Memory) = Unit {0}
 Makes whole old new sent_before sent_after move (Err (faults.BadRecord at)) = ⊥
 
@@ -249,7 +255,8 @@ IsSameView old new = (new.faults ≡ old.faults) × ((new.tier ≡ old.tier) × 
 
 -- A call of a node that is up makes the move, and its facts are written down before. What the move sends reaches nodes, and
 -- has room.
-pub record Moves {S T : Type 0} (k : Shape S T) (old new : View S) (disk_before disk_after : DiskState) (before after : List (End × List ℕ)) (move : T → Move T) (result : Result Answer Fault) : Type 0 where
+pub record Moves {S T : Type 0} (k : Shape S T) (old new : View S) (disk_before disk_after : DiskState)
+    (before after : List (End × List ℕ)) (move : T → Move T) (result : Result Answer Fault) : Type 0 where
   pub row : (s : S) → old.part.mode ≡ Up s → Makes (k.whole old) old.part new.part before after (move (k.whole old s)) result
   pub disk : (s : S) → old.part.mode ≡ Up s → Wrote disk_before disk_after old.part.place new.part.place (move (k.whole old s)).facts result
   pub later : Later disk_before disk_after
@@ -262,7 +269,8 @@ pub record Moves {S T : Type 0} (k : Shape S T) (old new : View S) (disk_before 
 abbrev pub MidMoves : MidView → MidView → DiskState → DiskState → List (End × List ℕ) → List (End × List ℕ) → (Mid → Move Mid) → Result Answer Fault → Type 0
 MidMoves old new disk_before disk_after before after move result = Moves mid_shape old new disk_before disk_after before after move result
 
-abbrev pub BackMoves : BackView → BackView → DiskState → DiskState → List (End × List ℕ) → List (End × List ℕ) → (Back Amounts → Move (Back Amounts)) → Result Answer Fault → Type 0
+abbrev pub BackMoves : BackView → BackView → DiskState → DiskState → List (End × List ℕ) → List (End × List ℕ)
+    → (Back Amounts → Move (Back Amounts)) → Result Answer Fault → Type 0
 BackMoves old new disk_before disk_after before after move result = Moves back_shape old new disk_before disk_after before after move result
 
 -- RESTARTS
@@ -274,11 +282,13 @@ list_found doubt known found = if doubt && nat_lt known found then 1 else 0
 -- A node that is down restarts on a disk that stands for lists of records which a node of the tier can have written. It comes
 -- up with what one of them leaves, and the disk has that one then. Where the disk fails the node stays down, and the disk
 -- stands for the same lists. Want of memory says nothing.
-abbrev pub Reads : {S T : Type 0} → Tier → (S → T) → (S → ℕ) → (List Fact → T) → NodePart S → NodePart S → DiskState → DiskState → List (List (List Fact)) → Result ℕ Fault → Type 0
+abbrev pub Reads : {S T : Type 0} → Tier → (S → T) → (S → ℕ) → (List Fact → T) → NodePart S → NodePart S → DiskState
+    → DiskState → List (List (List Fact)) → Result ℕ Fault → Type 0
 Reads {S = S} t whole open_of recover old new before after lists (Ok list) = (k : ℕ) × (rs : List (List Fact)) × (slice_get lists k ≡ Some rs)
     × ((s : S) × (new.mode ≡ Up s) × (whole s ≡ recover (newest rs)) × (open_of s ≡ open_after_all 0 (all_facts rs)))
     × (new.doubt ≡ false) × HasFacts rs after new.place × (list ≡ list_found old.doubt old.place new.place)
-Reads t whole open_of recover old new before after lists (Err faults.Disk) = (new ≡ old) × StandsFor lists after × ((after.stopped ≡ true) ⊎ Rose before.faults after.faults)
+Reads t whole open_of recover old new before after lists (Err faults.Disk) = (new ≡ old) × StandsFor lists after
+    × ((after.stopped ≡ true) ⊎ Rose before.faults after.faults)
 Reads t whole open_of recover old new before after lists (Err faults.Memory) = Unit {0}
 Reads t whole open_of recover old new before after lists (Err (faults.JournalFull size)) = ⊥
 Reads t whole open_of recover old new before after lists (Err (faults.BadRecord at)) = ⊥
@@ -288,7 +298,8 @@ abbrev pub MayRead : Tier → DiskState → Type 0
 MayRead t disk = (lists : List (List (List Fact))) × StandsFor lists disk × AllStand t lists
 
 pub record Restarts {S T : Type 0} (k : Shape S T) (old new : View S) (before after : DiskState) (result : Result ℕ Fault) : Type 0 where
-  pub reads : (lists : List (List (List Fact))) → StandsFor lists before → AllStand old.tier lists → Reads old.tier (k.whole old) (open_in k) (k.rows old).recovered old.part new.part before after lists result
+  pub reads : (lists : List (List (List Fact))) → StandsFor lists before → AllStand old.tier lists
+      → Reads old.tier (k.whole old) (open_in k) (k.rows old).recovered old.part new.part before after lists result
   pub later : Later before after
   pub same : IsSameView old new
 

@@ -73,23 +73,29 @@ pub record MakesEvent (old new : Run) (disks_before disks_after : List DiskState
 
 -- An event begins only where no more packets than the limit were sent; else nothing is changed. Want of memory says nothing.
 abbrev pub AppliesEvent : Run → Run → List DiskState → List DiskState → List ℕ → List ℕ → Event → Place → TraceEvent → Result Bool Stop → Type 0
-AppliesEvent old new disks_before disks_after before now line place due (Ok again) = (length (world_of old).soup ≤ PACKETS_BEFORE) × MakesEvent old new disks_before disks_after before now due place × (again ≡ goes_on line)
-AppliesEvent old new disks_before disks_after before now line place due (Err stops.Limit) = (PACKETS_BEFORE < length (world_of old).soup) × (new ≡ old) × (disks_after ≡ disks_before) × (now ≡ before)
+AppliesEvent old new disks_before disks_after before now line place due (Ok again) = (length
+    (world_of old).soup ≤ PACKETS_BEFORE) × MakesEvent old new disks_before disks_after before now due place
+    × (again ≡ goes_on line)
+AppliesEvent old new disks_before disks_after before now line place due (Err stops.Limit) = (PACKETS_BEFORE < length
+    (world_of old).soup) × (new ≡ old) × (disks_after ≡ disks_before) × (now ≡ before)
 AppliesEvent old new disks_before disks_after before now line place due (Err stops.Memory) = Unit {0}
 
 -- nothing is left to do for the line
 abbrev pub AppliesNothing : Run → Run → List DiskState → List DiskState → List ℕ → List ℕ → Place → Result Bool Stop → Type 0
-AppliesNothing old new disks_before disks_after before now place (Ok again) = (new ≡ at_place old place) × (disks_after ≡ disks_before) × (now ≡ before) × (again ≡ false)
+AppliesNothing old new disks_before disks_after before now place (Ok again) = (new ≡ at_place old place)
+    × (disks_after ≡ disks_before) × (now ≡ before) × (again ≡ false)
 AppliesNothing old new disks_before disks_after before now place (Err stops.Limit) = ⊥
 AppliesNothing old new disks_before disks_after before now place (Err stops.Memory) = Unit {0}
 
 abbrev pub AppliesBy : Run → Run → List DiskState → List DiskState → List ℕ → List ℕ → Event → Place → Option TraceEvent → Result Bool Stop → Type 0
 AppliesBy old new disks_before disks_after before now line place None answer = AppliesNothing old new disks_before disks_after before now place answer
-AppliesBy old new disks_before disks_after before now line place (Some due) answer = AppliesEvent old new disks_before disks_after before now line place due answer
+AppliesBy old new disks_before disks_after before now line place (Some due) answer = AppliesEvent old new disks_before
+    disks_after before now line place due answer
 
 -- a call of `apply` with this line
 abbrev pub Applies : Run → Run → List DiskState → List DiskState → List ℕ → List ℕ → Event → Result Bool Stop → Type 0
-Applies old new disks_before disks_after before now line answer = AppliesBy old new disks_before disks_after before now line (turn_of old line).place (turn_of old line).event answer
+Applies old new disks_before disks_after before now line answer = AppliesBy old new disks_before disks_after before now
+    line (turn_of old line).place (turn_of old line).event answer
 
 -- the closing lines
 abbrev pub closing_of : Run → List ℕ

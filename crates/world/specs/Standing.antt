@@ -133,7 +133,8 @@ abbrev pub AreShownOn : Parts → List DiskState → Type 0
 AreShownOn parts disks = (u : ℕ) × (depth : ℕ) × (w : BookingWorld) × Shows u depth w parts × AreDisks w disks
 
 -- The event is made and what it prints is added; the disks are those of the world then.
-pub record Makes (new : Parts) (disks_before disks_after : List DiskState) (before now : List ℕ) (event : TraceEvent) (u depth : ℕ) (w : BookingWorld) : Type 0 where
+pub record Makes (new : Parts) (disks_before disks_after : List DiskState) (before now : List ℕ) (event : TraceEvent)
+    (u depth : ℕ) (w : BookingWorld) : Type 0 where
   pub shows : Shows u depth (after (config u depth) w event) new
   pub disks : AreDisks (after (config u depth) w event) disks_after
   pub cause : HasCause w disks_before disks_after event
@@ -143,7 +144,8 @@ pub record Makes (new : Parts) (disks_before disks_after : List DiskState) (befo
 
 -- whatever world the parts and the disks are of
 abbrev pub MakesAny : Parts → Parts → List DiskState → List DiskState → List ℕ → List ℕ → TraceEvent → Type 0
-MakesAny old new disks_before disks_after before now event = (u depth : ℕ) (w : BookingWorld) → Shows u depth w old → AreDisks w disks_before → Makes new disks_before disks_after before now event u depth w
+MakesAny old new disks_before disks_after before now event = (u depth : ℕ) (w : BookingWorld) → Shows u depth w old
+    → AreDisks w disks_before → Makes new disks_before disks_after before now event u depth w
 
 -- an event in which no disk is touched; want of memory says nothing
 abbrev pub Plays : Parts → Parts → List ℕ → List ℕ → TraceEvent → Result (Unit {0}) Memory → Type 0
@@ -159,7 +161,8 @@ FaresAs asked fared = (fared ≡ asked) ⊎ (fared ≡ Fault)
 
 -- an event that fares as its disk does
 abbrev pub PlaysBy : Parts → Parts → List DiskState → List DiskState → List ℕ → List ℕ → (Fared → TraceEvent) → Fared → Result Fared Memory → Type 0
-PlaysBy old new disks_before disks_after before now event asked (Ok fared) = FaresAs asked fared × MakesAny old new disks_before disks_after before now (event fared)
+PlaysBy old new disks_before disks_after before now event asked (Ok fared) = FaresAs asked fared
+    × MakesAny old new disks_before disks_after before now (event fared)
 PlaysBy old new disks_before disks_after before now event asked (Err Memory) = Unit {0}
 
 -- a restart that finds what its disk has

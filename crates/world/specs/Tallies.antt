@@ -71,4 +71,8 @@ hears s x message = s
 
 -- the first open position is chosen, where it can be
 abbrev pub grown : Seen → Seen
-grown s = if is_chosen s.faults s.tallies s.chosen then record { faults = s.faults; chosen = s.chosen + 1; tallies = tallies_from (s.chosen + 1) s.tallies } else s
+grown s = if is_chosen s.faults s.tallies s.chosen then record {
+  faults = s.faults;
+  chosen = s.chosen + 1;
+  tallies = tallies_from (s.chosen + 1) s.tallies;
+} else s

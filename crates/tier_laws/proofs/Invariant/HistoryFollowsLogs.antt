@@ -49,4 +49,5 @@ pub record Ledger {B : Type 0} (m : Service B) (D : ℕ) (L : List AnyValue) (K 
   pub decided : (r : ℕ) → r < half (length L) → Decision m D L (server m h) r
   pub served : (t : Tier) (n : ℕ) → (server m h).served t n ≡ (back_run (m.backend t) (K t)).code n
   pub backs : (t : Tier) → (server m h).backs t ≡ (back_run (m.backend t) (K t)).state
-  pub settles : (t : Tier) (i g n : ℕ) → slice_get (K t) i ≡ Some (OfBack (Settled g)) → 0 < n → n < g → (code : ℕ) × ((back_run (m.backend t) (take i (K t))).code n ≡ Some code)
+  pub settles : (t : Tier) (i g n : ℕ) → slice_get (K t) i ≡ Some (OfBack (Settled g)) → 0 < n → n < g → (code : ℕ)
+      × ((back_run (m.backend t) (take i (K t))).code n ≡ Some code)

@@ -37,7 +37,8 @@ Beside c P Inv x σ = BackBeside c P Inv σ
 Beside c P Pay x σ = BackBeside c P Pay σ
 
 -- the records that a disk may stand for besides, since it failed: those of a turn that would have been right
-pub record Pending {B : Type 0} (c : Config B) (P : Past B) (t : Tier) (h : ℕ → List (LogFact AnyValue)) (soup : List (LogPacket AnyValue)) (x : ℕ) (R : List (List Fact)) : Type 0 where
+pub record Pending {B : Type 0} (c : Config B) (P : Past B) (t : Tier) (h : ℕ → List (LogFact AnyValue))
+    (soup : List (LogPacket AnyValue)) (x : ℕ) (R : List (List Fact)) : Type 0 where
   pub turn : Turn AnyValue
   pub codes : List Code
   pub is_log : log_facts (newest R) ≡ onto turn.facts (h x)
@@ -46,18 +47,21 @@ pub record Pending {B : Type 0} (c : Config B) (P : Past B) (t : Tier) (h : ℕ 
   pub good : (p : ℕ) (b : Ballot) (v : AnyValue) → DidVote (onto turn.facts (h x)) p b v → ValueOk c P t p v
   pub right : (i : ℕ) (q : Code) → slice_get codes i ≡ Some q → P.server.served q.tier q.num ≡ Some q.code
 
-pub record UpOk {B : Type 0} (c : Config B) (P : Past B) (t : Tier) (h : ℕ → List (LogFact AnyValue)) (soup : List (LogPacket AnyValue)) (x : ℕ) (R : List (List Fact)) (σ : State B t) : Type 0 where
+pub record UpOk {B : Type 0} (c : Config B) (P : Past B) (t : Tier) (h : ℕ → List (LogFact AnyValue))
+    (soup : List (LogPacket AnyValue)) (x : ℕ) (R : List (List Fact)) (σ : State B t) : Type 0 where
   pub is_log : log_facts (newest R) ≡ h x
   pub is_held : codes_in (newest R) ≡ P.codes t x
   pub log : StateOk c.u h (h x) soup x (log_at c t σ)
   pub beside : Beside c P t x σ
 
-pub record DownOk {B : Type 0} (c : Config B) (P : Past B) (t : Tier) (h : ℕ → List (LogFact AnyValue)) (soup : List (LogPacket AnyValue)) (x : ℕ) (R : List (List Fact)) (others : List (List (List Fact))) : Type 0 where
+pub record DownOk {B : Type 0} (c : Config B) (P : Past B) (t : Tier) (h : ℕ → List (LogFact AnyValue))
+    (soup : List (LogPacket AnyValue)) (x : ℕ) (R : List (List Fact)) (others : List (List (List Fact))) : Type 0 where
   pub is_log : log_facts (newest R) ≡ h x
   pub is_held : codes_in (newest R) ≡ P.codes t x
   pub pending : (n : ℕ) (Q : List (List Fact)) → slice_get others n ≡ Some Q → Pending c P t h soup x Q
 
-abbrev pub NodeOk : {B : Type 0} → Config B → Past B → (t : Tier) → (ℕ → List (LogFact AnyValue)) → List (LogPacket AnyValue) → ℕ → Node (State B t) Fact → Mode (State B t) → Type 0
+abbrev pub NodeOk : {B : Type 0} → Config B → Past B → (t : Tier) → (ℕ → List (LogFact AnyValue))
+    → List (LogPacket AnyValue) → ℕ → Node (State B t) Fact → Mode (State B t) → Type 0
 NodeOk c P t h soup x node (Up σ) = UpOk c P t h soup x node.records σ
 NodeOk c P t h soup x node Down = DownOk c P t h soup x node.records node.others
 NodeOk c P t h soup x node Gone = Unit {0}

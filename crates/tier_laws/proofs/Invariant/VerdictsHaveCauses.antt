@@ -28,8 +28,14 @@ has_run [] r o y = false
 has_run (v ∷ vs) r o y = ((v.round == r) && ((v.from == y) && same_token v.token o)) || has_run vs r o y
 
 abbrev pub VerdictBy : {B : Type 0} → Config B → Past B → ℕ → Round → Verdict → Type 0
-VerdictBy c P r R (Commit o order) = (is_order (length R.job) order ≡ true) × (o ≡ token_of c.service.programs R.tables.store (finish c.service.programs R.job order R.tables.store)) × ((n : ℕ) × (c.u < n) × ((ys : ℕ → Bool) × (count_below (2 * c.u + 1) ys ≡ n) × ((y : ℕ) → ys y ≡ true → (w : Vote) × DidRun P w × (w.round ≡ r) × (w.from ≡ y) × (same_token w.token o ≡ true)))) × ((w : Vote) × DidRun P w × (w.round ≡ r) × (w.token ≡ o) × (w.order ≡ order))
-VerdictBy c P r R Serial = (v : Vote) × (w : Vote) × DidRun P v × DidRun P w × (v.round ≡ r) × (w.round ≡ r) × (same_token v.token w.token ≡ false) × (same_token w.token w.token ≡ true → v.from ≡ w.from → ⊥)
+VerdictBy c P r R (Commit o order) = (is_order (length R.job) order ≡ true)
+    × (o ≡ token_of c.service.programs R.tables.store (finish c.service.programs R.job order R.tables.store))
+    × ((n : ℕ) × (c.u < n)
+    × ((ys : ℕ → Bool) × (count_below (2 * c.u + 1) ys ≡ n)
+    × ((y : ℕ) → ys y ≡ true → (w : Vote) × DidRun P w × (w.round ≡ r) × (w.from ≡ y) × (same_token w.token o ≡ true))))
+    × ((w : Vote) × DidRun P w × (w.round ≡ r) × (w.token ≡ o) × (w.order ≡ order))
+VerdictBy c P r R Serial = (v : Vote) × (w : Vote) × DidRun P v × DidRun P w × (v.round ≡ r) × (w.round ≡ r)
+    × (same_token v.token w.token ≡ false) × (same_token w.token w.token ≡ true → v.from ≡ w.from → ⊥)
 
 pub record VerdictOk {B : Type 0} (c : Config B) (P : Past B) (r : ℕ) (v : Verdict) : Type 0 where
   pub made : Round

@@ -47,8 +47,10 @@ pub record Core {B : Type 0} (c : Config B) (w : World B) (codes : AllCodes) (h 
   pub right : (t : Tier) (x i : ℕ) (q : Code) → slice_get (codes t x) i ≡ Some q → (server c.service w.hist).served q.tier q.num ≡ Some q.code
   pub packets : Every (SentOk c (past c w codes)) w.soup
   pub nodes : (t : Tier) (x : ℕ) → x < 2 * c.u + 1 → NodeOk c (past c w codes) t (h t) (log_soup t w.soup) x (w.nodes t x) (w.nodes t x).mode
-  pub clients : (y : ℕ) (text : List ℕ) → (w.clients y).opened ≡ Some text → Submitted (past c w codes) (record { client = y; seq = (w.clients y).last; body = text })
-  pub starts : (i n : ℕ) (who : ReqId) (body : List ℕ) → slice_get w.hist i ≡ Some (Start who n, body) → Submitted (past c w codes) (record { client = who.client; seq = who.seq; body = body })
+  pub clients : (y : ℕ) (text : List ℕ) → (w.clients y).opened ≡ Some text
+      → Submitted (past c w codes) (record { client = y; seq = (w.clients y).last; body = text })
+  pub starts : (i n : ℕ) (who : ReqId) (body : List ℕ) → slice_get w.hist i ≡ Some (Start who n, body)
+      → Submitted (past c w codes) (record { client = who.client; seq = who.seq; body = body })
   pub told : (i : ℕ) (e : Entry) → slice_get w.told i ≡ Some e → (server c.service w.hist).replies e.client e.seq ≡ Some e.body
 
 pub record Done {B : Type 0} (c : Config B) (w : World B) : Type 0 where

@@ -21,7 +21,8 @@ Agrees m = (who : ReqId) (body : List ℕ) (stage : ℕ) → Folds (m.begins who
 
 -- ONE SEGMENT
 
-segment_in : (o : Option Beginning) (row : Option (Option ℕ → Store → Segment)) (answer : Option ℕ) (s : Store) → Folds o row → segment_of (plan_in o answer) s ≡ row_of row answer s
+segment_in : (o : Option Beginning) (row : Option (Option ℕ → Store → Segment)) (answer : Option ℕ) (s : Store)
+    → Folds o row → segment_of (plan_in o answer) s ≡ row_of row answer s
 segment_in None None answer s h = refl
 segment_in None (Some row) answer s h = absurd h
 segment_in (Some b) None answer s h = absurd h
@@ -38,7 +39,8 @@ pub serial_is : (m : Programs) → Agrees m → (J : List Seg) (order : List ℕ
 serial_is m a J [] s = refl
 serial_is m a J (i ∷ is) s = serial_is m a J is (store_after (plan_at m.begins J i) s) ∙ ap (λ (g : Segment). serial m J is g.store) (segment_is m a J i s)
 
-end_is : (m : Programs) → Agrees m → (J : List Seg) (order : List ℕ) (s : Store) (k : ℕ) → unwrap_or (plans.serial_end (plan_at m.begins J) s order k) said_nothing ≡ serial_end m J order s k
+end_is : (m : Programs) → Agrees m → (J : List Seg) (order : List ℕ) (s : Store) (k : ℕ)
+    → unwrap_or (plans.serial_end (plan_at m.begins J) s order k) said_nothing ≡ serial_end m J order s k
 end_is m a J [] s k = refl
 end_is m a J (i ∷ is) s k = at (i == k) (end_is m a J is (store_after p s) k)
   where
@@ -46,7 +48,8 @@ end_is m a J (i ∷ is) s k = at (i == k) (end_is m a J is (store_after p s) k)
     p = plan_at m.begins J i
 
     at : (b : Bool) → unwrap_or (plans.serial_end (plan_at m.begins J) (store_after p s) is k) said_nothing ≡ serial_end m J is (store_after p s) k
-        → unwrap_or (cond b (Some (ending_of p s)) (plans.serial_end (plan_at m.begins J) (store_after p s) is k)) said_nothing ≡ cond b (segment m (slice_get J i) s).ending (serial_end m J is (segment m (slice_get J i) s).store k)
+        → unwrap_or (cond b (Some (ending_of p s)) (plans.serial_end (plan_at m.begins J) (store_after p s) is k))
+        said_nothing ≡ cond b (segment m (slice_get J i) s).ending (serial_end m J is (segment m (slice_get J i) s).store k)
     at true h = ap (λ (g : Segment). g.ending) (segment_is m a J i s)
     at false h = h ∙ ap (λ (g : Segment). serial_end m J is g.store k) (segment_is m a J i s)
 
@@ -69,13 +72,16 @@ tabulate-same (suc n) f g h = λ i. h 0 i ∷ tabulate-same n (λ k. f (suc k)) 
 pub run-order : (begins : Beginnings) (J : List Seg) (s : Store) (schedule : List ℕ) → is_order (length J) (run_job begins J s schedule).order ≡ true
 run-order begins J s schedule = order_in (length J) (run_job begins J s schedule).order (run_job-order begins J s schedule)
 
-pub run-store : (m : Programs) → Agrees m → (J : List Seg) (s : Store) (schedule : List ℕ) → (run_job m.begins J s schedule).store ≡ serial m J (run_job m.begins J s schedule).order s
+pub run-store : (m : Programs) → Agrees m → (J : List Seg) (s : Store) (schedule : List ℕ)
+    → (run_job m.begins J s schedule).store ≡ serial m J (run_job m.begins J s schedule).order s
 unfolding serial_store
 run-store m a J s schedule = run_job-store m.begins J s schedule ∙ serial_is m a J (run_job m.begins J s schedule).order s
 
-pub run-ends : (m : Programs) → Agrees m → (J : List Seg) (s : Store) (schedule : List ℕ) → (run_job m.begins J s schedule).ends ≡ tabulate (length J) (serial_end m J (run_job m.begins J s schedule).order s)
+pub run-ends : (m : Programs) → Agrees m → (J : List Seg) (s : Store) (schedule : List ℕ)
+    → (run_job m.begins J s schedule).ends ≡ tabulate (length J) (serial_end m J (run_job m.begins J s schedule).order s)
 unfolding serial_ends
-run-ends m a J s schedule = run_job-ends m.begins J s schedule ∙ map-below ends (length J) ∙ tabulate-same (length J) ends (serial_end m J order s) (end_is m a J order s)
+run-ends m a J s schedule = run_job-ends m.begins J s schedule ∙ map-below ends (length J)
+    ∙ tabulate-same (length J) ends (serial_end m J order s) (end_is m a J order s)
   where
     order : List ℕ
     order = (run_job m.begins J s schedule).order

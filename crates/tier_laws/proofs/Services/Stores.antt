@@ -1,5 +1,6 @@
 -- Segments within the limits keep stores in range, end in range and write few keys.
-use Rattle.std.proofs.Common.{◌≡◌, ℕ, zero, suc, ◌-◌, ◌*◌, ◌^◌, ◌<◌, ◌≤◌, Bool, true, false, cond, List, [], ◌∷◌, ◌++◌, length, refl, sym, ap, ◌∙◌, subst, Option, Some, None, arith, lit<, lit≤}
+use Rattle.std.proofs.Common.{◌≡◌, ℕ, zero, suc, ◌-◌, ◌*◌, ◌^◌, ◌<◌, ◌≤◌, Bool, true, false, cond, List, [], ◌∷◌, ◌++◌}
+use Rattle.std.proofs.Common.{length, refl, sym, ap, ◌∙◌, subst, Option, Some, None, arith, lit<, lit≤}
 use Rattle.std.specs.Prelude.{slice_get, ◌||◌}
 use Rattle.std.proofs.lemmas.Bool.{or_parts}
 use Rattle.std.proofs.lemmas.List.{length-append}
@@ -34,12 +35,14 @@ written_in s k v st is_key small = record {
 
 store_in : (actions puts : ℕ) (p : Plan) (s : Store) → IsBounded actions puts p → IsStore s → IsStore (store_after p s)
 store_in actions puts (Reads key rest) s b st = store_in (actions - 1) puts (rest (value_at s key)) s (b.1.1 (value_at s key) (st.values key)) st
-store_in actions puts (Writes key value rest) s b st = store_in (actions - 1) (puts - 1) rest (written s key value) b.1.1.1.1 (written_in s key value st b.1.1.0 b.1.1.1.0)
+store_in actions puts (Writes key value rest) s b st = store_in (actions - 1) (puts - 1) rest (written s key value)
+    b.1.1.1.1 (written_in s key value st b.1.1.0 b.1.1.1.0)
 store_in actions puts (Ends e) s b st = st
 
 end_in : (actions puts : ℕ) (p : Plan) (s : Store) → IsBounded actions puts p → IsStore s → IsEnding (ending_of p s)
 end_in actions puts (Reads key rest) s b st = end_in (actions - 1) puts (rest (value_at s key)) s (b.1.1 (value_at s key) (st.values key)) st
-end_in actions puts (Writes key value rest) s b st = end_in (actions - 1) (puts - 1) rest (written s key value) b.1.1.1.1 (written_in s key value st b.1.1.0 b.1.1.1.0)
+end_in actions puts (Writes key value rest) s b st = end_in (actions - 1) (puts - 1) rest (written s key value)
+    b.1.1.1.1 (written_in s key value st b.1.1.0 b.1.1.1.0)
 end_in actions puts (Ends e) s b st = b.1
 
 -- the keys that it writes
@@ -100,7 +103,12 @@ all_wrote plan s (i ∷ is) = wrote (plan i) s ++ all_wrote plan (store_after (p
 pub few_keys : (plan : ℕ → Plan) → AreBounded plan → (order : List ℕ) (s : Store) → IsStore s → length (all_wrote plan s order) ≤ 8 * length order
 few_keys plan b [] s st = omega arith
 few_keys plan b (i ∷ is) s st =
-    omega (arith, length-append (wrote (plan i) s) (all_wrote plan (store_after (plan i) s) is), few_wrote 32 8 (plan i) s (b i) st, few_keys plan b is (store_after (plan i) s) (one_store_in plan b i s st))
+    omega (
+      arith,
+      length-append (wrote (plan i) s) (all_wrote plan (store_after (plan i) s) is),
+      few_wrote 32 8 (plan i) s (b i) st,
+      few_keys plan b is (store_after (plan i) s) (one_store_in plan b i s st),
+    )
 
 has-append : (xs ys : List Key) (q : Key) → has same_key (xs ++ ys) q ≡ false → (has same_key xs q ≡ false) × (has same_key ys q ≡ false)
 has-append [] ys q h = (refl, h)
@@ -110,7 +118,8 @@ has-append (x ∷ xs) ys q h =
     (ap (λ b. b || has same_key xs q) e.0 ∙ r.0, r.1)
 
 -- a key that none of them writes keeps its value
-pub kept_value : (plan : ℕ → Plan) (order : List ℕ) (s : Store) (q : Key) → has same_key (all_wrote plan s order) q ≡ false → value_at (serial plan s order) q ≡ value_at s q
+pub kept_value : (plan : ℕ → Plan) (order : List ℕ) (s : Store) (q : Key) → has same_key (all_wrote plan s order) q
+    ≡ false → value_at (serial plan s order) q ≡ value_at s q
 kept_value plan [] s q h = refl
 kept_value plan (i ∷ is) s q h =
     let e = has-append (wrote (plan i) s) (all_wrote plan (store_after (plan i) s) is) q h in

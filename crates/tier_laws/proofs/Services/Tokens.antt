@@ -79,20 +79,31 @@ apart_from last (e ∷ es) b = at (same_key last e.0) refl (apart_from last es (
 once_keys : (es : List (Key × ℕ)) → T (is_sorted key_cmp es) → IsOnce same_key (keys_of es)
 unfolding keys_of
 once_keys [] s = tt
-once_keys (e ∷ es) s = (apart_from e.0 es (first (below_all key_cmp e.0 es) (is_sorted key_cmp es) s), once_keys es (second (below_all key_cmp e.0 es) (is_sorted key_cmp es) s))
+once_keys (e ∷ es) s = (
+  apart_from e.0 es (first (below_all key_cmp e.0 es) (is_sorted key_cmp es) s),
+  once_keys es (second (below_all key_cmp e.0 es) (is_sorted key_cmp es) s),
+)
 
-differs_at : (s t : Store) (ps : List (Key × ℕ)) (q : Key) → AllByRecursion (Changed s t) ps → has same_key (keys_of ps) q ≡ true → (value_at s q == value_at t q) ≡ false
+differs_at : (s t : Store) (ps : List (Key × ℕ)) (q : Key) → AllByRecursion (Changed s t) ps
+    → has same_key (keys_of ps) q ≡ true → (value_at s q == value_at t q) ≡ false
 unfolding keys_of
 differs_at s t [] q a h = absurd (cc)
 differs_at s t (p ∷ ps) q a h = at (same_key q p.0) refl h (differs_at s t ps q a.1)
   where
-    at : (c : Bool) → same_key q p.0 ≡ c → (c || has same_key (keys_of ps) q) ≡ true → (has same_key (keys_of ps) q ≡ true → (value_at s q == value_at t q) ≡ false) → (value_at s q == value_at t q) ≡ false
+    at : (c : Bool) → same_key q p.0 ≡ c → (c || has same_key (keys_of ps) q) ≡ true
+        → (has same_key (keys_of ps) q ≡ true → (value_at s q == value_at t q) ≡ false) → (value_at s q == value_at t q) ≡ false
     at true e f rec = subst (λ (k : Key). (value_at s k == value_at t k) ≡ false) (sym (key_parts q p.0 e)) a.0.1
     at false e f rec = rec f
 
-few_changes : (s t : Store) (wrote : List Key) → IsStore s → IsStore t → ((q : Key) → has same_key wrote q ≡ false → value_at t q ≡ value_at s q) → length (changes s t) ≤ length wrote
+few_changes : (s t : Store) (wrote : List Key) → IsStore s → IsStore t
+    → ((q : Key) → has same_key wrote q ≡ false → value_at t q ≡ value_at s q) → length (changes s t) ≤ length wrote
 unfolding keys_of
-few_changes s t wrote a b kept = omega (arith, length-map (changes s t) (λ (p : Key × ℕ). p.0), no_longer same_key key_tells (keys_of (changes s t)) wrote (once_keys (changes s t) (sorted_changes s t)) (λ q h. at q (has same_key wrote q) refl (differs_at s t (changes s t) q (changes_fit s t a b) h)))
+few_changes s t wrote a b kept = omega (
+  arith,
+  length-map (changes s t) (λ (p : Key × ℕ). p.0),
+  no_longer same_key key_tells (keys_of (changes s t)) wrote (once_keys (changes s t) (sorted_changes s t))
+      (λ q h. at q (has same_key wrote q) refl (differs_at s t (changes s t) q (changes_fit s t a b) h)),
+)
   where
     at : (q : Key) (c : Bool) → has same_key wrote q ≡ c → (value_at s q == value_at t q) ≡ false → c ≡ true
     at q true e d = refl
@@ -100,11 +111,15 @@ few_changes s t wrote a b kept = omega (arith, length-map (changes s t) (λ (p :
 
 -- THE ENDS
 
-pub serial_end_in : (m : Programs) → Agrees m → (J : List Seg) → AreBounded (plan_at m.begins J) → (order : List ℕ) (s : Store) (k : ℕ) → IsStore s → IsEnding (serial_end m J order s k)
+pub serial_end_in : (m : Programs) → Agrees m → (J : List Seg) → AreBounded (plan_at m.begins J)
+    → (order : List ℕ) (s : Store) (k : ℕ) → IsStore s → IsEnding (serial_end m J order s k)
 serial_end_in m a J b [] s k st = lit≤ tt
-serial_end_in m a J b (i ∷ is) s k st = at (i == k) (serial_end_in m a J b is (segment m (slice_get J i) s).store k (subst (λ (g : Segment). IsStore g.store) (segment_is m a J i s) (one_store_in (plan_at m.begins J) b i s st)))
+serial_end_in m a J b (i ∷ is) s k st = at (i == k)
+    (serial_end_in m a J b is (segment m (slice_get J i) s).store k
+    (subst (λ (g : Segment). IsStore g.store) (segment_is m a J i s) (one_store_in (plan_at m.begins J) b i s st)))
   where
-    at : (c : Bool) → IsEnding (serial_end m J is (segment m (slice_get J i) s).store k) → IsEnding (cond c (segment m (slice_get J i) s).ending (serial_end m J is (segment m (slice_get J i) s).store k))
+    at : (c : Bool) → IsEnding (serial_end m J is (segment m (slice_get J i) s).store k)
+        → IsEnding (cond c (segment m (slice_get J i) s).ending (serial_end m J is (segment m (slice_get J i) s).store k))
     at true r = subst (λ (g : Segment). IsEnding g.ending) (segment_is m a J i s) (one_end_in (plan_at m.begins J) b i s st)
     at false r = r
 
@@ -114,10 +129,12 @@ all_tabulate P (suc n) f h = (h 0, all_tabulate P n (λ i. f (suc i)) (λ i. h (
 
 -- THE OUTCOME
 
-pub store_is_in : (m : Programs) → Agrees m → AreProper m.begins → (J : List Seg) (order : List ℕ) (s : Store) → IsJob J → IsStore s → IsStore (serial m J order s)
+pub store_is_in : (m : Programs) → Agrees m → AreProper m.begins → (J : List Seg) (order : List ℕ) (s : Store) → IsJob J
+    → IsStore s → IsStore (serial m J order s)
 store_is_in m a p J order s job st = subst IsStore (serial_is m a J order s) (serial_in (plan_at m.begins J) (bounded m.begins p J job) order s st)
 
-pub outcome_fits : (m : Programs) → Agrees m → AreProper m.begins → (J : List Seg) (order : List ℕ) (s : Store) → IsJob J → is_order (length J) order ≡ true → IsStore s
+pub outcome_fits : (m : Programs) → Agrees m → AreProper m.begins → (J : List Seg) (order : List ℕ) (s : Store)
+    → IsJob J → is_order (length J) order ≡ true → IsStore s
     → FitsOutcome (outcomes.outcome s (finish m J order s).store (finish m J order s).ends)
 outcome_fits m a p J order s job o st = record {
   count = omega (arith, few, short, order_short (length J) order o, job.short);
@@ -134,7 +151,8 @@ outcome_fits m a p J order s job o st = record {
     after = store_is_in m a p J order s job st
 
     few : length (changes s (serial m J order s)) ≤ length (all_wrote (plan_at m.begins J) s order)
-    few = few_changes s (serial m J order s) (all_wrote (plan_at m.begins J) s order) st after (λ q h. ap (λ (t : Store). value_at t q) (sym (serial_is m a J order s)) ∙ kept_value (plan_at m.begins J) order s q h)
+    few = few_changes s (serial m J order s) (all_wrote (plan_at m.begins J) s order) st after
+        (λ q h. ap (λ (t : Store). value_at t q) (sym (serial_is m a J order s)) ∙ kept_value (plan_at m.begins J) order s q h)
 
     short : length (all_wrote (plan_at m.begins J) s order) ≤ 8 * length order
     short = few_keys (plan_at m.begins J) b order s st

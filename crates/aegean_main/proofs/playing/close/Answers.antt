@@ -8,9 +8,11 @@ returns-in-Err-clause-closes g c = λ script first disks start s. breaks_here sc
 pub returns-in-Ok-clause-closes : goal.returns-in-Ok-clause-closes
 returns-in-Ok-clause-closes g c = λ script first disks start s.
     closes script c.args.world.now c.items.result.now first disks start (g.K.Sink.taken c.args.out.now) (g.K.Sink.taken c.put_all.new.out)
-    (closing_alone c.args.world.now c.items.result.now c.of-closing.result _ (c.items.ensures ∙ c.in_default.ensures.closes) c.of-closing.ensures c.clear.ensures.items) c.in-Ok.ensures.ok s
+    (closing_alone c.args.world.now c.items.result.now c.of-closing.result _ (c.items.ensures
+    ∙ c.in_default.ensures.closes) c.of-closing.ensures c.clear.ensures.items) c.in-Ok.ensures.ok s
 
 pub returns-clause-closes : goal.returns-clause-closes
 returns-clause-closes g c = λ script first disks start s.
     closes_off script c.args.world.now c.items.result.now first disks start (g.K.Sink.taken c.args.out.now) (g.K.Sink.taken c.put_all.new.out)
-    (closing_alone c.args.world.now c.items.result.now c.of-closing.result _ (c.items.ensures ∙ c.in_default.ensures.closes) c.of-closing.ensures c.clear.ensures.items) c.in-Err-put_all.ensures.prefix s
+    (closing_alone c.args.world.now c.items.result.now c.of-closing.result _ (c.items.ensures
+    ∙ c.in_default.ensures.closes) c.of-closing.ensures c.clear.ensures.items) c.in-Err-put_all.ensures.prefix s

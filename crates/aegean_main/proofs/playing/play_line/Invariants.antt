@@ -11,7 +11,10 @@ abbrev pub invariant-calls : goal.invariant-calls
 invariant-calls g l =
     (l.world.u ≡ l.fn.world.u)
     × AreDisks (world_of l.world) (map g.D.Disk.state l.disks)
-    × ((script : Script) (number : ℕ) (rest : List Numbered) (first : List DiskState) (start : Option (List ℕ)) → Stands script l.fn.world ((number, l.line) ∷ rest) first (map g.D.Disk.state l.fn.disks) start (g.K.Sink.taken l.fn.out) → Stands script l.world ((number, l.line) ∷ rest) first (map g.D.Disk.state l.disks) start (g.K.Sink.taken l.out))
+    × ((script : Script) (number : ℕ) (rest : List Numbered) (first : List DiskState) (start : Option (List ℕ))
+    → Stands script l.fn.world ((number, l.line) ∷ rest) first (map g.D.Disk.state l.fn.disks) start
+    (g.K.Sink.taken l.fn.out)
+    → Stands script l.world ((number, l.line) ∷ rest) first (map g.D.Disk.state l.disks) start (g.K.Sink.taken l.out))
     × (g.K.Sink.faults l.out ≡ g.K.Sink.faults l.fn.out)
 
 abbrev pub decreases-calls : goal.decreases-calls

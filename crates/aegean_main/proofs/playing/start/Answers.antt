@@ -7,10 +7,18 @@ returns-in-Err-clause-stands g c = breaks_first c.args.script.now (g.K.Sink.take
 
 pub returns-in-Ok-clause-stands : goal.returns-in-Ok-clause-stands
 returns-in-Ok-clause-stands g c =
-    stands_first c.args.script.now c.args.world.now c.start.new.self (map g.D.Disk.state c.args.disks.now) (map g.D.Disk.state c.start.new.disks) c.items.result.now (g.K.Sink.taken c.args.out.now) (g.K.Sink.taken c.put_all.new.out) c.requires.few c.requires.new
-    (starts_alone c.args.world.now c.start.new.self (map g.D.Disk.state c.args.disks.now) (map g.D.Disk.state c.start.new.disks) c.new-lines.result c.start.new.lines c.items.result.now c.new-lines.ensures c.items.ensures c.in_default.ensures.starts) c.in-Ok.ensures.ok
+    stands_first c.args.script.now c.args.world.now c.start.new.self (map g.D.Disk.state c.args.disks.now)
+    (map g.D.Disk.state c.start.new.disks) c.items.result.now (g.K.Sink.taken c.args.out.now)
+    (g.K.Sink.taken c.put_all.new.out) c.requires.few c.requires.new
+    (starts_alone c.args.world.now c.start.new.self (map g.D.Disk.state c.args.disks.now)
+    (map g.D.Disk.state c.start.new.disks) c.new-lines.result c.start.new.lines c.items.result.now
+    c.new-lines.ensures c.items.ensures c.in_default.ensures.starts) c.in-Ok.ensures.ok
 
 pub returns-clause-stands : goal.returns-clause-stands
 returns-clause-stands g c =
-    starts_off c.args.script.now c.args.world.now c.start.new.self (map g.D.Disk.state c.args.disks.now) (map g.D.Disk.state c.start.new.disks) c.items.result.now (g.K.Sink.taken c.args.out.now) (g.K.Sink.taken c.put_all.new.out) c.requires.few c.requires.new
-    (starts_alone c.args.world.now c.start.new.self (map g.D.Disk.state c.args.disks.now) (map g.D.Disk.state c.start.new.disks) c.new-lines.result c.start.new.lines c.items.result.now c.new-lines.ensures c.items.ensures c.in_default.ensures.starts) c.in-Err-put_all.ensures.prefix
+    starts_off c.args.script.now c.args.world.now c.start.new.self (map g.D.Disk.state c.args.disks.now)
+    (map g.D.Disk.state c.start.new.disks) c.items.result.now (g.K.Sink.taken c.args.out.now)
+    (g.K.Sink.taken c.put_all.new.out) c.requires.few c.requires.new
+    (starts_alone c.args.world.now c.start.new.self (map g.D.Disk.state c.args.disks.now)
+    (map g.D.Disk.state c.start.new.disks) c.new-lines.result c.start.new.lines c.items.result.now
+    c.new-lines.ensures c.items.ensures c.in_default.ensures.starts) c.in-Err-put_all.ensures.prefix

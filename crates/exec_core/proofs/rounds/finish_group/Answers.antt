@@ -10,7 +10,8 @@ use Rattle.exec_core.proofs.rounds.finish_group.Goals.{then-one-test+else-is_run
 pub turn-requires-clause-group : goal.turn-requires-clause-group
 turn-requires-clause-group g c =
     let kept = c.one.invariant.kept in
-    can_still c.one.m c.requires.group kept.slots (let over0 : c.one.over ≡ false = search rules in let e = kept.redo over0 in let h = c.requires.group.redo in omega arith)
+    can_still c.one.m c.requires.group kept.slots (let over0 : c.one.over
+    ≡ false = search rules in let e = kept.redo over0 in let h = c.requires.group.redo in omega arith)
 
 pub turn-requires-clause-member : goal.turn-requires-clause-member
 turn-requires-clause-member g c = mem_at c.args.group.now c.members.i-index c.one.invariant.at
@@ -20,11 +21,14 @@ one-preserved g c =
     let one = c.one.invariant in
     let e = c.in_ok-over.ensures in
     let over0 : c.one.over ≡ false = search rules in
-    let run : is_running (progress_of g.S.Prog.Program.plan c.one.m.slots.items (get_or c.args.group.now c.members.i-index 0)) ≡ true = grind (arith, common_steps) in
+    let run : is_running
+    (progress_of g.S.Prog.Program.plan c.one.m.slots.items (get_or c.args.group.now c.members.i-index 0))
+    ≡ true = grind (arith, common_steps) in
     record {
       is = refl;
       at = one.at;
-      so_far = finishes_more c.turn.new.m (g.C.Cells.store c.turn.new.cells) (g.C.Logged.base c.turn.new.cells) c.in_ok-over.over one.so_far over0 one.at run e.turn;
+      so_far = finishes_more c.turn.new.m (g.C.Cells.store c.turn.new.cells) (g.C.Logged.base c.turn.new.cells)
+          c.in_ok-over.over one.so_far over0 one.at run e.turn;
       kept = keeps_on c.turn.new.m c.in_ok-over.over one.kept over0 e.slots e.locks e.outside e.redo_most e.over e.redo;
       ended = e.ended;
       start = e.start ∙ one.start;

@@ -8,7 +8,8 @@ use Rattle.exec_core.proofs.rounds.finish_group.Given as goal
 
 abbrev pub invariant-members : goal.invariant-members
 invariant-members g l = record {
-  so_far : Finishes g.S.Prog.Program.plan (plan_at (g.S.Service.beginning l.svc) l.segs) l.group l.i-index l.fn.m l.m (g.C.Cells.store l.fn.cells) (g.C.Logged.base l.fn.cells) (g.C.Cells.store l.cells) (g.C.Logged.base l.cells) l.over;
+  so_far : Finishes g.S.Prog.Program.plan (plan_at (g.S.Service.beginning l.svc) l.segs) l.group l.i-index l.fn.m l.m
+      (g.C.Cells.store l.fn.cells) (g.C.Logged.base l.fn.cells) (g.C.Cells.store l.cells) (g.C.Logged.base l.cells) l.over;
   kept : Keeps g.S.Prog.Program.plan l.group l.fn.m l.m l.over;
   ended : l.over ≡ true → any_running (progress_of g.S.Prog.Program.plan l.m.slots.items) l.group ≡ false;
   start : g.C.Cells.start l.cells ≡ g.C.Cells.start l.fn.cells;
@@ -18,7 +19,8 @@ abbrev pub invariant-one : goal.invariant-one
 invariant-one g l = record {
   is : l.i ≡ get_or l.group l.i-index 0;
   at : l.i-index < length l.group;
-  so_far : Finishes g.S.Prog.Program.plan (plan_at (g.S.Service.beginning l.svc) l.segs) l.group l.i-index l.fn.m l.m (g.C.Cells.store l.fn.cells) (g.C.Logged.base l.fn.cells) (g.C.Cells.store l.cells) (g.C.Logged.base l.cells) l.over;
+  so_far : Finishes g.S.Prog.Program.plan (plan_at (g.S.Service.beginning l.svc) l.segs) l.group l.i-index l.fn.m l.m
+      (g.C.Cells.store l.fn.cells) (g.C.Logged.base l.fn.cells) (g.C.Cells.store l.cells) (g.C.Logged.base l.cells) l.over;
   kept : Keeps g.S.Prog.Program.plan l.group l.fn.m l.m l.over;
   ended : l.over ≡ true → any_running (progress_of g.S.Prog.Program.plan l.m.slots.items) l.group ≡ false;
   start : g.C.Cells.start l.cells ≡ g.C.Cells.start l.fn.cells;

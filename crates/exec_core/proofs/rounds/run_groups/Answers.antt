@@ -13,7 +13,8 @@ pub run_group-requires : goal.run_group-requires
 run_group-requires g c =
     let xs = c.deref.result.now in
     let lt : c.groups.group-index < length c.args.groups.now = search rules in
-    let a = at_group (length c.args.m.now.slots.items) (progress_of g.S.Prog.Program.plan c.groups.m.slots.items) c.args.groups.now c.groups.group-index c.group-item.result xs lt c.group-item.is c.deref.ensures.value
+    let a = at_group (length c.args.m.now.slots.items) (progress_of g.S.Prog.Program.plan c.groups.m.slots.items)
+    c.args.groups.now c.groups.group-index c.group-item.result xs lt c.group-item.is c.deref.ensures.value
     c.requires.groups c.requires.full c.requires.once c.groups.invariant.runs in
     record {
       group = record {
@@ -35,7 +36,8 @@ groups-preserved g c =
     let k = c.groups.group-index in
     let xs = c.deref.result.now in
     let lt : k < length c.args.groups.now = search rules in
-    let a = at_group (length c.args.m.now.slots.items) (progress_of plan c.groups.m.slots.items) c.args.groups.now k c.group-item.result xs lt c.group-item.is c.deref.ensures.value
+    let a = at_group (length c.args.m.now.slots.items) (progress_of plan c.groups.m.slots.items) c.args.groups.now k
+    c.group-item.result xs lt c.group-item.is c.deref.ensures.value
     c.requires.groups c.requires.full c.requires.once c.groups.invariant.runs in
     let used = c.in_ok-at.field-0 in
     let sch = c.args.schedule.now in
@@ -44,13 +46,19 @@ groups-preserved g c =
     record {
       same = λ t.
           run-more plan plans (lists_of c.args.groups.now) k xs c.groups.m (record c.groups.m { done = c.clear.new.self }) c.run_group.new.m
-          (g.C.Cells.store c.groups.cells) (g.C.Cells.store c.mark.new.self) (g.C.Logged.base c.mark.new.self) (g.C.Cells.store c.run_group.new.cells) (g.C.Logged.base c.run_group.new.cells)
+          (g.C.Cells.store c.groups.cells) (g.C.Cells.store c.mark.new.self) (g.C.Logged.base c.mark.new.self)
+          (g.C.Cells.store c.run_group.new.cells) (g.C.Logged.base c.run_group.new.cells)
           c.groups.order.items c.extend_from_slice.new.self.items (drop c.groups.at sch) (drop (c.groups.at + used) sch) t
           a.here refl refl c.clear.ensures.items refl refl c.mark.ensures.store c.mark.ensures.base eo
           (λ t e.
-          ap (λ xs. complete plans (turns plans (next (whole_of plan c.run_group.new.m (g.C.Cells.store c.run_group.new.cells) (g.C.Logged.base c.run_group.new.cells) t)) xs)) (sym (drop-drop used c.groups.at sch) ∙ ap (drop used) (sym cut))
+          ap (λ xs. complete plans
+          (turns plans (next
+          (whole_of plan c.run_group.new.m (g.C.Cells.store c.run_group.new.cells)
+          (g.C.Logged.base c.run_group.new.cells) t)) xs)) (sym (drop-drop used c.groups.at sch) ∙ ap (drop used) (sym cut))
           ∙ c.in_ok-at.ensures.run t e
-          ∙ ap (λ xs. complete plans (turns plans (whole_of plan (record c.groups.m { done = c.clear.new.self }) (g.C.Cells.store c.mark.new.self) (g.C.Logged.base c.mark.new.self) t) xs)) cut)
+          ∙ ap (λ xs. complete plans
+          (turns plans (whole_of plan (record c.groups.m { done = c.clear.new.self })
+          (g.C.Cells.store c.mark.new.self) (g.C.Logged.base c.mark.new.self) t) xs)) cut)
           ∙ c.groups.invariant.same t;
       at = search rules;
       slots = c.in_ok-at.ensures.slots ∙ c.groups.invariant.slots;
@@ -67,7 +75,9 @@ returns g c = record {
       let plans = plan_at (g.S.Service.beginning c.args.svc.now) c.args.segs.now in
       let rest = drop c.groups.at c.args.schedule.now in
       run-over plans (begun plan c.groups.m (g.C.Cells.store c.groups.cells) c.groups.order.items [] t) rest refl refl
-      ∙ ap (λ x. complete plans (turns plans (begun plan c.groups.m (g.C.Cells.store c.groups.cells) c.groups.order.items x t) rest)) (sym (lists_all c.args.groups.now c.groups.group-index c.groups-test.false))
+      ∙ ap (λ x. complete plans
+      (turns plans (begun plan c.groups.m (g.C.Cells.store c.groups.cells) c.groups.order.items x t) rest))
+      (sym (lists_all c.args.groups.now c.groups.group-index c.groups-test.false))
       ∙ c.groups.invariant.same t;
   slots = c.groups.invariant.slots;
   start = c.groups.invariant.start;

@@ -9,8 +9,13 @@ use Rattle.exec_core.proofs.rounds.run_groups.Given as goal
 abbrev pub invariant-groups : goal.invariant-groups
 invariant-groups g l = record {
   same : (t : State) →
-      complete (plan_at (g.S.Service.beginning l.svc) l.segs) (turns (plan_at (g.S.Service.beginning l.svc) l.segs) (begun g.S.Prog.Program.plan l.m (g.C.Cells.store l.cells) l.order.items (drop l.group-index (lists_of l.groups)) t) (drop l.at l.schedule))
-      ≡ complete (plan_at (g.S.Service.beginning l.svc) l.segs) (turns (plan_at (g.S.Service.beginning l.svc) l.segs) (begun g.S.Prog.Program.plan l.fn.m (g.C.Cells.store l.fn.cells) l.fn.order.items (lists_of l.groups) t) l.schedule);
+      complete (plan_at (g.S.Service.beginning l.svc) l.segs)
+      (turns (plan_at (g.S.Service.beginning l.svc) l.segs)
+      (begun g.S.Prog.Program.plan l.m (g.C.Cells.store l.cells) l.order.items
+      (drop l.group-index (lists_of l.groups)) t) (drop l.at l.schedule))
+      ≡ complete (plan_at (g.S.Service.beginning l.svc) l.segs)
+      (turns (plan_at (g.S.Service.beginning l.svc) l.segs)
+      (begun g.S.Prog.Program.plan l.fn.m (g.C.Cells.store l.fn.cells) l.fn.order.items (lists_of l.groups) t) l.schedule);
   at : l.at ≤ length l.schedule;
   slots : length l.m.slots.items ≡ length l.fn.m.slots.items;
   locks : length l.m.owner.items ≡ 256;

@@ -9,7 +9,8 @@ use Rattle.exec_core.proofs.rounds.use_schedule.Goals as goal
 pub entry-requires-clause-group : goal.entry-requires-clause-group
 entry-requires-clause-group g c =
     let kept = c.entries.invariant.kept in
-    can_still c.entries.m c.requires.group kept.slots (let over0 : c.entries.over ≡ false = search rules in let e = kept.redo over0 in let h = c.requires.group.redo in omega arith)
+    can_still c.entries.m c.requires.group kept.slots (let over0 : c.entries.over
+    ≡ false = search rules in let e = kept.redo over0 in let h = c.requires.group.redo in omega arith)
 
 pub entries-preserved : goal.entries-preserved
 entries-preserved g c =

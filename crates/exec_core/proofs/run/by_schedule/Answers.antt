@@ -15,7 +15,8 @@ in_groups-requires g c =
     let segs = c.args.segs.now in
     let locks = locks_at begins segs in
     let e = c.in_ok-slots.ensures in
-    let mixed : lists_of c.deref-2.result.now ≡ mix locks (length segs) = mixed_groups begins segs _ _ _ _ e.sets e.locks c.deref.ensures.value c.in_ok-groups.ensures c.deref-2.ensures.value in
+    let mixed : lists_of c.deref-2.result.now ≡ mix locks (length segs) = mixed_groups begins segs _ _ _ _ e.sets
+    e.locks c.deref.ensures.value c.in_ok-groups.ensures c.deref-2.ensures.value in
     record {
       begins = c.requires.begins;
       few = c.requires.few;
@@ -29,7 +30,8 @@ returns-clause-done g c =
     let begins = g.S.Service.beginning c.args.svc.now in
     let segs = c.args.segs.now in
     let e = c.in_ok-slots.ensures in
-    let mixed : lists_of c.deref-2.result.now ≡ mix (locks_at begins segs) (length segs) = mixed_groups begins segs _ _ _ _ e.sets e.locks c.deref.ensures.value c.in_ok-groups.ensures c.deref-2.ensures.value in
+    let mixed : lists_of c.deref-2.result.now ≡ mix (locks_at begins segs) (length segs) = mixed_groups begins segs _ _
+    _ _ e.sets e.locks c.deref.ensures.value c.in_ok-groups.ensures c.deref-2.ensures.value in
     subst (λ (r : Run). IfOk c.in_groups.result (IsDone c.args.batch.now.start c.in_groups.new.batch.now r))
     (ap (λ gs. run_in_groups begins segs gs c.args.batch.now.now c.args.schedule.now) mixed ∙ mixed_run begins segs c.args.batch.now.now c.args.schedule.now)
     c.in_groups.ensures.done

@@ -17,10 +17,14 @@ loop-i-preserved g c =
     let lt : k < length xs = search rules in
     let inside : get_or xs k 0 < length c.loop-i.slots = grind (arith, common_steps) in
     record {
-      store = serial-drop plans (g.C.Cells.store c.loop-i.cells) (g.C.Cells.store c.run_one.new.cells) xs k lt (c.in_ok-ending.ensures.store) ∙ c.loop-i.invariant.store;
+      store = serial-drop plans (g.C.Cells.store c.loop-i.cells) (g.C.Cells.store c.run_one.new.cells) xs k lt
+          (c.in_ok-ending.ensures.store) ∙ c.loop-i.invariant.store;
       ends = λ j.
-          ap (λ x. or_ended (serial_end plans (g.C.Cells.store c.run_one.new.cells) (drop (k + 1) xs) j) (progress_of plan (set c.loop-i.slots x (Slot.Ended c.in_ok-ending.ending)) j)) c.from.ensures
-          ∙ rerun-more plan plans c.loop-i.slots xs k (g.C.Cells.store c.loop-i.cells) (g.C.Cells.store c.run_one.new.cells) c.in_ok-ending.ending j lt c.requires.once inside (c.in_ok-ending.ensures.store) (c.in_ok-ending.ensures.ending)
+          ap (λ x. or_ended (serial_end plans (g.C.Cells.store c.run_one.new.cells) (drop (k + 1) xs) j)
+          (progress_of plan (set c.loop-i.slots x (Slot.Ended c.in_ok-ending.ending)) j)) c.from.ensures
+          ∙ rerun-more plan plans c.loop-i.slots xs k (g.C.Cells.store c.loop-i.cells)
+          (g.C.Cells.store c.run_one.new.cells) c.in_ok-ending.ending j lt c.requires.once inside
+          (c.in_ok-ending.ensures.store) (c.in_ok-ending.ensures.ending)
           ∙ c.loop-i.invariant.ends j;
       start = c.in_ok-ending.ensures.start ∙ c.loop-i.invariant.start;
     }

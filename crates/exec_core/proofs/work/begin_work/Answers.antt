@@ -13,14 +13,18 @@ returns-clause-reached g c =
     let segs = c.args.segs.now in
     let s = c.args.store.now.map in
     let e = c.in_ok-m.ensures in
-    let f : IsFresh plan begins segs c.in_ok-m.m = fresh plan begins segs c.in_ok-slots.slots.items c.in_ok-m.m c.in_ok-slots.ensures.slots e.slots e.free e.steps e.redo in
-    let mixed : lists_of c.in_ok-groups.groups.items ≡ groups_of begins segs = mixed_groups begins segs _ _ _ _ c.in_ok-slots.ensures.sets c.in_ok-slots.ensures.locks c.deref.ensures.value c.in_ok-groups.ensures refl in
-    let now : c.reserve.new.self.now ≡ s = ap (λ (b : BatchView). b.now) c.reserve.ensures.same ∙ c.new-cells.ensures.now ∙ ap (λ x. x.map) c.replace.ensures.value in
+    let f : IsFresh plan begins segs c.in_ok-m.m = fresh plan begins segs c.in_ok-slots.slots.items c.in_ok-m.m
+    c.in_ok-slots.ensures.slots e.slots e.free e.steps e.redo in
+    let mixed : lists_of c.in_ok-groups.groups.items ≡ groups_of begins segs = mixed_groups begins segs _ _ _ _
+    c.in_ok-slots.ensures.sets c.in_ok-slots.ensures.locks c.deref.ensures.value c.in_ok-groups.ensures refl in
+    let now : c.reserve.new.self.now ≡ s = ap (λ (b : BatchView). b.now) c.reserve.ensures.same
+    ∙ c.new-cells.ensures.now ∙ ap (λ x. x.map) c.replace.ensures.value in
     record {
       groups = mixed;
       slots = f.slots;
       locks = e.locks;
       redo = (let a = f.redo in omega arith);
-      state = first_state plan begins segs s (record { m = c.in_ok-m.m; cells = c.mark.new.self; groups = c.in_ok-groups.groups; at = 0; order = c.new-3.result })
+      state = first_state plan begins segs s
+          (record { m = c.in_ok-m.m; cells = c.mark.new.self; groups = c.in_ok-groups.groups; at = 0; order = c.new-3.result })
           f e.done (c.mark.ensures.store ∙ now) (c.mark.ensures.base ∙ now) refl c.new-3.ensures.items mixed;
     }

@@ -15,7 +15,8 @@ pub returns-clause-in_range : goal.returns-clause-in_range
 returns-clause-in_range c = in_range
 
 pub returns-clause-restored : goal.returns-clause-restored
-returns-clause-restored c = λ tier u facts fit. restored_in (IsCarried tier) FitsBallot u (log_facts facts) (in_range tier 0 facts fit) (in_order tier 0 facts fit)
+returns-clause-restored c = λ tier u facts fit. restored_in (IsCarried tier) FitsBallot u (log_facts facts)
+    (in_range tier 0 facts fit) (in_order tier 0 facts fit)
 
 pub returns-clause-positions : goal.returns-clause-positions
 returns-clause-positions c = open_is

@@ -26,4 +26,5 @@ returns-clause-first c =
     let sets = set_at c.args.sets.now in
     let long = length-lists c.args.groups.now in
     let end : c.groups.at ≡ length c.args.groups.now = (let a = c.groups-test.false in let b = c.groups.auto.at-end in omega arith) in
-    subst (FirstFit sets c.args.i (lists_of c.args.groups.now)) end (first_none sets c.args.i (lists_of c.args.groups.now) c.groups.at (omega arith) c.groups.invariant)
+    subst (FirstFit sets c.args.i (lists_of c.args.groups.now)) end
+    (first_none sets c.args.i (lists_of c.args.groups.now) c.groups.at (omega arith) c.groups.invariant)

@@ -8,4 +8,5 @@ pub returns-in_default-pass_all_ends : goal.returns-in_default-pass_all_ends
 returns-in_default-pass_all_ends c = no_ends c.args.from.now c.pass_all_pairs.new.from c.in-Some.ensures c.in_default-pass_all_ends.ensures
 
 pub returns : goal.returns
-returns c = counts c.args.from.now c.pass_all_pairs.new.from c.in-Some-pass_all_ends.count c.pass_all_ends.new.from c.in-Some.ensures c.in-Some-pass_all_ends.ensures
+returns c = counts c.args.from.now c.pass_all_pairs.new.from c.in-Some-pass_all_ends.count c.pass_all_ends.new.from
+    c.in-Some.ensures c.in-Some-pass_all_ends.ensures

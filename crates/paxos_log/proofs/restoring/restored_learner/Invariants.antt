@@ -4,4 +4,6 @@ use Rattle.paxos_log.specs.TierLog.{newest_first, AreInOrder}
 use Rattle.paxos_log.proofs.restoring.restored_learner.Given as goal
 
 abbrev pub invariant-loop-fact : goal.invariant-loop-fact
-invariant-loop-fact g l = (l.learner.learned ≡ learned_in (newest_first (take l.fact-index l.facts))) × (l.learner.faults ≡ l.u) × (l.learner.seen ≡ replicate (2 * l.u + 1) None) × AreInOrder (length l.learner.learned) (drop l.fact-index l.facts)
+invariant-loop-fact g l = (l.learner.learned ≡ learned_in (newest_first (take l.fact-index l.facts)))
+    × (l.learner.faults ≡ l.u) × (l.learner.seen ≡ replicate (2 * l.u + 1) None)
+    × AreInOrder (length l.learner.learned) (drop l.fact-index l.facts)

@@ -16,7 +16,10 @@ pairs-preserved c =
     let w : c.put_logged.new.self.map ≡ written c.pairs.store.map p.0 p.1 = c.put_logged.ensures.map in
     let left : (length ps - (k + 1)) + 1 ≡ length ps - k = omega arith in
     record {
-      written = written_more ps k (record { class = 0; id = 0 }, 0) c.pairs.store.map c.put_logged.new.self.map (written_all c.args.store.now.map ps) lt w c.pairs.invariant.written;
-      room = (let a = size_more c.pairs.store.map c.put_logged.new.self.map p.0 p.1 (length ps - k) (length ps - (k + 1)) c.pairs.store.room w left c.pairs.invariant.room in let r = c.put_logged.ensures.room in omega arith);
-      list_room = (let e = ap length c.put_logged.ensures.entries in let l = length-append c.pairs.undo.entries ((p.0, value_at c.pairs.store.map p.0) ∷ []) in let r = c.put_logged.ensures.list_room in let i = c.pairs.invariant.list_room in omega arith);
+      written = written_more ps k (record { class = 0; id = 0 }, 0) c.pairs.store.map c.put_logged.new.self.map
+          (written_all c.args.store.now.map ps) lt w c.pairs.invariant.written;
+      room = (let a = size_more c.pairs.store.map c.put_logged.new.self.map p.0 p.1 (length ps - k)
+          (length ps - (k + 1)) c.pairs.store.room w left c.pairs.invariant.room in let r = c.put_logged.ensures.room in omega arith);
+      list_room = (let e = ap length c.put_logged.ensures.entries in let l = length-append c.pairs.undo.entries
+          ((p.0, value_at c.pairs.store.map p.0) ∷ []) in let r = c.put_logged.ensures.list_room in let i = c.pairs.invariant.list_room in omega arith);
     }

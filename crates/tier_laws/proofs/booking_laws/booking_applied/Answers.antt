@@ -8,7 +8,8 @@ use Rattle.tier_laws.proofs.Few.{booking_inv}
 use Rattle.tier_laws.proofs.Told.{applied}
 use Rattle.tier_laws.proofs.booking_laws.booking_applied.Goals as goal
 
-applied_in : (a : Setup) (es : List TraceEvent) (t : Tier) (x : ℕ) → a.u ≤ 2 → x < 2 * a.u + 1 → HasApplied (booking_run a) (world (booking_run a) es) t ((world (booking_run a) es).nodes t x).mode
+applied_in : (a : Setup) (es : List TraceEvent) (t : Tier) (x : ℕ) → a.u ≤ 2 → x < 2 * a.u + 1
+    → HasApplied (booking_run a) (world (booking_run a) es) t ((world (booking_run a) es).nodes t x).mode
 applied_in a es t x l n = applied (booking_run a) (world (booking_run a) es) t x (booking_inv a es l) n
 
 pub returns : goal.returns

@@ -7,7 +7,8 @@ use Rattle.tier_laws.proofs.Before.{used_before}
 use Rattle.tier_laws.proofs.booking_laws.booking_durability.Goals as goal
 
 pub returns-clause-used : goal.returns-clause-used
-returns-clause-used x a es r j v made q k l e f h m gone = used_durable (booking_run a) (world (booking_run a) es) r v made j q k (booking_inv a es l) e f h m gone
+returns-clause-used x a es r j v made q k l e f h m gone = used_durable (booking_run a) (world (booking_run a) es) r v
+    made j q k (booking_inv a es l) e f h m gone
 
 pub returns-clause-before : goal.returns-clause-before
 returns-clause-before x a es e r v l n f gone = used_before (booking_run a) es e r v (few a.u l) booking_laws n f gone

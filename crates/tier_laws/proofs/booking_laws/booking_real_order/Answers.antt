@@ -12,4 +12,5 @@ pub returns-clause-replied : goal.returns-clause-replied
 returns-clause-replied x a es fs k i n e who body l told new at = replied_before (booking_run a) es fs k i n e who body (few a.u l) booking_laws told new at
 
 pub returns-clause-finished : goal.returns-clause-finished
-returns-clause-finished x a es fs k i j n e who body step l told new at is own = finished_before (booking_run a) es fs k i j n e who body step (few a.u l) booking_laws told new at is own
+returns-clause-finished x a es fs k i j n e who body step l told new at is own = finished_before (booking_run a) es fs k
+    i j n e who body step (few a.u l) booking_laws told new at is own

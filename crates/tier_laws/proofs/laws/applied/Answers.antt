@@ -8,7 +8,8 @@ use Rattle.tier_laws.proofs.Few.{inv}
 use Rattle.tier_laws.proofs.Told.{applied}
 use Rattle.tier_laws.proofs.laws.applied.Goals as goal
 
-applied_in : {B : Type 0} (c : Config B) (es : List TraceEvent) (t : Tier) (x : ℕ) → c.u ≤ 2 → Laws c.service.programs → x < 2 * c.u + 1 → HasApplied c (world c es) t ((world c es).nodes t x).mode
+applied_in : {B : Type 0} (c : Config B) (es : List TraceEvent) (t : Tier) (x : ℕ) → c.u ≤ 2 → Laws c.service.programs
+    → x < 2 * c.u + 1 → HasApplied c (world c es) t ((world c es).nodes t x).mode
 applied_in c es t x l laws n = applied c (world c es) t x (inv c es l laws) n
 
 pub returns : goal.returns

@@ -13,13 +13,16 @@ pub returns-clause-replies : goal.returns-clause-replies
 returns-clause-replies g x c es i k who text l laws e f = reply_sent c (world c es) i k who text (inv c es l laws) e f
 
 pub returns-clause-calls : goal.returns-clause-calls
-returns-clause-calls g x c es i n k text l laws e f = has_call c (world c es) (tier_of k.to) n text (inv c es l laws) (sent c (world c es) i k (messages.Call n text) (inv c es l laws) e f)
+returns-clause-calls g x c es i n k text l laws e f = has_call c (world c es) (tier_of k.to) n text (inv c es l laws)
+    (sent c (world c es) i k (messages.Call n text) (inv c es l laws) e f)
 
 pub returns-clause-answers : goal.returns-clause-answers
-returns-clause-answers g x c es i n code k l laws e f = has_answer c (world c es) (tier_of k.from) n code (inv c es l laws) (sent c (world c es) i k (messages.Answer n code) (inv c es l laws) e f)
+returns-clause-answers g x c es i n code k l laws e f = has_answer c (world c es) (tier_of k.from) n code
+    (inv c es l laws) (sent c (world c es) i k (messages.Answer n code) (inv c es l laws) e f)
 
 pub returns-clause-haves : goal.returns-clause-haves
-returns-clause-haves g x c es i n code t k l laws e f = has_answer c (world c es) t n code (inv c es l laws) (sent c (world c es) i k (messages.Have t n code) (inv c es l laws) e f).0
+returns-clause-haves g x c es i n code t k l laws e f = has_answer c (world c es) t n code (inv c es l laws)
+    (sent c (world c es) i k (messages.Have t n code) (inv c es l laws) e f).0
 
 pub returns-clause-starts : goal.returns-clause-starts
 returns-clause-starts g x c es i n who body l laws e = (inv c es l laws).core.starts i n who body e

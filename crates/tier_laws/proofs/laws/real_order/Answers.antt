@@ -10,4 +10,5 @@ pub returns-clause-replied : goal.returns-clause-replied
 returns-clause-replied g x c es fs k i n e who body l laws told new at = replied_before c es fs k i n e who body (few c.u l) laws told new at
 
 pub returns-clause-finished : goal.returns-clause-finished
-returns-clause-finished g x c es fs k i j n e who body step l laws told new at is own = finished_before c es fs k i j n e who body step (few c.u l) laws told new at is own
+returns-clause-finished g x c es fs k i j n e who body step l laws told new at is own = finished_before c es fs k i j n
+    e who body step (few c.u l) laws told new at is own

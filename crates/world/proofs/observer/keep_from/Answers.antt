@@ -10,4 +10,5 @@ filtered p [] = refl
 filtered p (t ∷ ts) = ap (λ z. cond (nat_le p t.pos) (t ∷ z) z) (filtered p ts)
 
 pub returns : goal.returns
-returns c = filter_same _ (λ t. nat_le c.args.pos t.pos) _ (λ t b f k. search rules) _ _ c.retain.ensures.filtered ∙ filtered c.args.pos c.args.tallies.now.items
+returns c = filter_same _ (λ t. nat_le c.args.pos t.pos) _ (λ t b f k. search rules) _ _ c.retain.ensures.filtered
+    ∙ filtered c.args.pos c.args.tallies.now.items

@@ -11,6 +11,9 @@ hears-last s (q ∷ ps) p = hears-last (hears_frame s q.1) ps p
 
 pub loop-to-preserved : goal.loop-to-preserved
 loop-to-preserved c = record {
-  soup = c.in_ok-push.ensures.ok ∙ ap (λ z. z ++ (c.in-Some.to, c.in-Some.bytes) ∷ []) c.loop-to.invariant.soup ∙ append_assoc c.args.soup.now c.loop-to.yielded ((c.in-Some.to, c.in-Some.bytes) ∷ []);
-  watch = c.in_ok-hear.ensures ∙ ap (λ z. hears_frame c.loop-to.watch z) c.items.ensures ∙ ap (λ z. hears_frame z c.in-Some.bytes) c.loop-to.invariant.watch ∙ sym (hears-last c.args.watch.now c.loop-to.yielded (c.in-Some.to, c.in-Some.bytes));
+  soup = c.in_ok-push.ensures.ok ∙ ap (λ z. z ++ (c.in-Some.to, c.in-Some.bytes) ∷ []) c.loop-to.invariant.soup
+      ∙ append_assoc c.args.soup.now c.loop-to.yielded ((c.in-Some.to, c.in-Some.bytes) ∷ []);
+  watch = c.in_ok-hear.ensures ∙ ap (λ z. hears_frame c.loop-to.watch z) c.items.ensures
+      ∙ ap (λ z. hears_frame z c.in-Some.bytes) c.loop-to.invariant.watch
+      ∙ sym (hears-last c.args.watch.now c.loop-to.yielded (c.in-Some.to, c.in-Some.bytes));
 }

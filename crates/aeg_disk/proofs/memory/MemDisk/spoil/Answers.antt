@@ -14,4 +14,5 @@ returns-clause-fault c =
     let later : c.args.self.now.faults ≤ c.saturating_add-self-2.result = omega arith in
     let rose : Rose c.args.self.now.faults c.saturating_add-self-2.result = omega arith in
     rw c.saturating_sub-self.ensures
-    (fault_state _ _ _ _ c.args.self.now.logged _ _ _ _ c.requires.runs c.args.at c.args.count _ c.saturating_add-self-2.result c.requires.unmet later rose refl long c.in_ok-add.ensures.ok)
+    (fault_state _ _ _ _ c.args.self.now.logged _ _ _ _ c.requires.runs c.args.at c.args.count _
+    c.saturating_add-self-2.result c.requires.unmet later rose refl long c.in_ok-add.ensures.ok)

@@ -9,6 +9,7 @@ returns-clause-base c =
     let mark = c.self.inside.mark in
     let es = c.self.inside.undo.entries in
     let same = c.reserve.ensures.entries in
-    base_kept c.reserve.new.undo.entries _ mark c.reserve.new.self.map _ c.args.key c.args.value (subst (λ xs. mark ≤ length xs) (sym same) c.self.invariant.marked) c.put_logged.ensures.entries c.put_logged.ensures.map
+    base_kept c.reserve.new.undo.entries _ mark c.reserve.new.self.map _ c.args.key c.args.value
+    (subst (λ xs. mark ≤ length xs) (sym same) c.self.invariant.marked) c.put_logged.ensures.entries c.put_logged.ensures.map
     ∙ ap (λ xs. unwound (drop mark xs) c.reserve.new.self.map) same ∙ ap (unwound (drop mark es)) c.reserve.ensures.map
     ∙ ap (λ (b : BatchView). b.base) c.self.view_is

@@ -66,6 +66,7 @@ returns-clause-ran g c =
     let no : c.self.inside.short ≡ false = search rules in
     let run = run_job begins segs w.cells.start w.m.steps.items in
     let done : IfOk c.done_of-done.result (IsDone w.cells.start w.cells.now run) =
-    subst (λ (r : Run). IfOk c.done_of-done.result (IsDone w.cells.start w.cells.now r)) (over_run plan begins segs w.cells.start w (c.self.invariant.reached no) far) c.done_of-done.ensures in
+    subst (λ (r : Run). IfOk c.done_of-done.result (IsDone w.cells.start w.cells.now r))
+    (over_run plan begins segs w.cells.start w (c.self.invariant.reached no) far) c.done_of-done.ensures in
     task_is_run begins g.T.Task.begins segs g.T.Task.segs w.cells.start g.T.Task.start t w.m.steps.items c.leave-2.result
     c.self.invariant.service c.self.invariant.job c.self.invariant.start_is (c.leave-2.ensures.ran run done)

@@ -19,7 +19,8 @@ pub returns-clause-past : goal.returns-clause-past
 returns-clause-past g c = λ past.
     let some = some_left c.args.facts.now c.facts.result.now c.is_empty.result c.facts.ensures c.is_empty.ensures c.if-is_empty.false in
     let spelled = spelled_as _ c.encode.new.out c.args.facts.now c.emptied-body.ensures c.in_ok-encode.ensures.ok in
-    inl ((c.append-answer.ensures.full _).1 (past_at c.args.facts.now c.encode.new.out c.args.self.now c.self.inside.journal some spelled (sym c.self.view_is) past))
+    inl ((c.append-answer.ensures.full _).1
+    (past_at c.args.facts.now c.encode.new.out c.args.self.now c.self.inside.journal some spelled (sym c.self.view_is) past))
 
 pub returns-clause-leaves : goal.returns-clause-leaves
 returns-clause-leaves g c = λ rs t has.
@@ -27,7 +28,10 @@ returns-clause-leaves g c = λ rs t has.
     let spelled = spelled_as _ c.encode.new.out c.args.facts.now c.emptied-body.ensures c.in_ok-encode.ensures.ok in
     let old = g.D.Disk.state c.args.disk.now in
     let here = subst (λ (k : ℕ). HasFacts rs old k) (sym c.self.view_is) has in
-    leaves rs c.args.facts.now some c.encode.new.out spelled old (g.D.Disk.state c.append-answer.new.disk) c.self.inside.journal here c.append-answer.result c.append-answer.new.self t c.append-answer.ensures.later c.append-answer.ensures.place c.append-answer.ensures.kept c.append-answer.ensures.acknowledged c.append-answer.ensures.any_moment c.append-answer.ensures.nothing_written
+    leaves rs c.args.facts.now some c.encode.new.out spelled old (g.D.Disk.state c.append-answer.new.disk)
+    c.self.inside.journal here c.append-answer.result c.append-answer.new.self t c.append-answer.ensures.later
+    c.append-answer.ensures.place c.append-answer.ensures.kept c.append-answer.ensures.acknowledged
+    c.append-answer.ensures.any_moment c.append-answer.ensures.nothing_written
 
 pub returns-clause-stopped : goal.returns-clause-stopped
 returns-clause-stopped g c = λ runs stands rs t has.
@@ -35,7 +39,8 @@ returns-clause-stopped g c = λ runs stands rs t has.
     let spelled = spelled_as _ c.encode.new.out c.args.facts.now c.emptied-body.ensures c.in_ok-encode.ensures.ok in
     let old = g.D.Disk.state c.args.disk.now in
     let here = subst (λ (k : ℕ). HasFacts rs old k) (sym c.self.view_is) has in
-    cut rs c.args.facts.now some c.encode.new.out spelled old (g.D.Disk.state c.append-answer.new.disk) c.self.inside.journal here t c.append-answer.ensures.later (c.append-answer.ensures.stopped runs stands)
+    cut rs c.args.facts.now some c.encode.new.out spelled old (g.D.Disk.state c.append-answer.new.disk)
+    c.self.inside.journal here t c.append-answer.ensures.later (c.append-answer.ensures.stopped runs stands)
 
 pub returns-clause-any_moment : goal.returns-clause-any_moment
 returns-clause-any_moment g c = λ rs t has.
@@ -43,7 +48,8 @@ returns-clause-any_moment g c = λ rs t has.
     let spelled = spelled_as _ c.encode.new.out c.args.facts.now c.emptied-body.ensures c.in_ok-encode.ensures.ok in
     let old = g.D.Disk.state c.args.disk.now in
     let here = subst (λ (k : ℕ). HasFacts rs old k) (sym c.self.view_is) has in
-    moments rs c.args.facts.now some c.encode.new.out spelled old (g.D.Disk.state c.append-answer.new.disk) c.self.inside.journal here t c.append-answer.ensures.any_moment
+    moments rs c.args.facts.now some c.encode.new.out spelled old (g.D.Disk.state c.append-answer.new.disk)
+    c.self.inside.journal here t c.append-answer.ensures.any_moment
 
 pub returns-in_err-encode-clause-leaves : goal.returns-in_err-encode-clause-leaves
 returns-in_err-encode-clause-leaves g c = λ rs t has.

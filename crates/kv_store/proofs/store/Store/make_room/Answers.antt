@@ -13,7 +13,9 @@ pub returns-in_err-grow-clause-map : goal.returns-in_err-grow-clause-map
 returns-in_err-grow-clause-map c = ap store_of c.grow.ensures.lists ∙ ap (λ (h : Holding). h.map) c.self.view_is
 
 pub invariant_of-self-then-needed-self : goal.invariant_of-self-then-needed-self
-invariant_of-self-then-needed-self c = grown _ _ _ _ _ c.self.invariant c.in_ok-grow.ensures.lists c.in_ok-grow.ensures.eight (let a = c.widened-room.ensures in let b = c.in-Some.ensures.1 in omega arith) c.in_ok-grow.ensures.roomy
+invariant_of-self-then-needed-self c = grown _ _ _ _ _ c.self.invariant c.in_ok-grow.ensures.lists
+    c.in_ok-grow.ensures.eight (let a = c.widened-room.ensures in let b = c.in-Some.ensures.1 in omega arith)
+    c.in_ok-grow.ensures.roomy
 
 pub returns-in_ok-grow-clause-map : goal.returns-in_ok-grow-clause-map
 returns-in_ok-grow-clause-map c = ap store_of c.in_ok-grow.ensures.lists ∙ ap (λ (h : Holding). h.map) c.self.view_is

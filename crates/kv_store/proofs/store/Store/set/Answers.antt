@@ -13,7 +13,8 @@ set-added-requires-clause-room c none =
     let d = c.index-self-from.result in
     let fits = column_fits _ _ _ c.self.invariant c.args.key c.requires.class _ c.from.ensures d in
     let roomy = column_room _ _ _ c.self.invariant c.args.key c.requires.class _ c.from.ensures d in
-    let room : size (written (map_of c.self.inside.columns) c.args.key c.args.value) ≤ c.self.inside.room = subst (λ (h : Holding). size (written h.map c.args.key c.args.value) ≤ h.room) (sym c.self.view_is) c.requires.room in
+    let room : size (written (map_of c.self.inside.columns) c.args.key c.args.value) ≤ c.self.inside.room = subst
+    (λ (h : Holding). size (written h.map c.args.key c.args.value) ≤ h.room) (sym c.self.view_is) c.requires.room in
     let one = room_for _ _ _ c.self.invariant c.args.key c.requires.class _ c.from.ensures d c.args.value c.requires.value none room in
     omega arith
 
@@ -24,11 +25,18 @@ pub invariant_of-self : goal.invariant_of-self
 invariant_of-self c =
     let d = c.index-self-from.result in
     let added = c.set-added.ensures in
-    let room : size (written (map_of c.self.inside.columns) c.args.key c.args.value) ≤ c.self.inside.room = subst (λ (h : Holding). size (written h.map c.args.key c.args.value) ≤ h.room) (sym c.self.view_is) c.requires.room in
-    let bound : c.self.inside.count + c.set-added.result ≤ c.self.inside.room = added_within _ _ _ c.self.invariant.within added.most (λ lt. room_for _ _ _ c.self.invariant c.args.key c.requires.class _ c.from.ensures d c.args.value c.requires.value (added.new lt) room) in
-    still_columns _ _ _ c.self.invariant c.args.key c.requires.class _ c.from.ensures d c.set-added.new.column (Some c.args.value) (not_zero _ c.requires.value) added.rising added.sets (c.self.inside.count + c.set-added.result) added.capacity (omega arith) bound
+    let room : size (written (map_of c.self.inside.columns) c.args.key c.args.value) ≤ c.self.inside.room = subst
+    (λ (h : Holding). size (written h.map c.args.key c.args.value) ≤ h.room) (sym c.self.view_is) c.requires.room in
+    let bound : c.self.inside.count + c.set-added.result ≤ c.self.inside.room = added_within _ _ _
+    c.self.invariant.within added.most
+    (λ lt. room_for _ _ _ c.self.invariant c.args.key c.requires.class _ c.from.ensures d c.args.value
+    c.requires.value (added.new lt) room) in
+    still_columns _ _ _ c.self.invariant c.args.key c.requires.class _ c.from.ensures d c.set-added.new.column
+    (Some c.args.value) (not_zero _ c.requires.value) added.rising added.sets
+    (c.self.inside.count + c.set-added.result) added.capacity (omega arith) bound
 
 pub returns-clause-map : goal.returns-clause-map
 returns-clause-map c =
-    map_after _ _ _ c.self.invariant c.args.key c.requires.class _ c.from.ensures c.index-self-from.result c.set-added.new.column (Some c.args.value) (not_zero _ c.requires.value) c.set-added.ensures.rising c.set-added.ensures.sets
+    map_after _ _ _ c.self.invariant c.args.key c.requires.class _ c.from.ensures c.index-self-from.result
+    c.set-added.new.column (Some c.args.value) (not_zero _ c.requires.value) c.set-added.ensures.rising c.set-added.ensures.sets
     ∙ ap (λ (h : Holding). written h.map c.args.key c.args.value) c.self.view_is

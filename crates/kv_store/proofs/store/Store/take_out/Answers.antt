@@ -20,9 +20,12 @@ invariant_of-self c =
     let fits = column_fits _ _ _ c.self.invariant c.args.key c.requires.class _ c.from.ensures d in
     let within = c.self.invariant.within in
     let gone = out.gone in
-    still_columns _ _ _ c.self.invariant c.args.key c.requires.class _ c.from.ensures d c.take_out-gone.new.column None (λ e. cc) out.rising out.takes (c.self.inside.count - c.take_out-gone.result) (le_of_eq (sym out.capacity)) (omega arith) (omega arith)
+    still_columns _ _ _ c.self.invariant c.args.key c.requires.class _ c.from.ensures d c.take_out-gone.new.column None
+    (λ e. cc) out.rising out.takes (c.self.inside.count - c.take_out-gone.result) (le_of_eq (sym out.capacity))
+    (omega arith) (omega arith)
 
 pub returns-clause-map : goal.returns-clause-map
 returns-clause-map c =
-    map_after _ _ _ c.self.invariant c.args.key c.requires.class _ c.from.ensures c.index-self-from.result c.take_out-gone.new.column None (λ e. cc) c.take_out-gone.ensures.rising c.take_out-gone.ensures.takes
+    map_after _ _ _ c.self.invariant c.args.key c.requires.class _ c.from.ensures c.index-self-from.result
+    c.take_out-gone.new.column None (λ e. cc) c.take_out-gone.ensures.rising c.take_out-gone.ensures.takes
     ∙ ap (λ (h : Holding). written h.map c.args.key 0) c.self.view_is

@@ -10,7 +10,8 @@ entries-preserved c =
     let new = c.take_back.new.list.entries in
     let less = c.take_back.ensures.less in
     record {
-      map = c.take_back.ensures.map ∙ ap (unwound (drop (length new) es)) c.entries.invariant.map ∙ undone_more all es (length new) c.args.self.now.map c.entries.invariant.front (omega arith);
+      map = c.take_back.ensures.map ∙ ap (unwound (drop (length new) es)) c.entries.invariant.map
+          ∙ undone_more all es (length new) c.args.self.now.map c.entries.invariant.front (omega arith);
       front = front_more all es new c.entries.invariant.front c.take_back.ensures.entries (omega arith);
       left = c.take_back.ensures.left;
       top = c.take_back.ensures.top ∙ c.entries.invariant.top;

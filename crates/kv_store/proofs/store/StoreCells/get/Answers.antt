@@ -15,7 +15,8 @@ returns-then-key-lt8 c =
     let d = c.index-self-from.result in
     let n = c.self.inside.columns in
     let here : c.args.key.class < length n = (let e = c.self.invariant.eight in let l = c.if-key-lt8.true in omega arith) in
-    let column : c.deref.result.now ≡ get_or (lists_of n) c.args.key.class [] = c.deref.ensures.value ∙ ap (λ class. (slice_index_or n class d).items) c.from.ensures ∙ sym (get-lists n c.args.key.class d here) in
+    let column : c.deref.result.now ≡ get_or (lists_of n) c.args.key.class [] = c.deref.ensures.value
+    ∙ ap (λ class. (slice_index_or n class d).items) c.from.ensures ∙ sym (get-lists n c.args.key.class d here) in
     let finds : c.find.result ≡ found (get_or (lists_of n) c.args.key.class []) c.args.key.id = c.find.ensures ∙ ap (λ l. found l c.args.key.id) column in
     c.unwrap_or.ensures ∙ ap (λ (o : Option ℕ). unwrap_or o 0) finds
     ∙ sym (value_at-store_of (lists_of n) c.self.invariant.columns c.args.key) ∙ ap (λ (h : Holding). value_at h.map c.args.key) c.self.view_is

@@ -6,7 +6,8 @@ use Rattle.one_server.proofs.book.Book.find.Goals as goal
 
 pub index-requires : goal.index-requires
 index-requires g c =
-    let inside = within 0 c.self.inside.items.items c.args.tier c.args.number c.in-Some.place (sym (c.self.invariant c.args.tier c.args.number) ∙ (sym c.get.ensures ∙ c.in-Some.is)) in
+    let inside = within 0 c.self.inside.items.items c.args.tier c.args.number c.in-Some.place
+    (sym (c.self.invariant c.args.tier c.args.number) ∙ (sym c.get.ensures ∙ c.in-Some.is)) in
     omega (arith, inside.1)
 
 pub returns-in-None : goal.returns-in-None
@@ -17,5 +18,6 @@ returns-in-None g c =
 pub returns-in-Some : goal.returns-in-Some
 returns-in-Some g c =
     sym (ap (λ (items : List (Tier × ℕ × g.row.T.Denot)). found_in items c.args.tier c.args.number) (sym c.self.view_is)
-    ∙ placed_at c.self.inside.items.items c.args.tier c.args.number c.in-Some.place c.index.result.now (sym (c.self.invariant c.args.tier c.args.number) ∙ (sym c.get.ensures ∙ c.in-Some.is))
+    ∙ placed_at c.self.inside.items.items c.args.tier c.args.number c.in-Some.place c.index.result.now
+    (sym (c.self.invariant c.args.tier c.args.number) ∙ (sym c.get.ensures ∙ c.in-Some.is))
     ∙ ap (λ (item : Tier × ℕ × g.row.T.Denot). Some item.2) (sym c.index.ensures))

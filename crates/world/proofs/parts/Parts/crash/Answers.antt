@@ -19,12 +19,20 @@ pub returns-then-not-is_up : goal.returns-then-not-is_up
 returns-then-not-is_up c =
     let down : up_at c.args.self.now.nodes c.args.node ≡ false = sym c.is_up.ensures ∙ search rules in
     on_ok_three c.pass_over.result c.pass_over.ensures.told c.pass_over.ensures.same c.pass_over.ensures.within
-    (λ told e within disks u depth w s d. made u depth w c.args.self.now c.pass_over.new.self c.args.self.now.nodes [] disks disks (events.Crash c.args.node) (absent_text c.args.node (condition_at c.args.self.now.nodes c.args.node.tier c.args.node.index)) c.args.lines.now c.pass_over.new.lines s within
-    (crash_rests u depth w c.args.self.now.nodes c.args.node disks c.args.node.tier s.few s.nodes d (subst (λ z. c.args.node.index < 2 * z + 1) s.size c.requires.there) down) e told (λ f. absurd (cc)) (falls_none disks) tt)
+    (λ told e within disks u depth w s d. made u depth w c.args.self.now c.pass_over.new.self c.args.self.now.nodes []
+    disks disks (events.Crash c.args.node)
+    (absent_text c.args.node (condition_at c.args.self.now.nodes c.args.node.tier c.args.node.index))
+    c.args.lines.now c.pass_over.new.lines s within
+    (crash_rests u depth w c.args.self.now.nodes c.args.node disks c.args.node.tier s.few s.nodes d
+    (subst (λ z. c.args.node.index < 2 * z + 1) s.size c.requires.there) down) e told (λ f. absurd (cc)) (falls_none disks) tt)
 
 pub returns : goal.returns
 returns c =
     let up : up_at c.args.self.now.nodes c.args.node ≡ true = sym c.is_up.ensures ∙ search rules in
-    on_ok_weaker c.send.result (λ sent disks u depth w s d. made u depth w c.args.self.now c.send.new.self c.crash.new.self [] disks disks (events.Crash c.args.node) [] c.args.lines.now c.args.lines.now s sent.1
-    (crash_by u depth w c.args.self.now.nodes c.crash.new.self c.args.node disks c.args.node.tier s.few s.nodes d (subst (λ z. c.args.node.index < 2 * z + 1) s.size c.requires.there) up c.crash.ensures)
-    (sent.0 ∙ ap (parts_after c.args.self.now c.crash.new.self) c.new.ensures) (sym (append-nil c.args.lines.now)) (λ f. absurd (cc)) (falls_none disks) tt) c.send.ensures
+    on_ok_weaker c.send.result
+    (λ sent disks u depth w s d. made u depth w c.args.self.now c.send.new.self c.crash.new.self [] disks disks
+    (events.Crash c.args.node) [] c.args.lines.now c.args.lines.now s sent.1
+    (crash_by u depth w c.args.self.now.nodes c.crash.new.self c.args.node disks c.args.node.tier s.few s.nodes d
+    (subst (λ z. c.args.node.index < 2 * z + 1) s.size c.requires.there) up c.crash.ensures)
+    (sent.0 ∙ ap (parts_after c.args.self.now c.crash.new.self) c.new.ensures) (sym (append-nil c.args.lines.now))
+    (λ f. absurd (cc)) (falls_none disks) tt) c.send.ensures

@@ -15,7 +15,8 @@ pub returns-then-not-is_cut : goal.returns-then-not-is_cut
 returns-then-not-is_cut g c =
     let state = g.D.Disk.state in
     let whole : is_cut_in (slice_get c.args.self.now.soup c.args.packet) c.args.bytes ≡ false = sym c.is_cut.ensures ∙ search rules in
-    short_plays c.args.self.now c.deliver.new.self (map state c.args.disks.now) (map state c.deliver.new.disks) c.args.lines.now c.deliver.new.lines c.args.packet c.args.bytes c.deliver.result whole c.deliver.ensures
+    short_plays c.args.self.now c.deliver.new.self (map state c.args.disks.now) (map state c.deliver.new.disks)
+    c.args.lines.now c.deliver.new.lines c.args.packet c.args.bytes c.deliver.result whole c.deliver.ensures
 
 pub unreachable-requires : goal.unreachable-requires
 unreachable-requires g c =
@@ -24,7 +25,8 @@ unreachable-requires g c =
     cut_goes r.0 r.1 r.2 c.args.self.now c.args.packet c.args.bytes r.3 cut (sym c.receiver.ensures ∙ c.in_default.is)
 
 pub is_up-requires : goal.is_up-requires
-is_up-requires g c = has_receiver c.args.self.now (map g.D.Disk.state c.args.disks.now) c.args.packet c.in-Some.node c.requires.shown (sym c.receiver.ensures ∙ c.in-Some.is)
+is_up-requires g c = has_receiver c.args.self.now (map g.D.Disk.state c.args.disks.now) c.args.packet c.in-Some.node
+    c.requires.shown (sym c.receiver.ensures ∙ c.in-Some.is)
 
 pub returns-then-not-is_up : goal.returns-then-not-is_up
 returns-then-not-is_up g c =
@@ -32,9 +34,12 @@ returns-then-not-is_up g c =
     let cut : is_cut_in (slice_get c.args.self.now.soup c.args.packet) c.args.bytes ≡ true = sym c.is_cut.ensures ∙ search rules in
     let to : receiver_in (slice_get c.args.self.now.soup c.args.packet) ≡ Some c.in-Some.node = sym c.receiver.ensures ∙ c.in-Some.is in
     let there : up_at c.args.self.now.nodes c.in-Some.node ≡ false = sym c.is_up.ensures ∙ search rules in
-    plays_idle c.args.self.now c.send.new.self disks Fine Fine (lost_line c.args.packet) c.args.lines.now c.add_lost.new.out (λ f. events.Short c.args.packet c.args.bytes f)
-    (λ u depth w s d. short_lost u depth w c.args.self.now c.args.packet c.args.bytes c.in-Some.node disks s d cut (addressed u depth w c.args.self.now c.args.packet c.in-Some.node s to) there)
-    refl (λ w. tt) refl (c.in_ok-send.ensures.0 ∙ ap (parts_after c.args.self.now c.args.self.now.nodes) c.new.ensures) c.in_ok-send.ensures.1 c.in_ok-add_lost.ensures
+    plays_idle c.args.self.now c.send.new.self disks Fine Fine (lost_line c.args.packet) c.args.lines.now
+    c.add_lost.new.out (λ f. events.Short c.args.packet c.args.bytes f)
+    (λ u depth w s d. short_lost u depth w c.args.self.now c.args.packet c.args.bytes c.in-Some.node disks s d cut
+    (addressed u depth w c.args.self.now c.args.packet c.in-Some.node s to) there)
+    refl (λ w. tt) refl (c.in_ok-send.ensures.0 ∙ ap (parts_after c.args.self.now c.args.self.now.nodes) c.new.ensures)
+    c.in_ok-send.ensures.1 c.in_ok-add_lost.ensures
 
 pub returns : goal.returns
 returns g c =
@@ -42,6 +47,9 @@ returns g c =
     let cut : is_cut_in (slice_get c.args.self.now.soup c.args.packet) c.args.bytes ≡ true = sym c.is_cut.ensures ∙ search rules in
     let to : receiver_in (slice_get c.args.self.now.soup c.args.packet) ≡ Some c.in-Some.node = sym c.receiver.ensures ∙ c.in-Some.is in
     let there : up_at c.args.self.now.nodes c.in-Some.node ≡ true = sym c.is_up.ensures ∙ search rules in
-    plays_idle c.args.self.now c.send-2.new.self disks Fine Fine (drop_line (node_name c.in-Some.node) refusals.Short) c.args.lines.now c.add_drop.new.out (λ f. events.Short c.args.packet c.args.bytes f)
-    (λ u depth w s d. short_refused u depth w c.args.self.now c.args.packet c.args.bytes c.in-Some.node disks s d cut (addressed u depth w c.args.self.now c.args.packet c.in-Some.node s to) there)
-    refl (λ w. tt) refl (c.in_ok-send-2.ensures.0 ∙ ap (parts_after c.args.self.now c.args.self.now.nodes) c.new-2.ensures) c.in_ok-send-2.ensures.1 c.in_ok-add_drop.ensures
+    plays_idle c.args.self.now c.send-2.new.self disks Fine Fine (drop_line (node_name c.in-Some.node) refusals.Short)
+    c.args.lines.now c.add_drop.new.out (λ f. events.Short c.args.packet c.args.bytes f)
+    (λ u depth w s d. short_refused u depth w c.args.self.now c.args.packet c.args.bytes c.in-Some.node disks s d cut
+    (addressed u depth w c.args.self.now c.args.packet c.in-Some.node s to) there)
+    refl (λ w. tt) refl (c.in_ok-send-2.ensures.0
+    ∙ ap (parts_after c.args.self.now c.args.self.now.nodes) c.new-2.ensures) c.in_ok-send-2.ensures.1 c.in_ok-add_drop.ensures

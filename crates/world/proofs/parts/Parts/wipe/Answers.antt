@@ -23,20 +23,35 @@ wipe-requires g c = let r = c.requires.shown in has_shown r.0 r.1 r.2 c.args.sel
 pub returns-then-is_gone : goal.returns-then-is_gone
 returns-then-is_gone g c =
     let disks = map g.D.Disk.state c.args.disks.now in
-    let gone : is_gone_in (condition_at c.args.self.now.nodes c.args.node.tier c.args.node.index) ≡ true = ap is_gone_in (sym c.condition.ensures) ∙ sym c.is_gone.ensures ∙ search rules in
-    on_ok_weaker c.send.result (λ sent u depth w s d. made u depth w c.args.self.now c.send.new.self c.args.self.now.nodes [] disks disks (events.Wipe c.args.node) (gone_line (node_name c.args.node)) c.args.lines.now c.add_gone.new.out s sent.1
-    (wipe_rests u depth w c.args.self.now.nodes c.args.node disks c.args.node.tier s.few s.nodes d (subst (λ z. c.args.node.index < 2 * z + 1) s.size c.requires.there) gone)
-    (sent.0 ∙ ap (parts_after c.args.self.now c.args.self.now.nodes) c.new.ensures) c.in_ok-add_gone.ensures (λ f. absurd (cc)) (falls_none disks) tt) c.send.ensures
+    let gone : is_gone_in (condition_at c.args.self.now.nodes c.args.node.tier c.args.node.index)
+    ≡ true = ap is_gone_in (sym c.condition.ensures) ∙ sym c.is_gone.ensures ∙ search rules in
+    on_ok_weaker c.send.result
+    (λ sent u depth w s d. made u depth w c.args.self.now c.send.new.self c.args.self.now.nodes [] disks disks
+    (events.Wipe c.args.node) (gone_line (node_name c.args.node)) c.args.lines.now c.add_gone.new.out s sent.1
+    (wipe_rests u depth w c.args.self.now.nodes c.args.node disks c.args.node.tier s.few s.nodes d
+    (subst (λ z. c.args.node.index < 2 * z + 1) s.size c.requires.there) gone)
+    (sent.0 ∙ ap (parts_after c.args.self.now c.args.self.now.nodes) c.new.ensures) c.in_ok-add_gone.ensures
+    (λ f. absurd (cc)) (falls_none disks) tt) c.send.ensures
 
 pub returns : goal.returns
 returns g c =
     let state = g.D.Disk.state in
     let r = c.requires.shown in
-    let there : is_gone_in (condition_at c.args.self.now.nodes c.args.node.tier c.args.node.index) ≡ false = ap is_gone_in (sym c.condition.ensures) ∙ sym c.is_gone.ensures ∙ search rules in
+    let there : is_gone_in (condition_at c.args.self.now.nodes c.args.node.tier c.args.node.index)
+    ≡ false = ap is_gone_in (sym c.condition.ensures) ∙ sym c.is_gone.ensures ∙ search rules in
     let disk = state (slice_index_or c.args.disks.now c.place_of.result c.index-disks-place_of.result) in
-    let here = disk_read state c.args.disks.now (place_of c.args.node) c.place_of.result c.index-disks-place_of.result c.place_of.ensures.is c.place_of.ensures.within r.4.all in
-    on_ok_weaker c.send-2.result (λ sent u depth w s d. made_on c.args.self.now c.send-2.new.self (map state c.args.disks.now) _ _ c.args.lines.now (events.Wipe c.args.node) u depth w
+    let here = disk_read state c.args.disks.now (place_of c.args.node) c.place_of.result c.index-disks-place_of.result
+    c.place_of.ensures.is c.place_of.ensures.within r.4.all in
+    on_ok_weaker c.send-2.result
+    (λ sent u depth w s d. made_on c.args.self.now c.send-2.new.self (map state c.args.disks.now) _ _
+    c.args.lines.now (events.Wipe c.args.node) u depth w
     (disks_left state c.args.disks.now (place_of c.args.node) c.place_of.result c.erase.new.self c.place_of.ensures.is)
-    (made u depth w c.args.self.now c.send-2.new.self c.wipe.new.self [] (map state c.args.disks.now) _ (events.Wipe c.args.node) [] c.args.lines.now c.args.lines.now s sent.1
-    (wipe_by u depth w c.args.self.now.nodes c.wipe.new.self c.args.node (map state c.args.disks.now) disk (state c.erase.new.self) c.args.node.tier s.few s.nodes d (subst (λ z. c.args.node.index < 2 * z + 1) s.size c.requires.there) here there c.wipe.ensures c.erase.ensures)
-    (sent.0 ∙ ap (parts_after c.args.self.now c.wipe.new.self) c.new-2.ensures) (sym (append-nil c.args.lines.now)) (λ f. absurd (cc)) (wiped_falls (map state c.args.disks.now) (place_of c.args.node) disk (state c.erase.new.self) here c.erase.ensures) tt)) c.send-2.ensures
+    (made u depth w c.args.self.now c.send-2.new.self c.wipe.new.self [] (map state c.args.disks.now) _
+    (events.Wipe c.args.node) [] c.args.lines.now c.args.lines.now s sent.1
+    (wipe_by u depth w c.args.self.now.nodes c.wipe.new.self c.args.node (map state c.args.disks.now) disk
+    (state c.erase.new.self) c.args.node.tier s.few s.nodes d
+    (subst (λ z. c.args.node.index < 2 * z + 1) s.size c.requires.there) here there c.wipe.ensures c.erase.ensures)
+    (sent.0 ∙ ap (parts_after c.args.self.now c.wipe.new.self) c.new-2.ensures) (sym (append-nil c.args.lines.now))
+    (λ f. absurd (cc))
+    (wiped_falls (map state c.args.disks.now) (place_of c.args.node) disk (state c.erase.new.self) here
+    c.erase.ensures) tt)) c.send-2.ensures

@@ -4,10 +4,15 @@ use Rattle.world.proofs.parts.calls.deliver.Goals as goal
 pub power-met-requires : goal.power-met-requires
 power-met-requires g c =
     let disk = g.D.Disk.state in
-    move_has c.args.nodes.now c.deliver-answer.new.self c.args.node.tier c.args.node.index (disk c.arm.new.disk) (disk c.deliver-answer.new.disk) c.args.out.now c.deliver-answer.new.out (λ S k. k.on_frame c.args.from c.args.msg.now) c.deliver-answer.result c.requires.up c.deliver-answer.ensures
+    move_has c.args.nodes.now c.deliver-answer.new.self c.args.node.tier c.args.node.index (disk c.arm.new.disk)
+    (disk c.deliver-answer.new.disk) c.args.out.now c.deliver-answer.new.out
+    (λ S k. k.on_frame c.args.from c.args.msg.now) c.deliver-answer.result c.requires.up c.deliver-answer.ensures
 
 pub returns : goal.returns
 returns g c =
     let disk = g.D.Disk.state in
-    called_by c.args.nodes.now c.deliver-answer.new.self c.power-met.new.nodes c.args.node c.args.stop (disk c.args.disk.now) (disk c.arm.new.disk) (disk c.deliver-answer.new.disk) (disk c.power-met.new.disk) c.args.out.now c.deliver-answer.new.out (λ S k. k.on_frame c.args.from c.args.msg.now) c.deliver-answer.result c.power-met.result
+    called_by c.args.nodes.now c.deliver-answer.new.self c.power-met.new.nodes c.args.node c.args.stop
+    (disk c.args.disk.now) (disk c.arm.new.disk) (disk c.deliver-answer.new.disk) (disk c.power-met.new.disk)
+    c.args.out.now c.deliver-answer.new.out (λ S k. k.on_frame c.args.from c.args.msg.now) c.deliver-answer.result
+    c.power-met.result
     c.arm.ensures c.deliver-answer.ensures c.power-met.ensures.met c.power-met.ensures.rests c.power-met.ensures.sure

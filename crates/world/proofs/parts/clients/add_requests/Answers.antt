@@ -14,7 +14,11 @@ use Rattle.world.proofs.parts.clients.add_requests.Goals as goal
 pub loop-index-preserved : goal.loop-index-preserved
 loop-index-preserved c =
     c.in_ok-push.ensures.ok
-    ∙ ap (λ z. c.loop-index.out ++ (Node (record { tier = Mid; index = c.loop-index.index }), z) ∷ []) (c.in_ok-copy.ensures ∙ c.in_ok-bytes.ensures ∙ ap (λ z. frame (Client c.args.client) (msgs.Request c.args.seq z)) c.in_ok-body.ensures)
+    ∙ ap (λ z. c.loop-index.out ++ (Node (record { tier = Mid; index = c.loop-index.index }), z) ∷ [])
+    (c.in_ok-copy.ensures ∙ c.in_ok-bytes.ensures
+    ∙ ap (λ z. frame (Client c.args.client) (msgs.Request c.args.seq z)) c.in_ok-body.ensures)
     ∙ ap (λ z. z ++ sealed (request_to c.args.client c.args.seq c.args.body.now c.loop-index.index) ∷ []) c.loop-index.invariant
-    ∙ append_assoc c.args.out.now (map sealed (each c.loop-index.index nobody (request_to c.args.client c.args.seq c.args.body.now))) (sealed (request_to c.args.client c.args.seq c.args.body.now c.loop-index.index) ∷ [])
+    ∙ append_assoc c.args.out.now
+    (map sealed (each c.loop-index.index nobody (request_to c.args.client c.args.seq c.args.body.now)))
+    (sealed (request_to c.args.client c.args.seq c.args.body.now c.loop-index.index) ∷ [])
     ∙ ap (λ z. c.args.out.now ++ z) (sym (sealed_more c.loop-index.index (request_to c.args.client c.args.seq c.args.body.now)))

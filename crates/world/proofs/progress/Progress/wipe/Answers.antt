@@ -8,4 +8,6 @@ use Rattle.world.proofs.progress.Progress.wipe.Goals as goal
 pub returns : goal.returns
 returns g c =
     let state = g.D.Disk.state in
-    on_ok_weaker c.note.result (λ e. one_more c.args.self.now c.note.new.self c.wipe.new.self (events.Wipe c.args.node) (events.Wipe c.args.node) c.args.self.now.cursor (map state c.args.disks.now) (map state c.wipe.new.disks) c.args.lines.now c.wipe.new.lines c.requires.step refl c.in_ok-wipe.ensures e) c.note.ensures
+    on_ok_weaker c.note.result (λ e. one_more c.args.self.now c.note.new.self c.wipe.new.self (events.Wipe c.args.node)
+    (events.Wipe c.args.node) c.args.self.now.cursor (map state c.args.disks.now) (map state c.wipe.new.disks)
+    c.args.lines.now c.wipe.new.lines c.requires.step refl c.in_ok-wipe.ensures e) c.note.ensures

@@ -6,15 +6,32 @@ use Rattle.world.proofs.nodes.all_nodes.Nodes.restart.Goals as goal
 
 pub returns-in-Mid : goal.returns-in-Mid
 returns-in-Mid g c =
-    restarts_in Mid c.args.self.now (record { mids = with_item c.args.self.now.mids c.from-x.result c.restart.new.self; invs = c.args.self.now.invs; pays = c.args.self.now.pays }) c.args.node c.from-x.result c.index_mut.result.now c.restart.new.self _ _ _ c.in-Mid.is c.from-x.ensures
+    restarts_in Mid c.args.self.now (record {
+      mids = with_item c.args.self.now.mids c.from-x.result c.restart.new.self;
+      invs = c.args.self.now.invs;
+      pays = c.args.self.now.pays;
+    }) c.args.node c.from-x.result c.index_mut.result.now
+    c.restart.new.self _ _ _ c.in-Mid.is c.from-x.ensures
     c.index_mut.ensures.value refl (refl, refl) c.restart.ensures
 
 pub returns-in-Inv : goal.returns-in-Inv
 returns-in-Inv g c =
-    restarts_in Inv c.args.self.now (record { mids = c.args.self.now.mids; invs = with_item c.args.self.now.invs c.from-x.result c.restart-in-Inv.new.self; pays = c.args.self.now.pays }) c.args.node c.from-x.result c.index_mut-in-Inv.result.now c.restart-in-Inv.new.self _ _ _ c.in-Inv.is c.from-x.ensures
+    restarts_in Inv c.args.self.now
+    (record {
+      mids = c.args.self.now.mids;
+      invs = with_item c.args.self.now.invs c.from-x.result c.restart-in-Inv.new.self;
+      pays = c.args.self.now.pays;
+    })
+    c.args.node c.from-x.result c.index_mut-in-Inv.result.now c.restart-in-Inv.new.self _ _ _ c.in-Inv.is c.from-x.ensures
     c.index_mut-in-Inv.ensures.value refl (refl, refl) c.restart-in-Inv.ensures
 
 pub returns-in-Pay : goal.returns-in-Pay
 returns-in-Pay g c =
-    restarts_in Pay c.args.self.now (record { mids = c.args.self.now.mids; invs = c.args.self.now.invs; pays = with_item c.args.self.now.pays c.from-x.result c.restart-in-Pay.new.self }) c.args.node c.from-x.result c.index_mut-in-Pay.result.now c.restart-in-Pay.new.self _ _ _ c.in-Pay.is c.from-x.ensures
+    restarts_in Pay c.args.self.now
+    (record {
+      mids = c.args.self.now.mids;
+      invs = c.args.self.now.invs;
+      pays = with_item c.args.self.now.pays c.from-x.result c.restart-in-Pay.new.self;
+    }) c.args.node c.from-x.result
+    c.index_mut-in-Pay.result.now c.restart-in-Pay.new.self _ _ _ c.in-Pay.is c.from-x.ensures
     c.index_mut-in-Pay.ensures.value refl (refl, refl) c.restart-in-Pay.ensures

@@ -4,7 +4,8 @@ use Rattle.world.proofs.BackMoves.{retries, retries_none}
 use Rattle.world.proofs.nodes.back_node.BackNode.retry.Goals as goal
 
 pub returns : goal.returns
-returns c disk = retries c.self.inside.node c.args.self.now disk c.args.out.now c.ask.new.out c.self.view_is c.self.invariant.1 c.self.invariant.2 c.in_ok-ask.ensures.range c.in_ok-ask.ensures.packets
+returns c disk = retries c.self.inside.node c.args.self.now disk c.args.out.now c.ask.new.out c.self.view_is
+    c.self.invariant.1 c.self.invariant.2 c.in_ok-ask.ensures.range c.in_ok-ask.ensures.packets
 
 pub returns-in_err-ask : goal.returns-in_err-ask
 returns-in_err-ask c disk =
