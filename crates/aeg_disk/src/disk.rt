@@ -2,9 +2,13 @@
 ghost use Rattle.std.specs.Prelude.{◌≡◌, ℕ, ◌+◌, ◌≤◌, List, [], Bool, true, false, length, take, drop, IfOk, OnOk, IsTrue, ◌↔◌};
 ghost use Rattle.aeg_disk.specs.Disk.{DiskState, Writes, Syncs, Looks, Lawful, Blank};
 
-#[derive(Clone, Copy, Debug, PartialEq, Eq)]
+use thiserror::Error;
+
+#[derive(Clone, Copy, Debug, PartialEq, Eq, Error)]
 pub enum DiskErr {
+    #[error("the disk failed")]
     Failed,
+    #[error("there is no memory")]
     Memory,
 }
 

@@ -7,12 +7,16 @@ ghost use Rattle.aeg_io.specs.Bytes.{Gains, GainsFront};
 use crate::{Failed, Sink, Source};
 use aeg_base::Bytes;
 use std::alloc::{AllocError, Global};
+use thiserror::Error;
 
 /// Why a source's bytes can't all be had: it failed, it has too many, or there was no memory.
-#[derive(Clone, Copy, Debug, PartialEq, Eq)]
+#[derive(Clone, Copy, Debug, PartialEq, Eq, Error)]
 pub enum ReadErr {
+    #[error("the source failed")]
     Fault,
+    #[error("the source has too many bytes")]
     TooLong,
+    #[error("there is no memory")]
     Memory,
 }
 

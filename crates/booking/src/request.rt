@@ -5,10 +5,12 @@ ghost use Rattle.server_model.specs.Requests.{request_of, open_of, book_of, canc
 ghost use Rattle.booking.specs.Reading.{answered};
 
 use server_model::{Request, first_part, next_part, number};
+use thiserror::Error;
 
 /// A text that is no request, with the rule that it breaks first: 1, its first word is no request's; 2, the number of
 /// further words; 3, a further word is no number in its range.
-#[derive(Clone, Copy, Debug, PartialEq, Eq)]
+#[derive(Clone, Copy, Debug, PartialEq, Eq, Error)]
+#[error("no request by rule {row}")]
 pub struct BadRequest {
     pub row: u8,
 }

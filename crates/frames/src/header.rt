@@ -11,13 +11,16 @@ use log_values::format::{
     LAST_KIND, LEARN_KIND, MID_TIER, PAY_TIER, PREPARE_KIND, REPLY_KIND, REQUEST_KIND,
 };
 use log_values::tier_byte;
+use thiserror::Error;
 
 /// Why a frame is refused: it is too short, or a row of the list of refusals holds, which are tried in order.
 /// 1 another version, 2 another kind, 3 a sender out of range or one that doesn't send this kind, 4 a length above
 /// the limit, 5 bytes after the body, 6 the body isn't one of its kind.
-#[derive(Clone, Copy, Debug, PartialEq, Eq)]
+#[derive(Clone, Copy, Debug, PartialEq, Eq, Error)]
 pub enum Refused {
+    #[error("shorter than its header says")]
     Short,
+    #[error("refused by rule {0}")]
     Row(u8),
 }
 
@@ -30,9 +33,11 @@ pub struct Header {
 }
 
 /// Why a frame wasn't read.
-#[derive(Clone, Copy, Debug, PartialEq, Eq)]
+#[derive(Clone, Copy, Debug, PartialEq, Eq, Error)]
 pub enum FrameErr {
+    #[error(transparent)]
     Refused(Refused),
+    #[error("there is no memory")]
     Memory,
 }
 

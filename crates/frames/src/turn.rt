@@ -1,6 +1,7 @@
 // What a node answers to a packet or a command.
 use crate::Refused;
 use aeg_base::{Ballot, CallNo, Memory, Pos, Round, Seq, Tier};
+use thiserror::Error;
 
 /// How a job ran: its round, the steps of its segments, their order, and how often a group was run again.
 #[derive(Debug, Drop)]
@@ -38,11 +39,15 @@ pub enum Turn {
 }
 
 /// Why a node went down.
-#[derive(Clone, Copy, Debug, PartialEq, Eq)]
+#[derive(Clone, Copy, Debug, PartialEq, Eq, Error)]
 pub enum Fault {
+    #[error("the disk failed")]
     Disk,
+    #[error("the journal would have {len} bytes")]
     JournalFull { len: u64 },
+    #[error("no record stands at byte {at}")]
     BadRecord { at: u64 },
+    #[error("there is no memory")]
     Memory,
 }
 

@@ -1,5 +1,6 @@
 // Why a script isn't read.
 use aeg_base::Memory;
+use thiserror::Error;
 
 /// The rule of the header: the first line that isn't passed over is `tiers U depth D`.
 pub const NO_HEADER: u8 = 1;
@@ -20,17 +21,21 @@ pub const NO_REQUEST: u8 = 5;
 pub const LATER: u8 = 9;
 
 /// Why a script isn't read.
-#[derive(Clone, Copy, Debug, PartialEq, Eq)]
+#[derive(Clone, Copy, Debug, PartialEq, Eq, Error)]
 pub enum ScriptErr {
     /// The first line that is refused, counted from 1, and the rule.
+    #[error("line {line} is refused by rule {row}")]
     BadLine { line: u32, row: u8 },
+    #[error("there is no memory")]
     Memory,
 }
 
 /// Why a line isn't read.
-#[derive(Clone, Copy, Debug, PartialEq, Eq)]
+#[derive(Clone, Copy, Debug, PartialEq, Eq, Error)]
 pub enum LineErr {
+    #[error("refused by rule {0}")]
     Row(u8),
+    #[error("there is no memory")]
     Memory,
 }
 

@@ -10,14 +10,18 @@ use aeg_base::{Bytes, Memory};
 use aeg_disk::{Disk, DiskErr};
 use std::alloc::Global;
 use std::marker::Model;
+use thiserror::Error;
 
 /// Why a record was not added.
-#[derive(Clone, Copy, Debug, PartialEq, Eq)]
+#[derive(Clone, Copy, Debug, PartialEq, Eq, Error)]
 pub enum AppendErr {
     /// The disk failed.
+    #[error("the disk failed")]
     Disk,
     /// The journal would have this length, which passes its limit.
+    #[error("the journal would have {len} bytes")]
     Full { len: u64 },
+    #[error("there is no memory")]
     Memory,
 }
 

@@ -10,14 +10,18 @@ use aeg_base::limits::RECORD_BYTES;
 use aeg_base::{Bytes, Memory};
 use aeg_disk::{Disk, DiskErr};
 use std::alloc::{AllocError, AllocFailed, Global};
+use thiserror::Error;
 
 /// Why a journal was not opened.
-#[derive(Clone, Copy, Debug, PartialEq, Eq)]
+#[derive(Clone, Copy, Debug, PartialEq, Eq, Error)]
 pub enum OpenErr {
     /// The disk failed.
+    #[error("the disk failed")]
     Disk,
     /// The gate at this place is open, and no whole entry follows it.
+    #[error("no whole entry follows the open gate at byte {at}")]
     BadRecord { at: u64 },
+    #[error("there is no memory")]
     Memory,
 }
 

@@ -1,12 +1,15 @@
 // Why a step isn't made.
 use aeg_base::Memory;
 use std::alloc::AllocError;
+use thiserror::Error;
 
 /// Why a step isn't made.
-#[derive(Clone, Copy, Debug, PartialEq, Eq)]
+#[derive(Clone, Copy, Debug, PartialEq, Eq, Error)]
 pub enum StepErr {
     /// The step is refused by this rule.
+    #[error("refused by rule {row}")]
     Illegal { row: u8 },
+    #[error("there is no memory")]
     Memory,
 }
 

@@ -1,11 +1,14 @@
 // Why a run ends before its script does.
 use aeg_base::Memory;
+use thiserror::Error;
 
 /// Why a call of a world answered no more: an event would begin with too many packets, or memory ran out, which ends the
 /// world.
-#[derive(Clone, Copy, Debug, PartialEq, Eq)]
+#[derive(Clone, Copy, Debug, PartialEq, Eq, Error)]
 pub enum Stop {
+    #[error("an event would begin with too many packets")]
     Limit,
+    #[error("there is no memory")]
     Memory,
 }
 
