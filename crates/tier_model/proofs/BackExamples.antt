@@ -75,7 +75,7 @@ unfolding digits checked number_at with_number
 all_are_told = refl
 
 -- a second chosen copy is passed over
-served_once : (at_node (Learned 1 (OfBack (Call 1 reserve)) ∷ Learned 0 (OfBack (Call 1 reserve)) ∷ [])).shim.kept ≡ (1, 0) ∷ []
+served_once : (at_node (Learned 1 (OfBack (Call 1 reserve)) ∷ Learned 0 (OfBack (Call 1 reserve)) ∷ [])).state ≡ served.state
 unfolding digits checked number_at with_number
 served_once = refl
 
