@@ -5,5 +5,6 @@ pub mod Course
 pub mod Beginning
 pub mod Folds
 pub mod Ranges
+pub mod Within
 pub mod Proper
 pub mod Again

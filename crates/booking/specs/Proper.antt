@@ -1,22 +1,20 @@
 -- Each segment is within the limits, and names keys of a store.
-use Rattle.std.proofs.Common.{ℕ, ◌+◌, ◌-◌, ◌*◌, ◌^◌, ◌<◌, ◌≤◌, ◌==◌, Bool, true, false, List, ◌++◌, length, Option}
-use Rattle.std.proofs.Common.{None, Some, if◌then◌else◌, unwrap_or, arith, lit<, lit≤, length-append}
+use Rattle.std.proofs.Common.{ℕ, ◌+◌, ◌-◌, ◌*◌, ◌^◌, ◌<◌, ◌≤◌, ◌==◌, Bool, true, false, List, Option}
+use Rattle.std.proofs.Common.{None, Some, if◌then◌else◌, unwrap_or, arith, lit<, lit≤}
 use Rattle.std.specs.Prelude.{codes}
-use Rattle.std.proofs.lemmas.Fmt.{length-decimal-le}
 use Rattle.std.specs.declared.result.Result.{Result}
 use Rattle.std.specs.declared.result.Result.TheVariants.{Ok, Err}
 use Rattle.aeg_base.specs.declared.names.ReqId.{ReqId}
-use Rattle.svc_api.specs.Plan.{Plan, Reads, Writes, Ends, IsBounded}
+use Rattle.svc_api.specs.Plan.{Reads, Writes, Ends, IsBounded}
 use Rattle.svc_api.specs.Requests.{IsRequest}
 use Rattle.svc_api.specs.Segment.{IsProper}
-use Rattle.server_model.specs.Booking as table
 use Rattle.server_model.specs.Booking.{cell, capped, narrow, booking_of, shown}
 use Rattle.server_model.specs.Requests.{request_of}
 use Rattle.server_model.specs.declared.request.Request.{Request}
 use Rattle.server_model.specs.declared.request.Request.TheVariants.{Open, Book, Cancel, Look}
-use Rattle.booking.specs.Refusals.{refusal_text}
 use Rattle.booking.specs.Places as place
-use Rattle.booking.specs.Places.{refused_or}
+use Rattle.booking.specs.Within.{narrow_below, capped_below, wide_length, widest_length, two_parts, one_part}
+use Rattle.booking.specs.Within.{status_length, refused_bounded, bounded_if, clears_bounded, releases_bounded}
 use Rattle.booking.specs.Ranges.{IsOpen, HasRequest, request_in_range}
 use Rattle.booking.specs.Beginning.{booking_beginning, beginning_in, begins_at, new_booking, view_course, recall_course}
 use Rattle.booking.specs.declared.course.NewTrip.{NewTrip}
@@ -25,8 +23,7 @@ use Rattle.booking.specs.declared.course.TripState.{TripState}
 use Rattle.booking.specs.declared.course.Return.{Return}
 use Rattle.booking.specs.declared.course.AfterReturn.{AfterReturn}
 use Rattle.booking.specs.declared.course.AfterReturn.TheVariants.{Release, Clear}
-use Rattle.booking.specs.declared.course.Closing.{Closing}
-use Rattle.booking.specs.declared.course.Closing.TheVariants.{NoStock, Declined, Cancelled}
+use Rattle.booking.specs.declared.course.Closing.TheVariants.{NoStock, Declined}
 use Rattle.booking.specs.declared.course.View.{View}
 use Rattle.booking.specs.declared.course.Recall.{Recall}
 use Rattle.booking.specs.declared.course.Asked.TheVariants.{Reserve, Charge}
@@ -36,114 +33,6 @@ use Rattle.booking.specs.declared.course.ClearPlace.TheVariants as clearing
 use Rattle.booking.specs.Course.{course_plan}
 use Rattle.booking.specs.declared.course.Course.{Course}
 use Rattle.booking.specs.declared.course.Course.TheVariants.{Opens, Books, Answers, Clears}
-
--- NUMBERS AND TEXTS
-
-narrow_below : (n : ℕ) → narrow n < 2 ^ 32
-narrow_below n = omega arith
-
-capped_below : (n : ℕ) → capped n < 2 ^ 64
-capped_below n = omega arith
-
-shown_length : (k n : ℕ) → 0 < k → n < 10 ^ k → n < 2 ^ 64 → length (shown n) ≤ k + 1
-shown_length k n p q r = omega (arith, length-decimal-le k n p q r)
-
-wide_length : (n : ℕ) → n < 2 ^ 32 → length (shown n) ≤ 11
-wide_length n h = shown_length 10 n (lit< tt) (omega arith) (omega arith)
-
-widest_length : (n : ℕ) → n < 2 ^ 64 → length (shown n) ≤ 21
-widest_length n h = shown_length 20 n (lit< tt) (omega arith) h
-
-two_parts : (w x y : List ℕ) (i j k : ℕ) → length w ≤ i → length x ≤ j → length y ≤ k → i + (j + k) ≤ 48 → length (w ++ (x ++ y)) ≤ 48
-two_parts w x y i j k p q r h = omega (arith, length-append w (x ++ y), length-append x y)
-
-one_part : (w x : List ℕ) (i j : ℕ) → length w ≤ i → length x ≤ j → i + j ≤ 48 → length (w ++ x) ≤ 48
-one_part w x i j p q h = omega (arith, length-append w x)
-
-status_length : (booking status trip qty : ℕ) → booking ≤ 1048576 → length (table.status_text booking status trip qty) ≤ 48
-status_length booking status trip qty h =
-    let b : length (shown booking) ≤ 8 = shown_length 7 booking (lit< tt) (omega arith) (omega arith) in
-    let s : length (shown (narrow status)) ≤ 11 = wide_length (narrow status) (narrow_below status) in
-    let t : length (shown (narrow trip)) ≤ 11 = wide_length (narrow trip) (narrow_below trip) in
-    let q : length (shown (narrow qty)) ≤ 11 = wide_length (narrow qty) (narrow_below qty) in
-    omega (
-      arith,
-      length-append (codes "status")
-          (shown booking ++ (shown (narrow status) ++ (shown (narrow trip) ++ shown (narrow qty)))),
-      length-append (shown booking) (shown (narrow status) ++ (shown (narrow trip) ++ shown (narrow qty))),
-      length-append (shown (narrow status)) (shown (narrow trip) ++ shown (narrow qty)),
-      length-append (shown (narrow trip)) (shown (narrow qty)),
-    )
-
-short_if : (b : Bool) (x y : List ℕ) → length x ≤ 48 → length y ≤ 48 → length (if b then x else y) ≤ 48
-short_if true x y p q = p
-short_if false x y p q = q
-
-refusal_length : (row : ℕ) → length (refusal_text row) ≤ 48
-refusal_length row =
-    short_if (row == 1) _ _ (lit≤ tt) (short_if (row == 2) _ _ (lit≤ tt) (short_if (row == 3) _ _ (lit≤ tt) (short_if (row == 4) _ _ (lit≤ tt)
-    (short_if (row == 5) _ _ (lit≤ tt) (short_if (row == 6) _ _ (lit≤ tt) (short_if (row == 7) _ _ (lit≤ tt) (short_if (row == 8) _ _ (lit≤ tt)
-    (short_if (row == 9) _ _ (lit≤ tt) (short_if (row == 10) _ _ (lit≤ tt) (lit≤ tt))))))))))
-
--- PARTS OF PLANS
-
-refused_bounded : (o : Option ℕ) (actions puts : ℕ) (rest : Plan) → 0 < actions → IsBounded actions puts rest → IsBounded actions puts (refused_or o rest)
-refused_bounded None actions puts rest h k = k
-refused_bounded (Some row) actions puts rest h k = (h, refusal_length row)
-
-bounded_if : (b : Bool) (actions puts : ℕ) (p q : Plan) → IsBounded actions puts p → IsBounded actions puts q → IsBounded actions puts (if b then p else q)
-bounded_if true actions puts p q h k = h
-bounded_if false actions puts p q h k = k
-
-closing_length : (booking : ℕ) (closing : Closing) → booking < 2 ^ 32 → length (place.closing_text booking closing) ≤ 48
-closing_length booking NoStock h = lit≤ tt
-closing_length booking Declined h = lit≤ tt
-closing_length booking Cancelled h = one_part (codes "cancelled") (shown booking) 9 11 (lit≤ tt) (wide_length booking h) (lit≤ tt)
-
-clears_bounded : (booking : ℕ) (closing : Closing) (actions puts : ℕ) → booking < 2 ^ 32 → 3 < actions → 2 < puts
-    → IsBounded actions puts (place.clears booking closing)
-clears_bounded booking closing actions puts h a p = (
-  omega arith,
-  (
-    omega arith,
-    (
-      (lit< tt, h),
-      (
-        lit< tt,
-        (
-          omega arith,
-          (
-            omega arith,
-            (
-              (lit< tt, h),
-              (
-                lit< tt,
-                (
-                  omega arith,
-                  (
-                    omega arith,
-                    (
-                      (lit< tt, h),
-                      (
-                        lit< tt,
-                        (omega arith, closing_length booking closing h),
-                      ),
-                    ),
-                  ),
-                ),
-              ),
-            ),
-          ),
-        ),
-      ),
-    ),
-  ),
-)
-
-releases_bounded : (trip qty stage actions puts : ℕ) → trip < 2 ^ 32 → qty < 2 ^ 32 → 1 ≤ stage → stage ≤ 3
-    → 0 < actions → IsBounded actions puts (place.releases trip qty stage)
-releases_bounded trip qty stage actions puts t q low high a =
-    (a, (tt, (low, (high, two_parts (codes "release") (shown trip) (shown qty) 7 11 11 (lit≤ tt) (wide_length trip t) (wide_length qty q) (lit≤ tt)))))
 
 -- the numbers of what is given back name keys, and stand in texts
 abbrev IsReturn : Return → AfterReturn → Type 0
