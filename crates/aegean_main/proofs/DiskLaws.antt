@@ -29,7 +29,7 @@ use Rattle.world.specs.Disks.{AreDisks, is_fault, is_faulty, place_of, place_in,
 use Rattle.aegean_main.specs.DiskFaults.{is_place, fails_at, faults_at, CountsFaults, NoneRose}
 use Rattle.aegean_main.specs.Playing.{DisksStand}
 use Rattle.aegean_main.specs.Replay.{tiers}
-use Rattle.world.proofs.Counted.{same_read}
+use Rattle.world.proofs.Power.CountsOfFaults.{same_read}
 
 -- PLACES
 

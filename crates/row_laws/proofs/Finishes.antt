@@ -24,7 +24,7 @@ use Rattle.round_model.specs.Service.{Programs, row_of, segment, serial_end, Fin
 use Rattle.round_model.specs.Settling.{fit, fits, finish_of}
 use Rattle.round_model.specs.Tables.{Tables, Want, Codes, job_of}
 use Rattle.tier_laws.specs.Said.{IsStore, IsJob}
-use Rattle.tier_laws.proofs.Stable.{then_parts}
+use Rattle.tier_laws.proofs.Rounds.StableRounds.{then_parts}
 use Rattle.tier_laws.proofs.Services.Stores.{bounded, one_store_in}
 use Rattle.tier_laws.proofs.Services.Tokens.{serial_end_in, store_is_in, token_read}
 use Rattle.row_laws.specs.Services.{IsServiceIn}

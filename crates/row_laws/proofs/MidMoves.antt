@@ -40,7 +40,7 @@ use Rattle.round_model.specs.Service.{Programs, Service, is_request}
 use Rattle.round_model.specs.Tables.{Tables, Want, wants, last_of, kept_of, pending_of, if_fresh, is_fresh, fresh_pending, batch_of}
 use Rattle.round_model.specs.Verdicts.{Claims, Vote, claim_of, claims_in, how_many, is_backed, lowest_backed, verdict_by, verdict}
 use Rattle.round_model.specs.Held.{HeldState, held_code, is_noted, takes, hears}
-use Rattle.tier_laws.proofs.Ledger.{half-is}
+use Rattle.tier_laws.proofs.Server.GrowingHistory.{half-is}
 use Rattle.tier_model.specs.Moves.{as_fact, tier_of, is_client, is_node_of, Packet, Move, idles, drops, says, becomes, log_packets, log_packet}
 use Rattle.tier_model.specs.Mid.{Mid, Ready, with_log, ready, apply, apply_state, apply_sends, tells, is_due, due_round, in_log, applies, reply_to}
 use Rattle.tier_model.specs.MidRows.{has_seq, pends, tells_again, on_request, is_in, tallied, on_token, holds, takes_answer, on_answer, on_have}

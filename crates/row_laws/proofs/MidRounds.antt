@@ -28,10 +28,10 @@ use Rattle.round_model.specs.Tables.{Want, wants, settled, job_of}
 use Rattle.round_model.specs.After.{batch_in, verdict_in, batch_at, verdict_at}
 use Rattle.round_model.specs.Held.{held_code, usable}
 use Rattle.tier_laws.specs.Said.{IsStore, IsJob}
-use Rattle.tier_laws.proofs.Stable.{then_parts, batch_in-some, verdict_in-some}
+use Rattle.tier_laws.proofs.Rounds.StableRounds.{then_parts, batch_in-some, verdict_in-some}
 use Rattle.tier_laws.proofs.Services.Serial.{run-order, run-store, run-ends}
 use Rattle.tier_laws.proofs.Services.Tokens.{outcome_fits}
-use Rattle.tier_laws.proofs.Lists.{length-tabulate}
+use Rattle.tier_laws.proofs.Lists.ItemsByIndex.{length-tabulate}
 use Rattle.tier_model.specs.Mid.{Mid, Ready, ready, apply}
 use Rattle.tier_model.specs.MidRows.{Running, running, to_run}
 use Rattle.row_laws.specs.Services.{IsServiceIn}

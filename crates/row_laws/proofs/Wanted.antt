@@ -16,8 +16,8 @@ use Rattle.pipeline.specs.Jobs.{AreFresh}
 use Rattle.pipeline.proofs.Entered.{fresh_ones}
 use Rattle.pipeline.proofs.Wants.{IsAsking, concat-head, few_wants, wants_ask}
 use Rattle.tier_laws.specs.Said.{IsJob}
-use Rattle.tier_laws.proofs.Stable.{then_parts}
-use Rattle.tier_laws.proofs.Wants.{fresh-at, is_fresh_parts}
+use Rattle.tier_laws.proofs.Rounds.StableRounds.{then_parts}
+use Rattle.tier_laws.proofs.Rounds.WantsDiffer.{fresh-at, is_fresh_parts}
 use Rattle.row_laws.specs.Mids.{IsParkedIn, AreTablesIn, rounds_in}
 use Rattle.row_laws.proofs.Lists.{every_left, every_right, every_all, every_from}
 

@@ -12,10 +12,10 @@ use Rattle.round_model.specs.Service.{Finish, Service, finish, is_order}
 use Rattle.round_model.specs.Tables.{last_of, kept_of, Parked, Tables, settled}
 use Rattle.run_model.specs.Histories.{back_run}
 use Rattle.server_model.specs.History.{History as History_}
-use Rattle.tier_laws.proofs.Acts.{Act, acts}
-use Rattle.tier_laws.proofs.Mirrors.{Mirrors}
-use Rattle.tier_laws.proofs.Rounds.{ToldOne}
-use Rattle.tier_laws.proofs.Maps.{Legal, Server, server}
+use Rattle.tier_laws.proofs.Rounds.ActsByIndex.{Act, acts}
+use Rattle.tier_laws.proofs.Server.MirroredTables.{Mirrors}
+use Rattle.tier_laws.proofs.Rounds.AnyOrder.{ToldOne}
+use Rattle.tier_laws.proofs.Server.LookUps.{Legal, Server, server}
 
 pub record TablesOk {B : Type 0} (O : Server B) (T : Tables) : Type 0 where
   pub kept : (c : ℕ) (text : List ℕ) → kept_of T.kept c ≡ Some text → O.replies c (last_of T.last c) ≡ Some text

@@ -11,8 +11,8 @@ use Rattle.round_model.specs.Tables.{pending_of}
 use Rattle.round_model.specs.declared.claim.Claim.{Claim}
 use Rattle.round_model.specs.Verdicts.{Vote, claim_of, claims_in}
 use Rattle.run_model.specs.World.{Config}
-use Rattle.tier_laws.proofs.Codes.{code_of}
-use Rattle.tier_laws.proofs.Ledger.{TablesOk}
+use Rattle.tier_laws.proofs.MidNodes.CodesOfFacts.{code_of}
+use Rattle.tier_laws.proofs.Server.GrowingHistory.{TablesOk}
 use Rattle.tier_laws.proofs.Invariant.Past.{Past, holds}
 use Rattle.tier_laws.proofs.Invariant.VerdictsHaveCauses.{DidRun}
 use Rattle.tier_laws.proofs.Invariant.ValuesAreGood.{Submitted}

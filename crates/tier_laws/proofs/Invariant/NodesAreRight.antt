@@ -16,7 +16,7 @@ use Rattle.log_model.specs.declared.fact.Fact.{Fact as LogFact}
 use Rattle.log_values.specs.declared.any_value.AnyValue.{AnyValue}
 use Rattle.log_values.specs.declared.fact.Fact.{Fact}
 use Rattle.run_model.specs.World.{Config}
-use Rattle.tier_laws.proofs.Codes.{Code, codes_in}
+use Rattle.tier_laws.proofs.MidNodes.CodesOfFacts.{Code, codes_in}
 use Rattle.tier_laws.proofs.Invariant.BackendNodes.{BackOther, Tied}
 use Rattle.tier_laws.proofs.Invariant.MiddleNodes.{MidOther}
 use Rattle.tier_laws.proofs.Invariant.Past.{Past}

@@ -5,12 +5,12 @@ use Rattle.aeg_base.specs.declared.names.Tier.{Tier}
 use Rattle.aeg_base.specs.declared.names.Tier.TheVariants.{Mid as MidTier}
 use Rattle.log_values.specs.declared.any_value.AnyValue.{AnyValue}
 use Rattle.log_values.specs.declared.entry.Entry.{Entry}
-use Rattle.tier_laws.proofs.Codes.{Code, code_of}
+use Rattle.tier_laws.proofs.MidNodes.CodesOfFacts.{Code, code_of}
 use Rattle.round_model.specs.Lists.{is_some}
 use Rattle.round_model.specs.Verdicts.{Vote}
-use Rattle.tier_laws.proofs.Rounds.{Kept}
-use Rattle.tier_laws.proofs.Stable.{MoreLog}
-use Rattle.tier_laws.proofs.Maps.{Server}
+use Rattle.tier_laws.proofs.Rounds.AnyOrder.{Kept}
+use Rattle.tier_laws.proofs.Rounds.StableRounds.{MoreLog}
+use Rattle.tier_laws.proofs.Server.LookUps.{Server}
 
 pub record Past (B : Type 0) : Type 0 where
   -- the Held facts that each node ever wrote, the oldest first

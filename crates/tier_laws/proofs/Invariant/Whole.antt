@@ -13,10 +13,10 @@ use Rattle.run_model.specs.World.{Config, World}
 use Rattle.run_model.specs.Runs.{log_soup}
 use Rattle.server_model.specs.declared.history.Hist.TheVariants.{Start}
 use Rattle.tier_laws.specs.Said.{Laws, is_gone}
-use Rattle.tier_laws.proofs.Codes.{Code}
-use Rattle.tier_laws.proofs.Ledger.{Ledger}
-use Rattle.tier_laws.proofs.Logs.{Complete, LogPart, Nearly}
-use Rattle.tier_laws.proofs.Maps.{server}
+use Rattle.tier_laws.proofs.MidNodes.CodesOfFacts.{Code}
+use Rattle.tier_laws.proofs.Server.GrowingHistory.{Ledger}
+use Rattle.tier_laws.proofs.Events.OneTiersLog.{Complete, LogPart, Nearly}
+use Rattle.tier_laws.proofs.Server.LookUps.{server}
 use Rattle.tier_laws.proofs.Invariant.NodesAreRight.{NodeOk}
 use Rattle.tier_laws.proofs.Invariant.PacketsAreTrue.{SentOk}
 use Rattle.tier_laws.proofs.Invariant.Past.{Past}

@@ -30,7 +30,7 @@ use Rattle.svc_api.proofs.Pigeons.{has, IsOnce, Tells, no_longer}
 use Rattle.svc_api.proofs.Orders.{order_short}
 use Rattle.tier_laws.proofs.Services.Serial.{Agrees, segment_is, serial_is}
 use Rattle.tier_laws.proofs.Services.Stores.{AreBounded, bounded, one_store_in, one_end_in, serial_in, all_wrote, few_keys, kept_value}
-use Rattle.tier_laws.proofs.Lists.{length-tabulate}
+use Rattle.tier_laws.proofs.Lists.ItemsByIndex.{length-tabulate}
 
 -- THEY ARE KEYS OF STORES, WHOSE VALUES DIFFER
 

@@ -1,7 +1,7 @@
 use Rattle.run_model.specs.Runs.{world}
 use Rattle.tier_laws.specs.Services.{booking_run}
-use Rattle.tier_laws.proofs.Few.{booking_inv}
-use Rattle.tier_laws.proofs.Told.{chosen_here, sound_here, learned, learn_told, disk_learned}
+use Rattle.tier_laws.proofs.Lists.FewNodes.{booking_inv}
+use Rattle.tier_laws.proofs.Said.FromInvariant.{chosen_here, sound_here, learned, learn_told, disk_learned}
 use Rattle.tier_laws.proofs.booking_laws.booking_agreement.Goals as goal
 
 pub returns-clause-chosen : goal.returns-clause-chosen

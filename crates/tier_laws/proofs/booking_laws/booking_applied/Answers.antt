@@ -4,8 +4,8 @@ use Rattle.run_model.specs.Runs.{world}
 use Rattle.run_model.specs.declared.trace.TraceEvent.{TraceEvent}
 use Rattle.tier_laws.specs.Said.{HasApplied}
 use Rattle.tier_laws.specs.Services.{Setup, booking_run}
-use Rattle.tier_laws.proofs.Few.{booking_inv}
-use Rattle.tier_laws.proofs.Told.{applied}
+use Rattle.tier_laws.proofs.Lists.FewNodes.{booking_inv}
+use Rattle.tier_laws.proofs.Said.FromInvariant.{applied}
 use Rattle.tier_laws.proofs.booking_laws.booking_applied.Goals as goal
 
 applied_in : (a : Setup) (es : List TraceEvent) (t : Tier) (x : ℕ) → a.u ≤ 2 → x < 2 * a.u + 1

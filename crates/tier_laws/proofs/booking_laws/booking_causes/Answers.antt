@@ -1,7 +1,7 @@
 use Rattle.run_model.specs.Runs.{world}
 use Rattle.tier_laws.specs.Services.{booking_run}
-use Rattle.tier_laws.proofs.Few.{booking_inv}
-use Rattle.tier_laws.proofs.Told.{caused, is_run}
+use Rattle.tier_laws.proofs.Lists.FewNodes.{booking_inv}
+use Rattle.tier_laws.proofs.Said.FromInvariant.{caused, is_run}
 use Rattle.tier_laws.proofs.booking_laws.booking_causes.Goals as goal
 
 pub returns-clause-causes : goal.returns-clause-causes

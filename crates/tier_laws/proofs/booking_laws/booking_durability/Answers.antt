@@ -1,9 +1,9 @@
 use Rattle.run_model.specs.Runs.{world}
 use Rattle.tier_laws.specs.Services.{booking_run}
-use Rattle.tier_laws.proofs.Few.{booking_inv, few}
+use Rattle.tier_laws.proofs.Lists.FewNodes.{booking_inv, few}
 use Rattle.tier_laws.proofs.Services.{booking_laws}
-use Rattle.tier_laws.proofs.Told.{used_durable, floor_durable, settled_durable}
-use Rattle.tier_laws.proofs.Before.{used_before}
+use Rattle.tier_laws.proofs.Said.FromInvariant.{used_durable, floor_durable, settled_durable}
+use Rattle.tier_laws.proofs.Rounds.CausesBefore.{used_before}
 use Rattle.tier_laws.proofs.booking_laws.booking_durability.Goals as goal
 
 pub returns-clause-used : goal.returns-clause-used

@@ -3,8 +3,8 @@ use Rattle.round_model.specs.Tables.{who_of}
 use Rattle.tier_model.specs.Moves.{tier_of}
 use Rattle.run_model.specs.Runs.{world}
 use Rattle.tier_laws.specs.Services.{booking_run}
-use Rattle.tier_laws.proofs.Few.{booking_inv}
-use Rattle.tier_laws.proofs.Told.{legal, sent, reply_sent, has_reply, has_call, has_answer}
+use Rattle.tier_laws.proofs.Lists.FewNodes.{booking_inv}
+use Rattle.tier_laws.proofs.Said.FromInvariant.{legal, sent, reply_sent, has_reply, has_call, has_answer}
 use Rattle.tier_laws.proofs.booking_laws.booking_headline.Goals as goal
 
 pub returns-clause-legal : goal.returns-clause-legal

@@ -1,7 +1,7 @@
 use Rattle.tier_laws.specs.Services.{booking_run}
-use Rattle.tier_laws.proofs.Few.{few}
+use Rattle.tier_laws.proofs.Lists.FewNodes.{few}
 use Rattle.tier_laws.proofs.Services.{booking_laws}
-use Rattle.tier_laws.proofs.Prefixes.{round_holders, floor_holders, settled_holders}
+use Rattle.tier_laws.proofs.Events.Prefixes.{round_holders, floor_holders, settled_holders}
 use Rattle.tier_laws.proofs.booking_laws.booking_holders.Goals as goal
 
 pub returns-clause-used : goal.returns-clause-used

@@ -1,6 +1,6 @@
 use Rattle.run_model.specs.Runs.{world}
-use Rattle.tier_laws.proofs.Few.{inv}
-use Rattle.tier_laws.proofs.Told.{chosen_here, sound_here, learned, learn_told, disk_learned}
+use Rattle.tier_laws.proofs.Lists.FewNodes.{inv}
+use Rattle.tier_laws.proofs.Said.FromInvariant.{chosen_here, sound_here, learned, learn_told, disk_learned}
 use Rattle.tier_laws.proofs.laws.agreement.Goals as goal
 
 pub returns-clause-chosen : goal.returns-clause-chosen

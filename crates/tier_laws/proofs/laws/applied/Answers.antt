@@ -4,8 +4,8 @@ use Rattle.run_model.specs.Runs.{world}
 use Rattle.run_model.specs.World.{Config}
 use Rattle.run_model.specs.declared.trace.TraceEvent.{TraceEvent}
 use Rattle.tier_laws.specs.Said.{Laws, HasApplied}
-use Rattle.tier_laws.proofs.Few.{inv}
-use Rattle.tier_laws.proofs.Told.{applied}
+use Rattle.tier_laws.proofs.Lists.FewNodes.{inv}
+use Rattle.tier_laws.proofs.Said.FromInvariant.{applied}
 use Rattle.tier_laws.proofs.laws.applied.Goals as goal
 
 applied_in : {B : Type 0} (c : Config B) (es : List TraceEvent) (t : Tier) (x : ℕ) → c.u ≤ 2 → Laws c.service.programs

@@ -1,6 +1,6 @@
 use Rattle.run_model.specs.Runs.{world}
-use Rattle.tier_laws.proofs.Few.{inv}
-use Rattle.tier_laws.proofs.Told.{caused, is_run}
+use Rattle.tier_laws.proofs.Lists.FewNodes.{inv}
+use Rattle.tier_laws.proofs.Said.FromInvariant.{caused, is_run}
 use Rattle.tier_laws.proofs.laws.causes.Goals as goal
 
 pub returns-clause-causes : goal.returns-clause-causes

@@ -1,7 +1,7 @@
 use Rattle.run_model.specs.Runs.{world}
-use Rattle.tier_laws.proofs.Few.{few, inv}
-use Rattle.tier_laws.proofs.Told.{used_durable, floor_durable, settled_durable}
-use Rattle.tier_laws.proofs.Before.{used_before}
+use Rattle.tier_laws.proofs.Lists.FewNodes.{few, inv}
+use Rattle.tier_laws.proofs.Said.FromInvariant.{used_durable, floor_durable, settled_durable}
+use Rattle.tier_laws.proofs.Rounds.CausesBefore.{used_before}
 use Rattle.tier_laws.proofs.laws.durability.Goals as goal
 
 pub returns-clause-used : goal.returns-clause-used

@@ -1,4 +1,4 @@
-use Rattle.tier_laws.proofs.Later.{goes_on, log_goes_on}
+use Rattle.tier_laws.proofs.Said.LaterStarts.{goes_on, log_goes_on}
 use Rattle.tier_laws.proofs.laws.growth.Goals as goal
 
 pub returns-clause-logs : goal.returns-clause-logs

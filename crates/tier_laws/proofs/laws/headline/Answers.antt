@@ -2,8 +2,8 @@ use Rattle.frames.specs.declared.message.Msg.TheVariants as messages
 use Rattle.round_model.specs.Tables.{who_of}
 use Rattle.tier_model.specs.Moves.{tier_of}
 use Rattle.run_model.specs.Runs.{world}
-use Rattle.tier_laws.proofs.Few.{inv}
-use Rattle.tier_laws.proofs.Told.{legal, sent, reply_sent, has_reply, has_call, has_answer}
+use Rattle.tier_laws.proofs.Lists.FewNodes.{inv}
+use Rattle.tier_laws.proofs.Said.FromInvariant.{legal, sent, reply_sent, has_reply, has_call, has_answer}
 use Rattle.tier_laws.proofs.laws.headline.Goals as goal
 
 pub returns-clause-legal : goal.returns-clause-legal

@@ -1,5 +1,5 @@
-use Rattle.tier_laws.proofs.Few.{few}
-use Rattle.tier_laws.proofs.Prefixes.{round_holders, floor_holders, settled_holders}
+use Rattle.tier_laws.proofs.Lists.FewNodes.{few}
+use Rattle.tier_laws.proofs.Events.Prefixes.{round_holders, floor_holders, settled_holders}
 use Rattle.tier_laws.proofs.laws.holders.Goals as goal
 
 pub returns-clause-used : goal.returns-clause-used

@@ -1,6 +1,6 @@
-use Rattle.tier_laws.proofs.Few.{few}
-use Rattle.tier_laws.proofs.Later.{starts_later}
-use Rattle.tier_laws.proofs.Replied.{replied_before, finished_before}
+use Rattle.tier_laws.proofs.Lists.FewNodes.{few}
+use Rattle.tier_laws.proofs.Said.LaterStarts.{starts_later}
+use Rattle.tier_laws.proofs.Said.RepliesLast.{replied_before, finished_before}
 use Rattle.tier_laws.proofs.laws.real_order.Goals as goal
 
 pub returns-clause-starts : goal.returns-clause-starts

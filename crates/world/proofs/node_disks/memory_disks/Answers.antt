@@ -1,6 +1,6 @@
 use Rattle.std.proofs.Common.{◌≡◌, ◌∷◌, ◌++◌, [], length, length-append, ap, sym, subst, List, arith}
 use Rattle.aeg_disk.specs.declared.memory.MemDisk.{MemDisk}
-use Rattle.world.proofs.BlankDisks.{AllBlank, blank_more, are_blank}
+use Rattle.world.proofs.Power.BlankDisks.{AllBlank, blank_more, are_blank}
 use Rattle.world.proofs.node_disks.memory_disks.Goals as goal
 
 pub disks-preserved : goal.disks-preserved

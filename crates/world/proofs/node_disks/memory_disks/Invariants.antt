@@ -1,5 +1,5 @@
 use Rattle.std.proofs.Common.{◌-◌, ◌≤◌, length}
-use Rattle.world.proofs.BlankDisks.{AllBlank}
+use Rattle.world.proofs.Power.BlankDisks.{AllBlank}
 use Rattle.world.proofs.node_disks.memory_disks.Given as goal
 
 abbrev pub invariant-disks : goal.invariant-disks

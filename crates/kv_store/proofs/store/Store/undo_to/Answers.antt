@@ -22,10 +22,12 @@ entries-preserved c =
 
 pub returns-clause-map : goal.returns-clause-map
 returns-clause-map c =
-    let n : length c.entries.list.entries ≡ c.args.kept = (let more = c.entries.invariant.kept in let none = c.entries-test.false in let is = c.len.ensures in omega arith) in
+    let n : length c.entries.list.entries ≡ c.args.kept =
+    (let more = c.entries.invariant.kept in let none = c.entries-test.false in let is = c.len.ensures in omega arith) in
     c.entries.invariant.map ∙ ap (λ m. unwound (drop m c.args.list.now.entries) c.args.self.now.map) n
 
 pub returns-clause-entries : goal.returns-clause-entries
 returns-clause-entries c =
-    let n : length c.entries.list.entries ≡ c.args.kept = (let more = c.entries.invariant.kept in let none = c.entries-test.false in let is = c.len.ensures in omega arith) in
+    let n : length c.entries.list.entries ≡ c.args.kept =
+    (let more = c.entries.invariant.kept in let none = c.entries-test.false in let is = c.len.ensures in omega arith) in
     c.entries.invariant.front ∙ ap (λ m. take m c.args.list.now.entries) n

@@ -1,6 +1,6 @@
 use Rattle.std.proofs.Common.{◌∙◌, ◌∷◌, ◌++◌, [], ap, sym}
 use Rattle.tier_model.specs.Moves.{log_facts}
-use Rattle.world.proofs.Writing.{log_facts_then}
+use Rattle.world.proofs.Turns.JournalsGrow.{log_facts_then}
 use Rattle.world.proofs.nodes.restoring.log_facts.Goals as goal
 
 pub loop-fact-preserved : goal.loop-fact-preserved

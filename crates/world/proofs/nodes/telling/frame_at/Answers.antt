@@ -2,7 +2,7 @@ use Rattle.std.proofs.Common.{◌<◌, ◌-◌, length, arith, sym}
 use Rattle.std.specs.Prelude.{slice_index_or}
 use Rattle.std.proofs.lemmas.Bool.{OnTrue_at}
 use Rattle.std.proofs.lemmas.Option.{slice_get-get_or}
-use Rattle.world.proofs.Again.{written, copied}
+use Rattle.world.proofs.Turns.RepeatedFrames.{written, copied}
 use Rattle.world.proofs.nodes.telling.frame_at.Goals as goal
 
 pub returns-in-Some : goal.returns-in-Some

@@ -1,7 +1,7 @@
 use Rattle.std.proofs.Common.{◌∙◌}
 use Rattle.std.specs.Prelude.{slice_index_or}
 use Rattle.std.proofs.lemmas.Option.{slice_get-get_or}
-use Rattle.world.proofs.Again.{sends_more}
+use Rattle.world.proofs.Turns.RepeatedFrames.{sends_more}
 use Rattle.world.proofs.nodes.telling.send_all.Goals as goal
 
 pub frame_at-requires-clause-before : goal.frame_at-requires-clause-before

@@ -13,8 +13,9 @@ use Rattle.run_model.specs.BookingRuns.{config}
 use Rattle.world.specs.Parts.{sealed}
 use Rattle.world.specs.Watching.{hears_packets, all_grown}
 use Rattle.world.specs.declared.parts.Parts.{Parts}
-use Rattle.world.proofs.Asking.{CanAsk, pending_none, pending_some, ask_fits, again_leads, client_is, asked_once, asked, again_disks, nothing_leads}
-use Rattle.world.proofs.Room.{requests_fit}
+use Rattle.world.proofs.Events.RequestsOfClients.{CanAsk, pending_none, pending_some, ask_fits, again_leads, client_is}
+use Rattle.world.proofs.Events.RequestsOfClients.{asked_once, asked, again_disks, nothing_leads}
+use Rattle.world.proofs.Turns.PacketsHaveRoom.{requests_fit}
 use Rattle.world.proofs.parts.Parts.ask_again.Goals as goal
 
 pub returns-in_default : goal.returns-in_default
@@ -73,7 +74,11 @@ returns c =
     let once = asked_once c.args.client (w.clients c.args.client) c.in-Some.body.now i.asks some in
     let number : c.in-Some.seq ≡ (w.clients c.args.client).last = h.1 ∙ ap (λ (v : ClientState). v.end.last) i.is in
     let last : (w.clients c.args.client).last ≡ 1 = once.0 in
-    let can : CanAsk c.args.client (w.clients c.args.client).last c.in-Some.body.now = record { client = c.requires.client; seq_in = (omega (arith, last), omega (arith, last)); request = rw last once.1 } in
+    let can : CanAsk c.args.client (w.clients c.args.client).last c.in-Some.body.now = record {
+      client = c.requires.client;
+      seq_in = (omega (arith, last), omega (arith, last));
+      request = rw last once.1;
+    } in
     let out : c.add_requests.new.out ≡ map sealed (requests u c.args.client (w.clients c.args.client).last c.in-Some.body.now) =
     c.in_ok-add_requests.ensures
     ∙ ap (λ z. z ++ map sealed (requests c.args.self.now.u c.args.client c.in-Some.seq c.in-Some.body.now))

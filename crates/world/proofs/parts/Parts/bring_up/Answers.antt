@@ -2,9 +2,9 @@ use Rattle.std.proofs.Common.{◌+◌, ◌*◌, ◌<◌, ◌∙◌, ap, subst, s
 use Rattle.std.specs.Prelude.{map}
 use Rattle.world.specs.Calling.{parts_after}
 use Rattle.world.specs.Disks.{place_of}
-use Rattle.world.proofs.Calling.{disk_read, disks_left}
-use Rattle.world.proofs.Restarting.{may_read, keep_tiers, is_down_there, restart_by}
-use Rattle.world.proofs.Rising.{rising, same_soup}
+use Rattle.world.proofs.Calls.ArmedDisks.{disk_read, disks_left}
+use Rattle.world.proofs.Power.Restarts.{may_read, keep_tiers, is_down_there, restart_by}
+use Rattle.world.proofs.Power.RestartEvents.{rising, same_soup}
 use Rattle.world.proofs.parts.Parts.bring_up.Goals as goal
 
 pub restart-answer-requires-clause-down : goal.restart-answer-requires-clause-down

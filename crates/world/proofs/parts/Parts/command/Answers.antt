@@ -6,13 +6,13 @@ use Rattle.world.specs.Commands.{row_of, event_of}
 use Rattle.world.specs.Disks.{place_of}
 use Rattle.world.specs.NodeLists.{up_at, condition_at}
 use Rattle.world.specs.Telling.{told_command}
-use Rattle.world.proofs.Moving.{asked_can, asked_no_fault}
-use Rattle.world.proofs.AtCommands.{command_by, command_rests}
-use Rattle.world.proofs.Calling.{disk_read, disks_left, may_write_at}
-use Rattle.world.proofs.CommandEvents.{faulty_by, finds_by, place_by, happens_by}
-use Rattle.world.proofs.Playing.{plays_by, plays_idle}
-use Rattle.world.proofs.Room.{nodes_fit}
-use Rattle.world.proofs.Present.{has_shown}
+use Rattle.world.proofs.Calls.InWorlds.{asked_can, asked_no_fault}
+use Rattle.world.proofs.Calls.CommandsOfTiers.{command_by, command_rests}
+use Rattle.world.proofs.Calls.ArmedDisks.{disk_read, disks_left, may_write_at}
+use Rattle.world.proofs.Calls.EventsOfCommands.{faulty_by, finds_by, place_by, happens_by}
+use Rattle.world.proofs.Events.WholeEvents.{plays_by, plays_idle}
+use Rattle.world.proofs.Turns.PacketsHaveRoom.{nodes_fit}
+use Rattle.world.proofs.Calls.NodesThere.{has_shown}
 use Rattle.world.proofs.parts.Parts.command.Goals as goal
 
 pub is_up-requires : goal.is_up-requires

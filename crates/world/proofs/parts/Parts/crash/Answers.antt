@@ -3,10 +3,10 @@ use Rattle.std.proofs.lemmas.Result.{on_ok_weaker}
 use Rattle.run_model.specs.declared.trace.TraceEvent.TheVariants as events
 use Rattle.world.specs.Calling.{absent_text, parts_after}
 use Rattle.world.specs.NodeLists.{up_at, condition_at}
-use Rattle.world.proofs.Crashing.{crash_by, crash_rests}
-use Rattle.world.proofs.Counted.{falls_none}
-use Rattle.world.proofs.Playing.{made, on_ok_three}
-use Rattle.world.proofs.Present.{has_shown}
+use Rattle.world.proofs.Power.Crashes.{crash_by, crash_rests}
+use Rattle.world.proofs.Power.CountsOfFaults.{falls_none}
+use Rattle.world.proofs.Events.WholeEvents.{made, on_ok_three}
+use Rattle.world.proofs.Calls.NodesThere.{has_shown}
 use Rattle.world.proofs.parts.Parts.crash.Goals as goal
 
 pub is_up-requires : goal.is_up-requires

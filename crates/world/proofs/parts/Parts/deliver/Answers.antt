@@ -12,11 +12,11 @@ use Rattle.world.specs.NodeLists.{up_at}
 use Rattle.world.specs.Packets.{receiver_in}
 use Rattle.world.specs.Parts.{CanReach}
 use Rattle.world.specs.Telling.{told_frame}
-use Rattle.world.proofs.Moving.{asked_can, asked_no_fault}
-use Rattle.world.proofs.Calling.{disk_read, disks_left, may_write_at}
-use Rattle.world.proofs.Deliveries.{addressed, unsent, found_is, reaches_at, place_is, deliver_none, deliver_lost, deliver_done, has_receiver}
-use Rattle.world.proofs.Playing.{plays_by, plays_idle}
-use Rattle.world.proofs.Room.{nodes_fit}
+use Rattle.world.proofs.Calls.InWorlds.{asked_can, asked_no_fault}
+use Rattle.world.proofs.Calls.ArmedDisks.{disk_read, disks_left, may_write_at}
+use Rattle.world.proofs.Calls.DeliveredPackets.{addressed, unsent, found_is, reaches_at, place_is, deliver_none, deliver_lost, deliver_done, has_receiver}
+use Rattle.world.proofs.Events.WholeEvents.{plays_by, plays_idle}
+use Rattle.world.proofs.Turns.PacketsHaveRoom.{nodes_fit}
 use Rattle.world.proofs.parts.Parts.deliver.Goals as goal
 
 pub returns-in_default : goal.returns-in_default

@@ -1,8 +1,8 @@
 use Rattle.std.proofs.Common.{◌≡◌, ◌∙◌, ap, sym, Some}
 use Rattle.std.specs.Prelude.{slice_get}
 use Rattle.world.specs.Packets.{node_of, receiver_in}
-use Rattle.world.proofs.Deliveries.{addressed}
-use Rattle.world.proofs.Present.{has_node}
+use Rattle.world.proofs.Calls.DeliveredPackets.{addressed}
+use Rattle.world.proofs.Calls.NodesThere.{has_node}
 use Rattle.world.proofs.parts.Parts.is_taken.Goals as goal
 
 pub is_up-requires : goal.is_up-requires

@@ -1,5 +1,5 @@
 use Rattle.std.proofs.Common.{refl}
-use Rattle.world.proofs.Beginning.{begins}
+use Rattle.world.proofs.Events.BeforeTheFirst.{begins}
 use Rattle.world.proofs.parts.Parts.new.Goals as goal
 
 pub returns : goal.returns

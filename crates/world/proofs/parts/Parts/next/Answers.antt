@@ -1,7 +1,7 @@
 use Rattle.std.proofs.Common.{rules, ◌≡◌, ◌∙◌, sym, true, false, arith}
 use Rattle.std.specs.Prelude.{slice_get}
 use Rattle.world.specs.Packets.{is_taken_in}
-use Rattle.world.proofs.Flowing.{first_found, first_passed, first_none, next_is}
+use Rattle.world.proofs.Events.NextPacket.{first_found, first_passed, first_none, next_is}
 use Rattle.world.proofs.parts.Parts.next.Goals as goal
 
 pub returns-then-is_taken-clause-is : goal.returns-then-is_taken-clause-is

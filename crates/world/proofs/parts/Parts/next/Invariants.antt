@@ -1,5 +1,5 @@
 use Rattle.std.proofs.Common.{◌≡◌, drop}
-use Rattle.world.proofs.Flowing.{first_in}
+use Rattle.world.proofs.Events.NextPacket.{first_in}
 use Rattle.world.proofs.parts.Parts.next.Given as goal
 
 -- the first of those that are left is the first of all

@@ -4,11 +4,11 @@ use Rattle.run_model.specs.declared.trace.Found.TheVariants.{Reads}
 use Rattle.run_model.specs.declared.trace.TraceEvent.TheVariants as events
 use Rattle.run_model.specs.Text.{node_name, idle_line, gone_line}
 use Rattle.world.specs.Calling.{parts_after}
-use Rattle.world.proofs.Playing.{made}
-use Rattle.world.proofs.Counted.{falls_none}
-use Rattle.world.proofs.Rising.{zero_least, same_soup}
-use Rattle.world.proofs.Restarting.{restart_up, restart_gone}
-use Rattle.world.proofs.Present.{has_shown}
+use Rattle.world.proofs.Events.WholeEvents.{made}
+use Rattle.world.proofs.Power.CountsOfFaults.{falls_none}
+use Rattle.world.proofs.Power.RestartEvents.{zero_least, same_soup}
+use Rattle.world.proofs.Power.Restarts.{restart_up, restart_gone}
+use Rattle.world.proofs.Calls.NodesThere.{has_shown}
 use Rattle.world.proofs.parts.Parts.restart.Goals as goal
 
 pub condition-requires : goal.condition-requires

@@ -5,12 +5,12 @@ use Rattle.run_model.specs.declared.trace.TraceEvent.TheVariants as events
 use Rattle.world.specs.Calling.{absent_text}
 use Rattle.world.specs.NodeLists.{up_at, condition_at, MoveIn}
 use Rattle.world.specs.Telling.{told_command}
-use Rattle.world.proofs.AtCommands.{retry_by, retry_rests}
-use Rattle.world.proofs.Calling.{disk_of, a_disk}
-use Rattle.world.proofs.Counted.{falls_none}
-use Rattle.world.proofs.Playing.{made, on_ok_three}
-use Rattle.world.proofs.Room.{nodes_fit}
-use Rattle.world.proofs.Present.{has_shown}
+use Rattle.world.proofs.Calls.CommandsOfTiers.{retry_by, retry_rests}
+use Rattle.world.proofs.Calls.ArmedDisks.{disk_of, a_disk}
+use Rattle.world.proofs.Power.CountsOfFaults.{falls_none}
+use Rattle.world.proofs.Events.WholeEvents.{made, on_ok_three}
+use Rattle.world.proofs.Turns.PacketsHaveRoom.{nodes_fit}
+use Rattle.world.proofs.Calls.NodesThere.{has_shown}
 use Rattle.world.proofs.parts.Parts.retry.Goals as goal
 
 pub is_up-requires : goal.is_up-requires

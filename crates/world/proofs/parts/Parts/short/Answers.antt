@@ -7,8 +7,8 @@ use Rattle.run_model.specs.Text.{node_name, lost_line, drop_line}
 use Rattle.world.specs.Calling.{parts_after}
 use Rattle.world.specs.NodeLists.{up_at}
 use Rattle.world.specs.Packets.{receiver_in, is_cut_in}
-use Rattle.world.proofs.Deliveries.{addressed, short_plays, short_refused, short_lost, cut_goes, has_receiver}
-use Rattle.world.proofs.Playing.{plays_idle}
+use Rattle.world.proofs.Calls.DeliveredPackets.{addressed, short_plays, short_refused, short_lost, cut_goes, has_receiver}
+use Rattle.world.proofs.Events.WholeEvents.{plays_idle}
 use Rattle.world.proofs.parts.Parts.short.Goals as goal
 
 pub returns-then-not-is_cut : goal.returns-then-not-is_cut

@@ -12,9 +12,9 @@ use Rattle.world.specs.declared.parts.Parts.{Parts}
 use Rattle.world.specs.Parts.{sealed}
 use Rattle.world.specs.Watching.{hears_packets, all_grown}
 use Rattle.world.specs.Standing.{AreAll, IsClientEnd}
-use Rattle.world.proofs.Asking.{CanAsk, ask_fits, asked_is, submit_is, open_leads, busy_is, client_is, client_back}
-use Rattle.world.proofs.Asking.{client_opened, asked_nothing, asked, open_disks, nothing_leads}
-use Rattle.world.proofs.Room.{requests_fit}
+use Rattle.world.proofs.Events.RequestsOfClients.{CanAsk, ask_fits, asked_is, submit_is, open_leads, busy_is, client_is, client_back}
+use Rattle.world.proofs.Events.RequestsOfClients.{client_opened, asked_nothing, asked, open_disks, nothing_leads}
+use Rattle.world.proofs.Turns.PacketsHaveRoom.{requests_fit}
 use Rattle.world.proofs.parts.Parts.submit.Goals as goal
 
 pub returns-in_default : goal.returns-in_default
@@ -77,7 +77,11 @@ returns c =
     let none : (w.clients c.args.client).opened ≡ None = ap (λ (v : ClientState). v.end.opened) (sym i.is) ∙ h.0 in
     let first : (w.clients c.args.client).last ≡ 0 = asked_nothing c.args.client (w.clients c.args.client) i.asks none in
     let number : c.in-Some.seq ≡ suc (w.clients c.args.client).last = h.1.0 ∙ ap (λ (v : ClientState). suc v.end.last) i.is in
-    let can : CanAsk c.args.client (suc (w.clients c.args.client).last) c.args.body.now = record { client = c.requires.client; seq_in = (omega (arith, first), omega (arith, first)); request = asked_is c.args.client (suc (w.clients c.args.client).last) c.args.body.now c.requires.asked } in
+    let can : CanAsk c.args.client (suc (w.clients c.args.client).last) c.args.body.now = record {
+      client = c.requires.client;
+      seq_in = (omega (arith, first), omega (arith, first));
+      request = asked_is c.args.client (suc (w.clients c.args.client).last) c.args.body.now c.requires.asked;
+    } in
     let one : AreAll 17 IsClientEnd (opens u w c.args.client c.args.body.now).clients
     (slice_set c.args.self.now.clients.items c.from.result c.submit.new.self) = rw c.from.ensures
     (client_opened u w c.args.self.now.clients.items c.args.client c.index_mut.result.now c.submit.new.self

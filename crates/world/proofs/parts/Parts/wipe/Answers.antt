@@ -6,12 +6,12 @@ use Rattle.run_model.specs.Text.{node_name, gone_line}
 use Rattle.world.specs.Calling.{is_gone_in, parts_after}
 use Rattle.world.specs.Disks.{place_of}
 use Rattle.world.specs.NodeLists.{condition_at}
-use Rattle.world.proofs.Calling.{disk_read, disks_left}
-use Rattle.world.proofs.Counted.{falls_none}
-use Rattle.world.proofs.Playing.{made}
-use Rattle.world.proofs.Rising.{made_on, wiped_falls}
-use Rattle.world.proofs.Wiping.{wipe_by, wipe_rests}
-use Rattle.world.proofs.Present.{has_shown}
+use Rattle.world.proofs.Calls.ArmedDisks.{disk_read, disks_left}
+use Rattle.world.proofs.Power.CountsOfFaults.{falls_none}
+use Rattle.world.proofs.Events.WholeEvents.{made}
+use Rattle.world.proofs.Power.RestartEvents.{made_on, wiped_falls}
+use Rattle.world.proofs.Power.Wipes.{wipe_by, wipe_rests}
+use Rattle.world.proofs.Calls.NodesThere.{has_shown}
 use Rattle.world.proofs.parts.Parts.wipe.Goals as goal
 
 pub condition-requires : goal.condition-requires

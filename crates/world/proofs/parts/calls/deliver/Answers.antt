@@ -1,4 +1,4 @@
-use Rattle.world.proofs.Calling.{called_by, move_has}
+use Rattle.world.proofs.Calls.ArmedDisks.{called_by, move_has}
 use Rattle.world.proofs.parts.calls.deliver.Goals as goal
 
 pub power-met-requires : goal.power-met-requires

@@ -1,5 +1,5 @@
 use Rattle.world.specs.Commands.{row_of}
-use Rattle.world.proofs.Calling.{called_by, move_has}
+use Rattle.world.proofs.Calls.ArmedDisks.{called_by, move_has}
 use Rattle.world.proofs.parts.calls.obey.Goals as goal
 
 pub power-met-requires : goal.power-met-requires

@@ -8,7 +8,7 @@ use Rattle.frames.specs.Frames.{frame}
 use Rattle.round_model.specs.Lists.{each}
 use Rattle.run_model.specs.World.{request_to}
 use Rattle.world.specs.Parts.{sealed}
-use Rattle.world.proofs.Asking.{sealed_more}
+use Rattle.world.proofs.Events.RequestsOfClients.{sealed_more}
 use Rattle.world.proofs.parts.clients.add_requests.Goals as goal
 
 pub loop-index-preserved : goal.loop-index-preserved

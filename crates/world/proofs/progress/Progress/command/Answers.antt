@@ -3,8 +3,8 @@ use Rattle.std.specs.Prelude.{map}
 use Rattle.std.proofs.lemmas.Result.{on_ok_weaker}
 use Rattle.world.specs.Arming.{asked_of}
 use Rattle.world.specs.Commands.{event_of}
-use Rattle.world.proofs.CommandEvents.{becomes_by}
-use Rattle.world.proofs.Stepping.{noted, one_more}
+use Rattle.world.proofs.Calls.EventsOfCommands.{becomes_by}
+use Rattle.world.proofs.Events.OneMore.{noted, one_more}
 use Rattle.world.proofs.progress.Progress.command.Goals as goal
 
 pub returns : goal.returns

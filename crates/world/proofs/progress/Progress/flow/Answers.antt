@@ -4,7 +4,7 @@ use Rattle.std.proofs.lemmas.Bool.{ltb-true, ltb-false}
 use Rattle.aeg_base.specs.declared.limits.TheConstants.{PACKETS_BEFORE}
 use Rattle.world.specs.Run.{world_of}
 use Rattle.world.specs.Going.{run_of}
-use Rattle.world.proofs.Stepping.{flow_rests, flow_stops, flow_goes}
+use Rattle.world.proofs.Events.OneMore.{flow_rests, flow_stops, flow_goes}
 use Rattle.world.proofs.progress.Progress.flow.Goals as goal
 
 pub returns-in_default-clause-goes : goal.returns-in_default-clause-goes

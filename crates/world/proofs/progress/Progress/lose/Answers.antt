@@ -1,4 +1,4 @@
-use Rattle.world.proofs.Stepping.{all_lost}
+use Rattle.world.proofs.Events.OneMore.{all_lost}
 use Rattle.world.proofs.progress.Progress.lose.Goals as goal
 
 pub returns : goal.returns

@@ -4,7 +4,7 @@ use Rattle.std.proofs.lemmas.Result.{on_ok_weaker}
 use Rattle.run_model.specs.declared.trace.Found.TheVariants.{Reads}
 use Rattle.run_model.specs.declared.trace.TraceEvent.TheVariants as events
 use Rattle.world.specs.declared.progress.Progress.{Progress}
-use Rattle.world.proofs.Stepping.{one_more}
+use Rattle.world.proofs.Events.OneMore.{one_more}
 use Rattle.world.proofs.progress.Progress.restart.Goals as goal
 
 pub returns-clause-adds : goal.returns-clause-adds

@@ -1,6 +1,6 @@
 use Rattle.std.proofs.Common.{◌∙◌}
 use Rattle.std.specs.Prelude.{map}
-use Rattle.world.proofs.Starting.{restarted_none, one_further}
+use Rattle.world.proofs.Events.RestartsInTurn.{restarted_none, one_further}
 use Rattle.world.proofs.progress.Progress.restart_tier.Goals as goal
 
 pub loop-index-init : goal.loop-index-init

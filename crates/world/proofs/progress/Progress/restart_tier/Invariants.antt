@@ -1,7 +1,7 @@
 use Rattle.std.proofs.Common.{◌≡◌, []}
 use Rattle.std.specs.Prelude.{map}
 use Rattle.world.specs.Going.{Restarted}
-use Rattle.world.proofs.Starting.{first_nodes}
+use Rattle.world.proofs.Events.RestartsInTurn.{first_nodes}
 use Rattle.world.proofs.progress.Progress.restart_tier.Given as goal
 
 -- the first nodes of the tier were restarted

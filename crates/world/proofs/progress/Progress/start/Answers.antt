@@ -1,5 +1,5 @@
 use Rattle.std.specs.Prelude.{map}
-use Rattle.world.proofs.Starting.{three_tiers, all_started}
+use Rattle.world.proofs.Events.RestartsInTurn.{three_tiers, all_started}
 use Rattle.world.proofs.progress.Progress.start.Goals as goal
 
 pub returns-clause-starts : goal.returns-clause-starts

@@ -1,7 +1,7 @@
 use Rattle.std.proofs.Common.{◌∙◌, refl, ap}
 use Rattle.std.proofs.lemmas.Result.{on_ok_weaker}
 use Rattle.run_model.specs.declared.trace.TraceEvent.TheVariants as events
-use Rattle.world.proofs.Stepping.{one_more, noted}
+use Rattle.world.proofs.Events.OneMore.{one_more, noted}
 use Rattle.world.proofs.progress.Progress.submit.Goals as goal
 
 pub returns : goal.returns

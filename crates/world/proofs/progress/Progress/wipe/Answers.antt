@@ -2,7 +2,7 @@ use Rattle.std.proofs.Common.{refl}
 use Rattle.std.specs.Prelude.{map}
 use Rattle.std.proofs.lemmas.Result.{on_ok_weaker}
 use Rattle.run_model.specs.declared.trace.TraceEvent.TheVariants as events
-use Rattle.world.proofs.Stepping.{one_more}
+use Rattle.world.proofs.Events.OneMore.{one_more}
 use Rattle.world.proofs.progress.Progress.wipe.Goals as goal
 
 pub returns : goal.returns

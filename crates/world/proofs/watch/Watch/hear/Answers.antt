@@ -1,5 +1,5 @@
 use Rattle.std.proofs.Common.{sym, arith}
-use Rattle.world.proofs.Votes.{unheard}
+use Rattle.world.proofs.Votes.OtherFrames.{unheard}
 use Rattle.world.proofs.watch.Watch.hear.Goals as goal
 
 pub returns-then-not-is_of_vote : goal.returns-then-not-is_of_vote

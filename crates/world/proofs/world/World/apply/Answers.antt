@@ -1,7 +1,7 @@
 use Rattle.std.proofs.Common.{◌∙◌, ap, sym}
 use Rattle.std.specs.Prelude.{map}
 use Rattle.world.specs.Going.{run_with}
-use Rattle.world.proofs.Ending.{within_after, applies_ended, applies_in, further_in}
+use Rattle.world.proofs.Events.EndedWorlds.{within_after, applies_ended, applies_in, further_in}
 use Rattle.world.proofs.world.World.apply.Goals as goal
 
 pub returns-then-self-clause-applies : goal.returns-then-self-clause-applies

@@ -2,8 +2,8 @@ use Rattle.std.proofs.Common.{◌∙◌, ap, rules, sym}
 use Rattle.std.specs.Prelude.{map}
 use Rattle.world.specs.Run.{Run}
 use Rattle.world.specs.Going.{run_with}
-use Rattle.world.proofs.Starting.{stands_blank}
-use Rattle.world.proofs.Ending.{starts_in}
+use Rattle.world.proofs.Events.RestartsInTurn.{stands_blank}
+use Rattle.world.proofs.Events.EndedWorlds.{starts_in}
 use Rattle.world.proofs.world.World.start.Goals as goal
 
 pub start-answer-requires-clause-step : goal.start-answer-requires-clause-step

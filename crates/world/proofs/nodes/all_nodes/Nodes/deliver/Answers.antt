@@ -1,7 +1,7 @@
 use Rattle.std.proofs.Common.{refl}
 use Rattle.std.specs.Vec.{with_item}
 use Rattle.aeg_base.specs.declared.names.Tier.TheVariants.{Mid, Inv, Pay}
-use Rattle.world.proofs.AtNodes.{in_tier}
+use Rattle.world.proofs.Calls.AtLists.{in_tier}
 use Rattle.world.proofs.nodes.all_nodes.Nodes.deliver.Goals as goal
 
 pub returns-in-Mid : goal.returns-in-Mid

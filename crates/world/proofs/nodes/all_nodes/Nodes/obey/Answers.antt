@@ -2,7 +2,7 @@ use Rattle.std.proofs.Common.{refl}
 use Rattle.std.specs.Vec.{with_item}
 use Rattle.aeg_base.specs.declared.names.Tier.TheVariants.{Mid, Inv, Pay}
 use Rattle.world.specs.Commands.{row_of}
-use Rattle.world.proofs.AtNodes.{in_tier}
+use Rattle.world.proofs.Calls.AtLists.{in_tier}
 use Rattle.world.proofs.nodes.all_nodes.Nodes.obey.Goals as goal
 
 pub returns-in-Mid : goal.returns-in-Mid

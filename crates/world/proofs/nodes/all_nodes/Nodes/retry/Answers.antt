@@ -1,6 +1,6 @@
 use Rattle.std.proofs.Common.{rules}
 use Rattle.aeg_base.specs.declared.names.Tier.TheVariants.{Mid, Inv, Pay}
-use Rattle.world.proofs.AtNodes.{still_in}
+use Rattle.world.proofs.Calls.AtLists.{still_in}
 use Rattle.world.proofs.nodes.all_nodes.Nodes.retry.Goals as goal
 
 pub returns-in-Mid : goal.returns-in-Mid

@@ -2,8 +2,8 @@ use Rattle.std.proofs.Common.{refl}
 use Rattle.log_model.specs.Rows.{lead}
 use Rattle.tier_model.specs.BackRows.{leads}
 use Rattle.run_model.specs.BookingRuns.{booking_service}
-use Rattle.world.proofs.Few.{lead_few}
-use Rattle.world.proofs.BackMoves.{back_turns}
+use Rattle.world.proofs.Turns.FewMessages.{lead_few}
+use Rattle.world.proofs.Rows.BackRows.{back_turns}
 use Rattle.world.proofs.nodes.back_node.BackNode.lead.Goals as goal
 
 pub returns : goal.returns

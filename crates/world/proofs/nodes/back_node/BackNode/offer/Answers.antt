@@ -1,5 +1,5 @@
 use Rattle.std.proofs.Common.{◌∙◌, sym}
-use Rattle.world.proofs.BackMoves.{offers_idle, offers_none}
+use Rattle.world.proofs.Rows.BackRows.{offers_idle, offers_none}
 use Rattle.world.proofs.nodes.back_node.BackNode.offer.Goals as goal
 
 pub returns-in-Some : goal.returns-in-Some

@@ -2,8 +2,8 @@ use Rattle.frames.specs.declared.message.Msg.TheVariants as msgs
 use Rattle.log_model.specs.Rows.{on_msg}
 use Rattle.tier_model.specs.BackRows.{on_frame}
 use Rattle.run_model.specs.BookingRuns.{booking_service}
-use Rattle.world.proofs.Few.{msg_few}
-use Rattle.world.proofs.BackMoves.{back_turns, frame_log}
+use Rattle.world.proofs.Turns.FewMessages.{msg_few}
+use Rattle.world.proofs.Rows.BackRows.{back_turns, frame_log}
 use Rattle.world.proofs.nodes.back_node.BackNode.on_log.Goals as goal
 
 pub returns : goal.returns

@@ -1,4 +1,4 @@
-use Rattle.world.proofs.Restored.{back_restarts}
+use Rattle.world.proofs.Turns.RestoredLogs.{back_restarts}
 use Rattle.world.proofs.nodes.back_node.BackNode.restart.Goals as goal
 
 pub returns : goal.returns

@@ -1,6 +1,6 @@
 use Rattle.std.proofs.Common.{◌∙◌, ap, Err}
 use Rattle.std.proofs.lemmas.Result.{err_from_is_err_and}
-use Rattle.world.proofs.BackMoves.{retries, retries_none}
+use Rattle.world.proofs.Rows.BackRows.{retries, retries_none}
 use Rattle.world.proofs.nodes.back_node.BackNode.retry.Goals as goal
 
 pub returns : goal.returns

@@ -1,4 +1,4 @@
-use Rattle.world.proofs.Turning.{asks_at}
+use Rattle.world.proofs.Turns.TurnsOfNodes.{asks_at}
 use Rattle.world.proofs.nodes.log_node.LogNode.ask.Goals as goal
 
 pub send_all-requires-clause-fit : goal.send_all-requires-clause-fit

@@ -2,8 +2,8 @@ use Rattle.std.proofs.Common.{◌∙◌, ap, subst, sym, Err}
 use Rattle.std.proofs.lemmas.Result.{err_from_is_err_and}
 use Rattle.log_model.specs.Rows.{lead}
 use Rattle.world.specs.LogNodes.{LogView, WasAtWork}
-use Rattle.world.proofs.Few.{lead_few}
-use Rattle.world.proofs.Turning.{turns_are, turns_none, turn_range, turn_short, may_write, own_log, sure_now, place_now, lead_range}
+use Rattle.world.proofs.Turns.FewMessages.{lead_few}
+use Rattle.world.proofs.Turns.TurnsOfNodes.{turns_are, turns_none, turn_range, turn_short, may_write, own_log, sure_now, place_now, lead_range}
 use Rattle.world.proofs.nodes.log_node.LogNode.lead.Goals as goal
 
 pub returns-in_err-turn : goal.returns-in_err-turn

@@ -4,8 +4,8 @@ use Rattle.std.specs.Prelude.{option_copied}
 use Rattle.log_model.specs.Rows.{wants, offer}
 use Rattle.paxos_log.specs.TierLog.{CanOffer}
 use Rattle.world.specs.LogNodes.{LogView, WasAtWork}
-use Rattle.world.proofs.Few.{offer_few}
-use Rattle.world.proofs.Turning.{turns_are, turns_none, turn_range, turn_short, may_write, own_log, sure_now, place_now, of_log, offer_range}
+use Rattle.world.proofs.Turns.FewMessages.{offer_few}
+use Rattle.world.proofs.Turns.TurnsOfNodes.{turns_are, turns_none, turn_range, turn_short, may_write, own_log, sure_now, place_now, of_log, offer_range}
 use Rattle.world.proofs.nodes.log_node.LogNode.offer.Goals as goal
 
 pub offer-requires : goal.offer-requires

@@ -8,7 +8,7 @@ use Rattle.world.specs.LogNodes.{log_itself}
 use Rattle.world.specs.declared.nodes.working.Working.{Working}
 use Rattle.paxos_log.specs.TierLog.{AreInOrder}
 use Rattle.fact_journal.proofs.Restoring.{in_order}
-use Rattle.world.proofs.Restored.{works_again, restart_reads}
+use Rattle.world.proofs.Turns.RestoredLogs.{works_again, restart_reads}
 use Rattle.world.proofs.nodes.log_node.LogNode.restart.Goals as goal
 
 pub restore-requires-clause-order : goal.restore-requires-clause-order

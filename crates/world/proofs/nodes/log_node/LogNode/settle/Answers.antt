@@ -3,7 +3,8 @@ use Rattle.log_model.specs.Nodes.Mode.{Up}
 use Rattle.world.specs.declared.nodes.working.Working.{Working}
 use Rattle.world.specs.Parts.{Makes}
 use Rattle.world.specs.LogNodes.{whole_turn, log_move, log_itself}
-use Rattle.world.proofs.Turning.{seen, small, told_at, settled, written_down, failed, not_written, put_back, sent_none, facts_at, facts_short, sends_at}
+use Rattle.world.proofs.Turns.TurnsOfNodes.{seen, small, told_at, settled, written_down, failed, not_written, put_back}
+use Rattle.world.proofs.Turns.TurnsOfNodes.{sent_none, facts_at, facts_short, sends_at}
 use Rattle.world.proofs.nodes.log_node.LogNode.settle.Goals as goal
 
 pub append-requires-clause-fit : goal.append-requires-clause-fit

@@ -1,6 +1,6 @@
 use Rattle.std.proofs.Common.{◌∙◌, sym, ap}
 use Rattle.world.specs.declared.nodes.working.Working.{Working}
-use Rattle.world.proofs.Turning.{was_at_work, is_without}
+use Rattle.world.proofs.Turns.TurnsOfNodes.{was_at_work, is_without}
 use Rattle.world.proofs.nodes.log_node.LogNode.take_up.Goals as goal
 
 pub returns-clause-taken : goal.returns-clause-taken

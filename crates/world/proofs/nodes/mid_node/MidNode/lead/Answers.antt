@@ -2,8 +2,8 @@ use Rattle.std.proofs.Common.{refl}
 use Rattle.log_model.specs.Rows.{lead}
 use Rattle.tier_model.specs.MidRows.{leads}
 use Rattle.run_model.specs.BookingRuns.{booking_service}
-use Rattle.world.proofs.Few.{lead_few}
-use Rattle.world.proofs.MidMoves.{mid_turns}
+use Rattle.world.proofs.Turns.FewMessages.{lead_few}
+use Rattle.world.proofs.Rows.MidRows.{mid_turns}
 use Rattle.world.proofs.nodes.mid_node.MidNode.lead.Goals as goal
 
 pub returns : goal.returns

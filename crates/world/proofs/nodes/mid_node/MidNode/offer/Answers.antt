@@ -8,9 +8,9 @@ use Rattle.tier_model.specs.MidRows.{offers}
 use Rattle.run_model.specs.BookingRuns.{booking_service}
 use Rattle.world.specs.Parts.{MidView}
 use Rattle.world.specs.LogNodes.{needs_own}
-use Rattle.world.proofs.Few.{offer_few}
-use Rattle.world.proofs.MidMoves.{mid_turns}
-use Rattle.world.proofs.MidOffers.{offers_idle, offers_none, offers_row, offers_memory, range_at, wants_at, none_of, some_of}
+use Rattle.world.proofs.Turns.FewMessages.{offer_few}
+use Rattle.world.proofs.Rows.MidRows.{mid_turns}
+use Rattle.world.proofs.Rows.MidOffers.{offers_idle, offers_none, offers_row, offers_memory, range_at, wants_at, none_of, some_of}
 use Rattle.world.proofs.nodes.mid_node.MidNode.offer.Goals as goal
 use Rattle.world.proofs.nodes.mid_node.MidNode.offer.Goals.{else-is_none-via-then-is_none+else-needs_own, else-is_none-via-else-is_none}
 

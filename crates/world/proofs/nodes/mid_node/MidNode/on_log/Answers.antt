@@ -5,8 +5,8 @@ use Rattle.log_model.specs.Rows.{on_msg}
 use Rattle.tier_model.specs.Moves.{is_node_of}
 use Rattle.tier_model.specs.MidRows.{on_frame}
 use Rattle.run_model.specs.BookingRuns.{booking_service}
-use Rattle.world.proofs.Few.{msg_few}
-use Rattle.world.proofs.MidMoves.{mid_turns, frame_log}
+use Rattle.world.proofs.Turns.FewMessages.{msg_few}
+use Rattle.world.proofs.Rows.MidRows.{mid_turns, frame_log}
 use Rattle.world.proofs.nodes.mid_node.MidNode.on_log.Goals as goal
 
 pub returns : goal.returns

@@ -1,7 +1,7 @@
 use Rattle.std.proofs.Common.{◌∙◌, sym, ap, Some, None, Err}
 use Rattle.std.proofs.lemmas.Result.{err_from_is_err_and}
 use Rattle.round_model.specs.Lists.{put_at}
-use Rattle.world.proofs.MidMoves.{request_passed, request_taken, request_none}
+use Rattle.world.proofs.Rows.MidRows.{request_passed, request_taken, request_none}
 use Rattle.world.proofs.nodes.mid_node.MidNode.on_request.Goals as goal
 use Rattle.world.proofs.nodes.mid_node.MidNode.on_request.Goals.{then-seq-ne1-via-then-seq-ne1, then-seq-ne1-via-else-seq-ne1+then-has}
 

@@ -1,4 +1,4 @@
-use Rattle.world.proofs.MidOffers.{past_cause}
+use Rattle.world.proofs.Rows.MidOffers.{past_cause}
 use Rattle.world.proofs.nodes.mid_node.MidNode.own_cause.Goals as goal
 
 pub returns-then-first_open-gt0 : goal.returns-then-first_open-gt0

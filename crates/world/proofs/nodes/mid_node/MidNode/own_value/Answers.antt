@@ -1,7 +1,7 @@
 use Rattle.std.proofs.Common.{◌≡◌, length, sym, arith, vec_len}
 use Rattle.std.proofs.lemmas.Bool.{eqb-true, eqb-false}
 use Rattle.std.proofs.lemmas.List.{nil_from_length}
-use Rattle.world.proofs.MidOffers.{own_stands, past_stands, own_past, own_empty, own_batched, some_if}
+use Rattle.world.proofs.Rows.MidOffers.{own_stands, past_stands, own_past, own_empty, own_batched, some_if}
 use Rattle.world.proofs.nodes.mid_node.MidNode.own_value.Goals as goal
 
 pub returns-then-first_open-gt0-clause-value : goal.returns-then-first_open-gt0-clause-value

@@ -1,4 +1,4 @@
-use Rattle.world.proofs.Restored.{mid_restarts}
+use Rattle.world.proofs.Turns.RestoredLogs.{mid_restarts}
 use Rattle.world.proofs.nodes.mid_node.MidNode.restart.Goals as goal
 
 pub returns : goal.returns

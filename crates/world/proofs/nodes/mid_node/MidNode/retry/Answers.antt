@@ -1,6 +1,6 @@
 use Rattle.std.proofs.Common.{◌∙◌, ap, Err}
 use Rattle.std.proofs.lemmas.Result.{err_from_is_err_and}
-use Rattle.world.proofs.MidOffers.{retries, retries_none}
+use Rattle.world.proofs.Rows.MidOffers.{retries, retries_none}
 use Rattle.world.proofs.nodes.mid_node.MidNode.retry.Goals as goal
 
 pub returns : goal.returns

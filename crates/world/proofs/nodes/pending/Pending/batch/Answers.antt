@@ -1,5 +1,5 @@
 use Rattle.std.proofs.Common.{arith}
-use Rattle.world.proofs.Places.{batch_next, batch_made, batch_fits, batch_stands}
+use Rattle.world.proofs.Rows.PendingPlaces.{batch_next, batch_made, batch_fits, batch_stands}
 use Rattle.world.proofs.nodes.pending.Pending.batch.Goals as goal
 
 pub loop-client-preserved : goal.loop-client-preserved

@@ -1,5 +1,5 @@
 use Rattle.std.proofs.Common.{◌≡◌, take}
-use Rattle.world.proofs.Places.{joined}
+use Rattle.world.proofs.Rows.PendingPlaces.{joined}
 use Rattle.world.proofs.nodes.pending.Pending.batch.Given as goal
 
 abbrev pub invariant-loop-client : goal.invariant-loop-client

@@ -1,5 +1,5 @@
 use Rattle.std.proofs.Common.{Some, None}
-use Rattle.world.proofs.Places.{has_is}
+use Rattle.world.proofs.Rows.PendingPlaces.{has_is}
 use Rattle.world.proofs.nodes.pending.Pending.has.Goals as goal
 
 pub returns-in-None : goal.returns-in-None

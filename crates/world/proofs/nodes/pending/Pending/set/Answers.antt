@@ -1,7 +1,7 @@
 use Rattle.std.proofs.Common.{◌∙◌, ap, List, Option, Some, None}
 use Rattle.log_values.specs.declared.entry.Entry.{Entry}
 use Rattle.round_model.specs.Lists.{put_at}
-use Rattle.world.proofs.Places.{set_pending, set_is}
+use Rattle.world.proofs.Rows.PendingPlaces.{set_pending, set_is}
 use Rattle.world.proofs.nodes.pending.Pending.set.Goals as goal
 
 pub invariant_of-self : goal.invariant_of-self

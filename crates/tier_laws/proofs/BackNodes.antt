@@ -1,0 +1,5 @@
+pub mod GrowingLogs
+pub mod RightMoves
+pub mod LearnedValues
+pub mod LogTurns
+pub mod RightSteps

@@ -1,0 +1,3 @@
+pub mod FromInvariant
+pub mod LaterStarts
+pub mod RepliesLast

@@ -1,0 +1,5 @@
+pub mod LookUps
+pub mod LegalRounds
+pub mod MirroredTables
+pub mod GrowingHistory
+pub mod ShownLists

@@ -1,0 +1,11 @@
+pub mod InWorlds
+pub mod ByAnswer
+pub mod AtLists
+pub mod OnDisks
+pub mod ArmedDisks
+pub mod NodesThere
+pub mod CommandsInWorlds
+pub mod CommandsOfTiers
+pub mod DeliveredPackets
+pub mod OfOneTier
+pub mod EventsOfCommands

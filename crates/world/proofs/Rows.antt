@@ -1,0 +1,4 @@
+pub mod PendingPlaces
+pub mod MidRows
+pub mod MidOffers
+pub mod BackRows
