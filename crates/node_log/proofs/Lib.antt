@@ -5,3 +5,4 @@ pub mod Again
 pub mod Turns
 pub mod ToTiers
 pub mod Left
+pub mod Quiet

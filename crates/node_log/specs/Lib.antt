@@ -4,3 +4,5 @@ pub mod Restarting
 pub mod Faults
 pub mod LogNodes
 pub mod Packets
+pub mod Received
+pub mod Quiet

@@ -1,5 +1,5 @@
 // What a node decided, before it is written down.
-ghost use Rattle.std.specs.Prelude.{◌≡◌, ◌≤◌, ◌++◌, map, OnOk, IfOk};
+ghost use Rattle.std.specs.Prelude.{◌≡◌, ◌≤◌, ◌++◌, [], map, OnOk, IfOk};
 ghost use Rattle.std.specs.List.{AllByRecursion};
 ghost use Rattle.frames.specs.LogMessages.{FitsLog};
 ghost use Rattle.tier_model.specs.Moves.{as_fact, log_answer, log_packets};
@@ -20,6 +20,19 @@ use std::alloc::Global;
 pub struct Decided {
     pub facts: Vec<Fact>,
     pub answer: Turn,
+}
+
+impl Decided {
+    /// Nothing is to be written down.
+    pub fn without_facts(alloc: Global, answer: Turn) -> Self
+        ensures facts { result.facts.items ≡ [] }
+        ensures answer { result.answer ≡ answer }
+    {
+        Decided {
+            facts: Vec::new(alloc),
+            answer,
+        }
+    }
 }
 
 /// What a turn of the node's log alone comes to.

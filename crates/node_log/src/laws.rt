@@ -1,5 +1,5 @@
 // What a node's calls come to, and what the turns of its log may do.
-ghost use Rattle.std.specs.Prelude.{◌≡◌, ℕ, ◌+◌, ◌*◌, ◌<◌, ◌≤◌, List, [], ◌++◌, Option, length, map, take, IfOk, OnOk, OnErr};
+ghost use Rattle.std.specs.Prelude.{◌≡◌, ℕ, ◌+◌, ◌*◌, ◌<◌, ◌≤◌, true, List, [], ◌++◌, Option, None, length, map, take, IfOk, OnOk, OnErr};
 ghost use Rattle.std.specs.declared.result.Result.{Result};
 ghost use Rattle.std.specs.List.{AllByRecursion};
 ghost use Rattle.aeg_base.specs.declared.memory.Memory.{Memory};
@@ -22,7 +22,8 @@ ghost use Rattle.tier_model.specs.Moves.{Move, as_fact};
 ghost use Rattle.node_log.specs.declared.decided.Decided.{Decided};
 ghost use Rattle.node_log.specs.declared.working.Working.{Working};
 ghost use Rattle.node_log.specs.Packets.{all_sealed};
-ghost use Rattle.node_log.specs.Views.{View, CameUp, Moves, Restarts, Tells, seen_as, went_down};
+ghost use Rattle.node_log.specs.Views.{View, CameUp, Moves, Restarts, Tells, is_up, seen_as, went_down};
+ghost use Rattle.node_log.specs.Quiet.{IsIdleTurn, IsQuietFrom, IsUnmoved, is_quiet};
 ghost use Rattle.node_log.specs.LogNodes.{Standing, IsLogTurn, IsOwnLog, WasAtWork, standing_in};
 ghost use Rattle.node_log.specs.Settling.{CanRecord, Decides, Records};
 ghost use Rattle.node_log.specs.Restarting.{Journal, ComesUp, Opens};
@@ -57,6 +58,20 @@ pub fn restarts<R, S>()
         → CameUp (seen_as whole old) (seen_as whole new) recovered facts × (new.place ≡ place) }
     ensures restarts { (old new : View S) (a b : DiskState) (recovered : List Fact → S) (opened : Result Journal Fault) (result : Result (Unit {0}) Fault)
         → Opens old.tier a b opened → ComesUp old new recovered opened result → Restarts old new a b recovered result }
+{}
+
+/// A move whose row does nothing where it answers so leaves node, disk and packets as they were then.
+pub fn quiet_moves<S>()
+    ensures { (row : S → Move S) (old new : View S) (a b : DiskState) (before after : List (End × List ℕ)) (result : Result Answer Fault)
+        → is_up old ≡ true → ((s : S) → IsQuietFrom s (row s)) → Moves old new a b before after row result
+        → IfOk result (λ answer. is_quiet answer ≡ true → IsUnmoved old new a b before after) }
+{}
+
+/// The rows of a node's log do nothing where they tell why, and an offer never tells.
+pub fn quiet_turns()
+    ensures messages { (u s : ℕ) (log : LogState AnyValue) (m : PaxMsg AnyValue) → IsIdleTurn log (on_msg u log s m) }
+    ensures leading { (u x : ℕ) (log : LogState AnyValue) → IsIdleTurn log (lead u x log) }
+    ensures offers { (u x : ℕ) (log : LogState AnyValue) (own : Option AnyValue) → (offer u x log own).idle ≡ None }
 {}
 
 /// What the rows of a node's log do with a log, a message and a value that the tier's frames can carry: the messages of a

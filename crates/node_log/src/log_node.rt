@@ -1,6 +1,5 @@
 // A node of any tier: a log, a journal, and what else its kind keeps.
 ghost use Rattle.std.specs.Prelude.{◌≡◌, ◌+◌, ◌*◌, ◌<◌, ◌≤◌, take, true, false, IfOk, OnOk, OnErr, MatchOption};
-ghost use Rattle.server_model.specs.Server.{same_tier};
 ghost use Rattle.tier_model.specs.Moves.{is_node_of};
 ghost use Rattle.frames.specs.Headers.{end_index};
 ghost use Rattle.node_log.specs.Views.{MayWrite, is_up, new_node, went_down};
@@ -10,10 +9,11 @@ ghost use Rattle.node_log.specs.Restarting.{Opens};
 
 use crate::decided::Decided;
 use crate::faults::opening_fault;
+use crate::peers::node_in;
 use crate::recording::write_down;
 use crate::working::{Working, at_work};
 use aeg_base::limits::MAX_FAULTS;
-use aeg_base::{End, Memory, NodeId, Tier};
+use aeg_base::{End, Memory, NodeId};
 use aeg_disk::Disk;
 use fact_journal::FactJournal;
 use frames::{Fault, Outbox, Turn};
@@ -109,15 +109,7 @@ impl<R: Drop> LogNode<R> {
         ensures { MatchOption result (is_node_of self.now.faults self.now.tier from ≡ false)
             (λ index. (is_node_of self.now.faults self.now.tier from ≡ true) × ((index ≡ end_index from) × (index < 2 * self.now.faults + 1))) }
     {
-        match from {
-            End::Client(_) => None,
-            End::Node(node) => {
-                if is_same(node.tier, self.me.tier) && node.index < 2 * self.faults + 1 {
-                    return Some(node.index);
-                }
-                None
-            }
-        }
+        node_in(self.faults, self.me.tier, from)
     }
 
     /// Takes what a node has that is up. It stays down unless it gets it back.
@@ -132,6 +124,14 @@ impl<R: Drop> LogNode<R> {
         };
         self.known = up.journal.place();
         up
+    }
+
+    /// Goes down: all but its disk is lost.
+    pub fn crash(&mut self)
+        requires { is_up self.old ≡ true }
+        ensures { self.new ≡ went_down self.old }
+    {
+        let _up = self.take_up();
     }
 
     /// Comes up again with what was decided without facts.
@@ -199,15 +199,5 @@ impl<R: Drop> LogNode<R> {
     {
         self.up = Some(at_work(self.alloc, log, journal, rest)?);
         Ok(())
-    }
-}
-
-fn is_same(a: Tier, b: Tier) -> bool
-    ensures { result ≡ same_tier a b }
-{
-    match a {
-        Tier::Mid => matches!(b, Tier::Mid),
-        Tier::Inv => matches!(b, Tier::Inv),
-        Tier::Pay => matches!(b, Tier::Pay),
     }
 }

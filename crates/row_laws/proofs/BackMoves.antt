@@ -43,9 +43,12 @@ use Rattle.tier_model.specs.Back.{Back, with_log, answer_to, passes, after_value
 use Rattle.tier_model.specs.BackRows.{copied, call_as, on_call, on_settle, on_frame, leads, own_by, own_value, offers_as, offers, answers_again}
 use Rattle.tier_model.specs.BackRows.{retry, after_values, bare, recovered}
 use Rattle.row_laws.specs.Services.{IsBackendIn}
-use Rattle.row_laws.specs.Backs.{IsCode, AreTexts, AreCopies, IsFloorIn, IsShimIn, IsBackIn}
+use Rattle.server_shim.specs.Ranges.{IsCode, IsCall}
+use Rattle.server_shim.proofs.Lists.{find_in}
+use Rattle.server_shim.proofs.Ranged.{serves_in, settles_in, notes_in, told_in, new_in, ready_in, settled_in, highest_in}
+use Rattle.row_laws.specs.Backs.{IsBackIn}
 use Rattle.row_laws.specs.Moves.{Takes, IsTaken, IsSealable, IsMoveTo}
-use Rattle.row_laws.proofs.Lists.{each_few, drop_in, set_in, index_in, replicate_in, put_in, without_in, from_in, find_in}
+use Rattle.row_laws.proofs.Lists.{each_few}
 use Rattle.row_laws.proofs.FewMessages.{few_facts, IsFew, msg_few, lead_few, offer_few}
 use Rattle.row_laws.proofs.LogTurns.{sender_is, taken_if, taken_either, message_in, AreGood, none_good, both_good, each_good, log_good, asks_good}
 use Rattle.row_laws.proofs.LogTurns.{asks_few, turn_facts, written_opens, may_raise}
@@ -55,79 +58,6 @@ use Rattle.row_laws.proofs.Restored.{log_restored, log_opens, all_carried}
 -- a move of a backend's node x
 abbrev pub IsBackMove : {B : Type 0} → Service B → ℕ → ℕ → Tier → ℕ → Back B → Move (Back B) → Type 0
 IsBackMove {B} s u depth t x σ move = IsMoveTo (IsBackIn {B = B} u t) (λ (z : Back B). z.log) (IsTaken s u depth) t x σ move
-
--- WHAT IS KEPT
-
-serves_in : (u : ℕ) (s : ShimState) (n code : ℕ) → IsShimIn u s → IsCode (n, code) → IsShimIn u (serves s n code)
-serves_in u s n code k c =
-    record {
-      faults = k.faults;
-      kept = put_in IsCode s.kept n code k.kept c;
-      floor = k.floor;
-      copies = without_in AreCopies s.copies n k.copies;
-      places = k.places;
-      floors = k.floors;
-    }
-
-settles_in : (u : ℕ) (s : ShimState) (g : ℕ) → IsShimIn u s → IsFloorIn g → IsShimIn u (settles s g)
-settles_in u s g k f = cond_both (nat_lt s.floor g) _ _ (IsShimIn u)
-    (λ e. record {
-      faults = k.faults;
-      kept = from_in IsCode s.kept g k.kept;
-      floor = f;
-      copies = from_in AreCopies s.copies g k.copies;
-      places = k.places;
-      floors = k.floors;
-    }) (λ e. k)
-
--- the copies of a call
-AreRow : List (Option (List ℕ)) → Type 0
-AreRow row = (length row ≡ 5) × AreTexts row
-
-row_in : (u : ℕ) (s : ShimState) (n : ℕ) → IsShimIn u s → AreRow (copies_at s n)
-unfolding AreRow
-row_in u s n k = go (find s.copies n) (find_in AreCopies AreRow s.copies n (λ m row e. e.1) k.copies)
-  where
-    go : (o : Option (List (Option (List ℕ)))) → IfSome o AreRow → AreRow (copies_or_none o)
-    go None f = (refl, replicate_in (λ copy. IfSome copy IsText) 5 None tt)
-    go (Some row) f = f
-
-notes_in : (u : ℕ) (s : ShimState) (y n : ℕ) (text : List ℕ) → IsShimIn u s → IsCallNumber n → IsText text → IsShimIn u (notes s y n text)
-unfolding AreRow
-notes_in u s y n text k c f = record {
-  faults = k.faults;
-  kept = k.kept;
-  floor = k.floor;
-  copies = put_in AreCopies s.copies n (with_copy (copies_at s n) y text) k.copies
-      (let r = row_in u s n k in (
-        c,
-        (
-          length-set (copies_at s n) y (Some text) ∙ r.0,
-          set_in (λ copy. IfSome copy IsText) (copies_at s n) y
-              (Some text) r.1 f,
-        ),
-      ));
-  places = k.places;
-  floors = k.floors;
-}
-
-told_in : (u : ℕ) (s : ShimState) (y g : ℕ) → IsShimIn u s → IsFloorIn g → IsShimIn u (told_floor s y g)
-told_in u s y g k f = cond_both (rises_to s y g) _ _ (IsShimIn u)
-    (λ e. record {
-      faults = k.faults;
-      kept = k.kept;
-      floor = k.floor;
-      copies = k.copies;
-      places = length-set s.floors y g
-          ∙ k.places;
-      floors = set_in IsFloorIn s.floors y g k.floors f;
-    }) (λ e. k)
-
-one_floor : IsFloorIn 1
-one_floor = (omega arith, omega arith)
-
-new_in : (u : ℕ) → IsShimIn u (new_shim u)
-new_in u = record { faults = refl; kept = tt; floor = one_floor; copies = tt; places = refl; floors = replicate_in IsFloorIn 5 1 one_floor }
 
 -- a value is taken
 after_in : {B : Type 0} (b : Backend B) (u : ℕ) (t : Tier) (σ : Back B) (v : AnyValue) → IsBackendIn b → IsBackIn u t σ → FitsAny v
@@ -313,46 +243,10 @@ back_carried InMid p v b f = absurd b
 back_carried Inv p v b f = (f, refl)
 back_carried Pay p v b f = (f, refl)
 
--- the text of a ready call
-agreed_in : (u : ℕ) (row : List (Option (List ℕ))) → AreTexts row → IfSome (agreed u row) IsText
-agreed_in u row k = go (lowest (2 * u + 1) (λ y. is_backed u row (copy_of row y)))
-  where
-    go : (o : Option ℕ) → IfSome (and_then o (copy_of row)) IsText
-    go None = tt
-    go (Some y) = index_in (λ copy. IfSome copy IsText) row y k tt
-
-abbrev IsReady : ℕ × List ℕ → Type 0
-IsReady e = IsCallNumber e.0 × IsText e.1
-
-ready_in : (u : ℕ) (es : List (ℕ × List (Option (List ℕ)))) → Every AreCopies es → IfSome (first (picked (agreed u) es)) IsReady
-ready_in u [] k = tt
-ready_in u (e ∷ es) k = go (agreed u e.1) (agreed_in u e.1 k.0.1.1) (ready_in u es k.1)
-  where
-    go : (o : Option (List ℕ)) → IfSome o IsText → IfSome (first (picked (agreed u) es)) IsReady
-        → IfSome (first (picked_as e.0 o (picked (agreed u) es))) IsReady
-    go None f rest = rest
-    go (Some text) f rest = (k.0.0, f)
-
--- a floor that was told
-floor_in : (floors : List ℕ) (y : ℕ) → Every IsFloorIn floors → floor_at floors y < 2 ^ 32
-floor_in [] y k = omega arith
-floor_in (g ∷ gs) zero k = k.0.1
-floor_in (g ∷ gs) (suc y) k = floor_in gs y k.1
-
-due_in : (u : ℕ) (floors : List ℕ) (n : ℕ) → Every IsFloorIn floors → due_among u floors n < 2 ^ 32
-due_in u floors zero k = omega arith
-due_in u floors (suc y) k = cond_both (is_more u floors (due_among u floors y) (floor_at floors y)) _ _ (λ z. z < 2 ^ 32) (λ e. floor_in floors y k)
-    (λ e. due_in u floors y k)
-
-settled_in : (u : ℕ) (s : ShimState) → IsShimIn u s → IfSome (due_floor s) IsFloor
-settled_in u s k = cond_both (nat_lt s.floor (due s.faults s.floors)) _ _ (λ o. IfSome o IsFloor)
-    (λ e. let above : s.floor < due s.faults s.floors = ltb-true s.floor (due s.faults s.floors) e in
-    (omega (arith, above, k.floor.0), due_in s.faults s.floors (2 * s.faults + 1) k.floors)) (λ e. tt)
-
 own_in : {B : Type 0} (u : ℕ) (t : Tier) (p : ℕ) (σ : Back B) → IsBackend t → IsBackIn u t σ → IsOwnIn (IsCarried t) p (own_value σ)
-own_in u t p σ b k = go (ready σ.shim) (due_floor σ.shim) (ready_in σ.shim.faults σ.shim.copies k.shim.copies) (settled_in u σ.shim k.shim)
+own_in u t p σ b k = go (ready σ.shim) (due_floor σ.shim) (ready_in u σ.shim k.shim) (settled_in u σ.shim k.shim)
   where
-    go : (o : Option (ℕ × List ℕ)) (g : Option ℕ) → IfSome o IsReady → IfSome g IsFloor → IsOwnIn (IsCarried t) p (own_by o g)
+    go : (o : Option (ℕ × List ℕ)) (g : Option ℕ) → IfSome o IsCall → IfSome g IsFloor → IsOwnIn (IsCarried t) p (own_by o g)
     go None None r f = tt
     go None (Some g) r f = back_carried t p (Settle g) b f
     go (Some call) g r f = back_carried t p (Call call.0 call.1) b r
@@ -407,7 +301,7 @@ retry_in {B} s u depth t x σ small l b k =
     let told = answers_again u t x (highest σ.shim) in
     telling (IsBackIn u t) (λ (z : Back B). z.log) (IsTaken s u depth) t x σ σ (asked ++ told) Did k refl
     (both_good s u depth t x asked told (asks_good s u depth t x σ.log small l k.log)
-    (again_good s u depth t x (highest σ.shim) b small l (drop_in IsCode (length σ.shim.kept - 16) σ.shim.kept k.shim.kept)))
+    (again_good s u depth t x (highest σ.shim) b small l (highest_in u σ.shim k.shim)))
     (omega (arith, small, length-append asked told, asks_few u t x (open_at σ.log) l, again_few u t x (highest σ.shim) small, last_few 16 σ.shim.kept))
 
 values_in : {B : Type 0} (b : Backend B) (u : ℕ) (t : Tier) (σ : Back B) (vs : List AnyValue) → IsBackendIn b → IsBackIn u t σ → Every FitsAny vs

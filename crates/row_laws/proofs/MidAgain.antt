@@ -35,10 +35,11 @@ use Rattle.tier_model.specs.Moves.{Packet, asks, log_packets, log_facts}
 use Rattle.tier_model.specs.Mid.{Mid, Ready, ready, apply}
 use Rattle.tier_model.specs.MidRows.{open_calls, put_parked, by_number, calls_again, haves_again, settle_to, again, retry, catch_up, bare, recovered}
 use Rattle.row_laws.specs.Services.{IsServiceIn}
-use Rattle.row_laws.specs.Backs.{IsCode}
+use Rattle.server_shim.specs.Ranges.{IsCode}
 use Rattle.row_laws.specs.Mids.{IsParkedIn, AreTablesIn, ArePendingIn, IsAnswerIn, IsMidIn}
 use Rattle.row_laws.specs.Moves.{IsTaken}
-use Rattle.row_laws.proofs.Lists.{drop_in, map_in, replicate_in}
+use Rattle.server_shim.proofs.Lists.{drop_in, replicate_in}
+use Rattle.row_laws.proofs.Lists.{map_in}
 use Rattle.row_laws.proofs.LogTurns.{both_good, asks_good, asks_few}
 use Rattle.row_laws.proofs.Moving.{telling}
 use Rattle.row_laws.proofs.BackMoves.{last_few}

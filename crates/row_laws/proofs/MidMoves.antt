@@ -49,7 +49,8 @@ use Rattle.tier_model.specs.MidRows.{runs_or_not, work}
 use Rattle.row_laws.specs.Services.{IsServiceIn}
 use Rattle.row_laws.specs.Mids.{ArePendingIn, AreClaimsIn, IsTallyIn, IsHeldIn, IsMidIn}
 use Rattle.row_laws.specs.Moves.{IsTaken, IsMoveTo}
-use Rattle.row_laws.proofs.Lists.{index_in, at_in, take_in, take_few, each_few}
+use Rattle.server_shim.proofs.Lists.{index_in}
+use Rattle.row_laws.proofs.Lists.{at_in, take_in, take_few, each_few}
 use Rattle.log_model.proofs.Basics.{every-append}
 use Rattle.row_laws.proofs.FewMessages.{few_facts, IsFew, IsWritten, msg_few, lead_few, offer_few}
 use Rattle.row_laws.proofs.LogTurns.{sender_is, message_in, AreGood, none_good, both_good, log_good, turn_facts, written_opens, may_raise}

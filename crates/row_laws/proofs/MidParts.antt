@@ -28,7 +28,8 @@ use Rattle.batcher.proofs.Waits.{put_stands}
 use Rattle.tier_model.specs.Moves.{held_in}
 use Rattle.tier_model.specs.MidRows.{with_vote}
 use Rattle.row_laws.specs.Mids.{ArePendingIn, AreClaimsIn, IsTallyIn, IsAnswerIn, IsHeldIn}
-use Rattle.row_laws.proofs.Lists.{set_in, replicate_in, put_in, find_in, put_at_in}
+use Rattle.server_shim.proofs.Lists.{set_in, replicate_in, put_in, find_in}
+use Rattle.row_laws.proofs.Lists.{put_at_in}
 
 -- PENDING ENTRIES
 

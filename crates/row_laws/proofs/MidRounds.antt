@@ -36,7 +36,7 @@ use Rattle.tier_model.specs.Mid.{Mid, Ready, ready, apply}
 use Rattle.tier_model.specs.MidRows.{Running, running, to_run}
 use Rattle.row_laws.specs.Services.{IsServiceIn}
 use Rattle.row_laws.specs.Mids.{AreTablesIn, IsTallyIn, IsSpecIn, IsMidIn}
-use Rattle.row_laws.proofs.Lists.{without_in}
+use Rattle.server_shim.proofs.Lists.{without_in}
 use Rattle.row_laws.proofs.Orders.{order_long}
 use Rattle.row_laws.proofs.Wanted.{IsWantIn, wants_in, wants_few, job_for, job_in}
 use Rattle.row_laws.proofs.Finishes.{IsFinishIn, finish_in}

@@ -24,7 +24,7 @@ use Rattle.tier_model.specs.Mid.{reply_to, call_to, calls_to, tells}
 use Rattle.tier_model.specs.MidRows.{is_in, have_to, haves, token_to, calls_again, haves_again, settle_at, settle_to}
 use Rattle.tier_model.specs.Back.{Back}
 use Rattle.tier_model.specs.BackRows.{call_as}
-use Rattle.row_laws.specs.Backs.{IsCode}
+use Rattle.server_shim.specs.Ranges.{IsCode}
 use Rattle.row_laws.specs.Mids.{IsParkedIn}
 use Rattle.row_laws.specs.Moves.{is_dropped, Takes, IsTaken, IsSealable}
 use Rattle.row_laws.proofs.Lists.{each_few, each_less}

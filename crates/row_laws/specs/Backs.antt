@@ -1,37 +1,11 @@
 -- The states in range of a backend node.
-use Rattle.std.specs.Prelude.{◌≡◌, ℕ, ◌<◌, ◌≤◌, ◌^◌, List, length, Option, IfSome}
-use Rattle.std.specs.List.{AllByRecursion}
+use Rattle.std.specs.Prelude.{ℕ}
 use Rattle.aeg_base.specs.declared.names.Tier.{Tier}
 use Rattle.log_model.specs.Ranges.{IsLogIn}
-use Rattle.log_values.specs.Fields.{FitsBallot, IsCallNumber, IsText}
+use Rattle.log_values.specs.Fields.{FitsBallot}
 use Rattle.frames.specs.LogMessages.{IsCarried}
-use Rattle.round_model.specs.Shims.{ShimState}
+use Rattle.server_shim.specs.Ranges.{IsShimIn}
 use Rattle.tier_model.specs.Back.{Back}
-
--- a call's number, and its code
-abbrev pub IsCode : ℕ × ℕ → Type 0
-IsCode e = IsCallNumber e.0 × (e.1 < 256)
-
--- what the nodes of a tier gave of a call, at most five
-abbrev pub AreTexts : List (Option (List ℕ)) → Type 0
-AreTexts copies = AllByRecursion (λ copy. IfSome copy IsText) copies
-
--- a call's number, and the copies of it
-abbrev pub AreCopies : ℕ × List (Option (List ℕ)) → Type 0
-AreCopies e = IsCallNumber e.0 × ((length e.1 ≡ 5) × AreTexts e.1)
-
--- a floor, settled or told: at least 1
-abbrev pub IsFloorIn : ℕ → Type 0
-IsFloorIn g = (1 ≤ g) × (g < 2 ^ 32)
-
--- what a node keeps of 2u+1 middle nodes
-pub record IsShimIn (u : ℕ) (s : ShimState) : Type 0 where
-  pub faults : s.faults ≡ u
-  pub kept : AllByRecursion IsCode s.kept
-  pub floor : IsFloorIn s.floor
-  pub copies : AllByRecursion AreCopies s.copies
-  pub places : length s.floors ≡ 5
-  pub floors : AllByRecursion IsFloorIn s.floors
 
 -- its log has values that frames of the tier can carry
 pub record IsBackIn {B : Type 0} (u : ℕ) (t : Tier) (σ : Back B) : Type 0 where

@@ -5,7 +5,9 @@ mod calls;
 mod copies;
 mod floors;
 mod kept;
+mod laws;
 mod shim;
 
 pub use kept::Kept;
+pub use laws::shims_in_range;
 pub use shim::Shim;

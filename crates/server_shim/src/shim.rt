@@ -58,7 +58,7 @@ impl Shim {
     }
 
     /// Whether the call was served, or its number is below the floor.
-    fn is_done(&self, no: CallNo) -> bool
+    pub fn is_done(&self, no: CallNo) -> bool
         ensures done { result ≡ is_done self.now no }
     {
         no < self.floor || self.kept.find(no).is_some()
