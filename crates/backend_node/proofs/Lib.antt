@@ -1,1 +1,4 @@
 pub mod Values
+pub mod Decided
+pub mod FirstCopies
+pub mod Turned

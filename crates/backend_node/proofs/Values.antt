@@ -1,9 +1,11 @@
 -- What a learned value does.
 use Rattle.std.proofs.Common.{◌≡◌, ℕ, ◌+◌, ◌*◌, ◌<◌, ◌≤◌, Bool, true, false, cond, List, [], ◌∷◌, ◌++◌, length, take, slice_get, refl, sym, ap, ◌∙◌, subst, arith}
-use Rattle.std.proofs.Common.{Option, Some, None, zero, suc}
+use Rattle.std.proofs.Common.{append_assoc, append-nil, Option, Some, None, zero, suc}
 use Rattle.std.specs.Prelude.{nat_lt}
 use Rattle.std.proofs.lemmas.Bool.{ltb-false}
-use Rattle.std.proofs.lemmas.Option.{slice_get_past}
+use Rattle.std.proofs.lemmas.List.{map-append}
+use Rattle.std.proofs.lemmas.Option.{same_Some, slice_get_past}
+use Rattle.aeg_base.specs.declared.names.End.{End}
 use Rattle.aeg_base.specs.declared.names.Tier.{Tier}
 use Rattle.log_model.specs.Log.{LogState, nobody}
 use Rattle.log_values.specs.Fields.{IsFloor}
@@ -17,7 +19,8 @@ use Rattle.server_shim.specs.Ranges.{IsFloorIn, IsShimIn}
 use Rattle.server_shim.proofs.Ranged.{settles_in}
 use Rattle.tier_model.specs.Moves.{Packet}
 use Rattle.tier_model.specs.Back.{Back, answer_to, after_value, passes, new_value, value_state, value_sends, value_tells}
-use Rattle.tier_model.specs.BackRows.{after_values}
+use Rattle.tier_model.specs.BackRows.{after_values, answers_again}
+use Rattle.node_log.specs.Packets.{sealed, all_sealed}
 use Rattle.backend_node.specs.Backends.{answer_by, answer_of, told_to_all}
 
 -- the shim after a floor of a learned value
@@ -56,3 +59,31 @@ values_next b σ [] zero = refl
 values_next b σ [] (suc i) = refl
 values_next b σ (v ∷ vs) zero = refl
 values_next b σ (v ∷ vs) (suc i) = values_next b (after_value b σ v) vs i
+
+pub values_more : {B : Type 0} (b : Backend B) (σ now new : Back B) (vs : List AnyValue) (i : ℕ) → now ≡ after_values b σ (take i vs)
+    → new ≡ value_state b now (slice_get vs i) → new ≡ after_values b σ (take (i + 1) vs)
+values_more b σ now new vs i e f =
+    let next : suc i ≡ i + 1 = omega arith in
+    f ∙ ap (λ z. value_state b z (slice_get vs i)) e ∙ sym (values_next b σ vs i) ∙ ap (λ (k : ℕ). after_values b σ (take k vs)) next
+
+-- the answers up to the next one
+again_next : (u : ℕ) (t : Tier) (x : ℕ) (es : List (ℕ × ℕ)) (i : ℕ) (e : ℕ × ℕ) → slice_get es i ≡ Some e
+    → answers_again u t x (take (suc i) es) ≡ answers_again u t x (take i es) ++ each (2 * u + 1) nobody (answer_to t x e.0 e.1)
+again_next u t x [] i e f = absurd cc
+again_next u t x (d ∷ es) zero e f =
+    append-nil (each (2 * u + 1) nobody (answer_to t x d.0 d.1)) ∙ ap (λ (z : ℕ × ℕ). each (2 * u + 1) nobody (answer_to t x z.0 z.1)) (same_Some d e f)
+again_next u t x (d ∷ es) (suc i) e f =
+    ap (λ z. each (2 * u + 1) nobody (answer_to t x d.0 d.1) ++ z) (again_next u t x es i e f)
+    ∙ sym (append_assoc (each (2 * u + 1) nobody (answer_to t x d.0 d.1)) (answers_again u t x (take i es))
+        (each (2 * u + 1) nobody (answer_to t x e.0 e.1)))
+
+pub again_more : (u : ℕ) (t : Tier) (x : ℕ) (es : List (ℕ × ℕ)) (i : ℕ) (e : ℕ × ℕ) (first old new : List (End × List ℕ)) → slice_get es i ≡ Some e
+    → old ≡ first ++ all_sealed (answers_again u t x (take i es))
+    → new ≡ old ++ all_sealed (each (2 * u + 1) nobody (answer_to t x e.0 e.1)) → new ≡ first ++ all_sealed (answers_again u t x (take (i + 1) es))
+again_more u t x es i e first old new f o n =
+    let next : suc i ≡ i + 1 = omega arith in
+    let told = answers_again u t x (take i es) in
+    let more = each (2 * u + 1) nobody (answer_to t x e.0 e.1) in
+    n ∙ ap (λ z. z ++ all_sealed more) o ∙ append_assoc first (all_sealed told) (all_sealed more)
+    ∙ ap (λ z. first ++ z) (sym (map-append sealed told more)) ∙ ap (λ z. first ++ all_sealed z) (sym (again_next u t x es i e f))
+    ∙ ap (λ (k : ℕ). first ++ all_sealed (answers_again u t x (take k es))) next

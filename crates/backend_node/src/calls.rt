@@ -7,9 +7,10 @@ ghost use Rattle.backend_node.specs.Deciding.{DecidesMove, IsInRange, IsMember, 
 
 use crate::member::Member;
 use crate::serving::Serving;
-use aeg_base::{Bytes, CallNo, End, Memory, NodeId, Tier};
-use frames::{Idle, Msg, Outbox, Turn};
-use node_log::{Decided, Working, send_one};
+use crate::telling::answer_one;
+use aeg_base::{Bytes, CallNo, Memory};
+use frames::{Idle, Outbox, Turn};
+use node_log::{Decided, Working};
 use server_shim::Kept;
 use svc_api::Backend;
 
@@ -32,12 +33,7 @@ pub fn on_call<B: Backend>(
     match up.rest.shim.kept(no) {
         Kept::Below => Ok(Decided::without_facts(member.alloc, Turn::Idle(Idle::Nothing))),
         Kept::Answer(code) => {
-            let message = Msg::Answer { no, code };
-            let to = End::Node(NodeId {
-                tier: Tier::Mid,
-                index: from,
-            });
-            send_one(member.alloc, End::Node(member.me), to, &message, out)?;
+            answer_one(member, from, no, code, out)?;
             Ok(Decided::without_facts(member.alloc, Turn::Did))
         }
         Kept::NotDone => note_copy(member, up, from, no, body, out),

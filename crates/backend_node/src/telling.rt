@@ -1,5 +1,5 @@
 // What a backend node tells its middle nodes.
-ghost use Rattle.std.specs.Prelude.{◌≡◌, ◌+◌, ◌*◌, ◌++◌, OnOk, IfSome};
+ghost use Rattle.std.specs.Prelude.{◌≡◌, ◌+◌, ◌*◌, ◌++◌, ◌∷◌, [], OnOk, OnErr, IfSome};
 ghost use Rattle.std.specs.List.{AllByRecursion};
 ghost use Rattle.log_model.specs.Log.{nobody};
 ghost use Rattle.round_model.specs.Lists.{each};
@@ -12,10 +12,39 @@ ghost use Rattle.backend_node.specs.Deciding.{IsInRange, IsMember, back_in};
 
 use crate::member::Member;
 use crate::serving::Serving;
-use aeg_base::{CallNo, End, Memory, Tier};
+use aeg_base::{CallNo, End, Memory, NodeId, Tier};
 use frames::{Msg, Outbox};
-use node_log::{Working, send_asks, send_to_tier};
+use node_log::{Working, send_asks, send_one, send_to_tier};
 use svc_api::Backend;
+
+/// Answers a call to one middle node.
+pub fn answer_one(
+    member: Member,
+    to: u8,
+    no: CallNo,
+    code: u8,
+    out: &mut Outbox,
+) -> Result<(), Memory>
+    requires member { IsMember member }
+    requires fits { IsCode (no, code) }
+    ensures sent { OnOk result (out.new ≡ out.old ++ all_sealed (answer_to member.me.tier member.me.index no code to ∷ [])) }
+    ensures none { OnErr result (out.new ≡ out.old) }
+{
+    let message = Msg::Answer { no, code };
+    let to = NodeId {
+        tier: Tier::Mid,
+        index: to,
+    };
+    let sent = send_one(
+        member.alloc,
+        End::Node(member.me),
+        End::Node(to),
+        &message,
+        out,
+    );
+    drop(message);
+    sent
+}
 
 /// Answers a call to all middle nodes.
 fn send_answer(member: Member, no: CallNo, code: u8, out: &mut Outbox) -> Result<(), Memory>
