@@ -1,10 +1,12 @@
 // What a leading backend node offers.
-ghost use Rattle.std.specs.Prelude.{◌≡◌, IfOk};
+ghost use Rattle.std.specs.Prelude.{◌≡◌, ◌&&◌, not, IfOk, option_copied};
 ghost use Rattle.log_model.specs.Rows.{offer, wants};
 ghost use Rattle.paxos_log.specs.TierLog.{CanOffer};
+ghost use Rattle.round_model.specs.Lists.{is_some};
 ghost use Rattle.round_model.specs.Shims.{due_floor, ready};
 ghost use Rattle.tier_model.specs.Back.{in_log};
 ghost use Rattle.tier_model.specs.BackRows.{offers, own_by, own_value};
+ghost use Rattle.node_log.specs.Packets.{needs_own};
 ghost use Rattle.backend_node.specs.Backends.{backend_by};
 ghost use Rattle.backend_node.specs.Deciding.{DecidesMove, IsInRange, IsMember, back_in, idle_in};
 
@@ -15,6 +17,7 @@ use aeg_base::Memory;
 use frames::{Idle, Outbox, Turn};
 use log_values::{AnyValue, BackValue};
 use node_log::{Decided, Working, needs_own, offer_cause};
+use paxos_log::Offering;
 use server_shim::Shim;
 use svc_api::Backend;
 
@@ -31,24 +34,30 @@ fn own_value(shim: &Shim) -> Result<Option<AnyValue>, Memory>
     }
 }
 
+/// Whether only a value of its own can be offered, and there is none.
+fn lacks_own(wants: Offering, own: &Option<AnyValue>) -> bool
+    ensures { result ≡ (needs_own wants && not (is_some own.now)) }
+{
+    needs_own(wants) && own.is_none()
+}
+
 /// Offers the reported value or, where none was reported, its own.
 fn offer_value<B: Backend>(
     member: Member,
     up: &mut Working<Serving<B>>,
-    own: Option<AnyValue>,
+    own: Option<&AnyValue>,
     out: &mut Outbox,
 ) -> Result<Decided, Memory>
     requires member { IsMember member }
     requires range { IsInRange member up.old }
-    requires own { own ≡ own_value (back_in up.old) }
-    requires can { CanOffer (wants member.faults up.old.log.state) own }
+    requires own { option_copied own ≡ own_value (back_in up.old) }
+    requires can { CanOffer (wants member.faults up.old.log.state) (option_copied own) }
     ensures { DecidesMove member (in_log member.faults (backend_by B.opening B.state_after B.code_of) member.me.tier member.me.index (back_in up.old)
-        (offer member.faults member.me.index up.old.log.state own)) up.old up.new out.old out.new result }
+        (offer member.faults member.me.index up.old.log.state (own_value (back_in up.old)))) up.old up.new out.old out.new result }
 {
     let open = up.log.first_open();
-    let turn = up.log.offer(own.as_ref());
-    drop(own);
-    take_turn(member, up, open, turn?, out)
+    let turn = up.log.offer(own)?;
+    take_turn(member, up, open, turn, out)
 }
 
 /// Offers a value, where it leads and there is one.
@@ -67,10 +76,12 @@ pub fn offer<B: Backend>(
         return Ok(Decided::without_facts(member.alloc, Turn::Idle(cause)));
     }
     let own = own_value(&up.rest.shim)?;
-    if needs_own(wants) && own.is_none() {
+    if lacks_own(wants, &own) {
         return Ok(Decided::without_facts(member.alloc, Turn::Idle(Idle::Nothing)));
     }
-    offer_value(member, up, own, out)
+    let decided = offer_value(member, up, own.as_ref(), out);
+    drop(own);
+    decided
 }
 
 /// Why an offer would be idle, if it would be.
@@ -88,7 +99,9 @@ pub fn offer_idle<B: Backend>(
         return Ok(Some(cause));
     }
     let own = own_value(&up.rest.shim)?;
-    if needs_own(wants) && own.is_none() {
+    let lacks = lacks_own(wants, &own);
+    drop(own);
+    if lacks {
         return Ok(Some(Idle::Nothing));
     }
     Ok(None)
