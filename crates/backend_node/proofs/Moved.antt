@@ -1,5 +1,5 @@
 -- What a backend node decided and settled is its row's move.
-use Rattle.std.proofs.Common.{◌≡◌, ℕ, List, length, take, sym, subst, Some, Result}
+use Rattle.std.proofs.Common.{◌≡◌, ℕ, List, length, take, sym, ap, ◌∙◌, subst, Some, Result, Err}
 use Rattle.std.specs.Prelude.{OnOk, OnErr}
 use Rattle.aeg_base.specs.declared.memory.Memory.{Memory}
 use Rattle.aeg_base.specs.declared.names.End.{End}
@@ -7,14 +7,16 @@ use Rattle.aeg_base.specs.declared.names.Tier.{Tier}
 use Rattle.aeg_disk.specs.Disk.{DiskState}
 use Rattle.frames.specs.declared.turn.Turn.{Turn as Answer}
 use Rattle.frames.specs.declared.turn.Fault.{Fault}
+use Rattle.frames.specs.declared.turn.Fault.TheVariants as faults
 use Rattle.tier_model.specs.Moves.{Move}
 use Rattle.tier_model.specs.Back.{Back}
 use Rattle.node_log.specs.declared.decided.Decided.{Decided}
 use Rattle.node_log.specs.declared.working.Working.{Working}
 use Rattle.node_log.specs.LogNodes.{Standing, WasAtWork, standing_in}
+use Rattle.node_log.specs.Packets.{StillHas}
 use Rattle.node_log.specs.Settling.{Decides, Records}
-use Rattle.node_log.specs.Views.{View, Moves, seen_as, went_down}
-use Rattle.node_log.proofs.Moved.{moves}
+use Rattle.node_log.specs.Views.{View, Moves, Tells, seen_as, went_down}
+use Rattle.node_log.proofs.Moved.{moves, taken_back}
 use Rattle.backend_node.specs.declared.member.Member.{Member}
 use Rattle.backend_node.specs.declared.serving.Serving.{Serving}
 use Rattle.backend_node.specs.Backends.{back_of}
@@ -53,3 +55,15 @@ module _ {B : Type 0} (m : Member) (now down new : View (Standing (Serving B))) 
       (subst (λ (z : Tier). Moves self (seen_as back_of new) a b before after (row self.faults z m.me.index) result) k.tier
       (subst (λ (z : ℕ). Moves self (seen_as back_of new) a b before after (row z m.me.tier m.me.index) result) k.faults
       (subst (λ (z : View (Back B)). Moves z (seen_as back_of new) a b before after (row m.faults m.me.tier m.me.index) result) seen (by_member d s))))
+
+-- memory ran out as packets were made: they are taken back
+pub told_none : {B : Type 0} (now down : View (Standing (Serving B))) (self : View (Back B)) (before between after : List (End × List ℕ))
+    (row : Back B → Move (Back B)) → down ≡ went_down now → seen_as back_of now ≡ self → StillHas before between → after ≡ take (length before) between
+    → Tells self (seen_as back_of down) before after row (Err faults.Memory)
+told_none {B} now down self before between after row left seen kept back = record {
+  made = tt;
+  same_place = ap (λ (z : View (Standing (Serving B))). z.place) left ∙ ap (λ (z : View (Back B)). z.place) seen;
+  down = ap (seen_as back_of) left ∙ ap (λ (z : View (Back B)). went_down z) seen;
+  nothing_sent = taken_back before between after kept back;
+  memory = λ fault e. cc;
+}

@@ -176,10 +176,10 @@ impl<B: Backend> BackNode<B> {
                 self.node.put_back(up);
                 Ok(Turn::Did)
             }
-            Err(memory) => {
+            Err(Memory) => {
                 drop(up);
                 out.truncate(sent);
-                Err(memory.into())
+                Err(Fault::Memory)
             }
         }
     }

@@ -89,7 +89,8 @@ pub fn send_answer_if(
 fn send_answers(member: Member, codes: &[(CallNo, u8)], out: &mut Outbox) -> Result<(), Memory>
     requires member { IsMember member }
     requires fit { AllByRecursion IsCode codes.now }
-    ensures { OnOk result (out.new ≡ out.old ++ all_sealed (answers_again member.faults member.me.tier member.me.index codes.now)) }
+    ensures sent { OnOk result (out.new ≡ out.old ++ all_sealed (answers_again member.faults member.me.tier member.me.index codes.now)) }
+    ensures kept { StillHas out.old out.new }
 {
     for i in 0..codes.len() {
         let (no, code) = codes[i];
@@ -106,7 +107,8 @@ pub fn tell_again<B: Backend>(
 ) -> Result<(), Memory>
     requires member { IsMember member }
     requires range { IsInRange member up.now }
-    ensures { OnOk result (out.new ≡ out.old ++ all_sealed (retry member.faults member.me.tier member.me.index (back_in up.now)).sends) }
+    ensures sent { OnOk result (out.new ≡ out.old ++ all_sealed (retry member.faults member.me.tier member.me.index (back_in up.now)).sends) }
+    ensures kept { StillHas out.old out.new }
 {
     let at = up.log.first_open();
     send_asks(member.alloc, member.faults, member.me, at, out)?;

@@ -6,3 +6,4 @@ pub mod Turns
 pub mod ToTiers
 pub mod Left
 pub mod Quiet
+pub mod Ready

@@ -22,7 +22,7 @@ ghost use Rattle.tier_model.specs.Moves.{Move, as_fact};
 ghost use Rattle.node_log.specs.declared.decided.Decided.{Decided};
 ghost use Rattle.node_log.specs.declared.working.Working.{Working};
 ghost use Rattle.node_log.specs.Packets.{all_sealed};
-ghost use Rattle.node_log.specs.Views.{View, CameUp, Moves, Restarts, Tells, is_up, seen_as, went_down};
+ghost use Rattle.node_log.specs.Views.{View, CameUp, MayWrite, Moves, Restarts, Tells, is_up, seen_as, went_down};
 ghost use Rattle.node_log.specs.Quiet.{IsIdleTurn, IsQuietFrom, IsUnmoved, is_quiet};
 ghost use Rattle.node_log.specs.LogNodes.{Standing, IsLogTurn, IsOwnLog, WasAtWork, standing_in};
 ghost use Rattle.node_log.specs.Settling.{CanRecord, Decides, Records};
@@ -65,6 +65,14 @@ pub fn quiet_moves<S>()
     ensures { (row : S → Move S) (old new : View S) (a b : DiskState) (before after : List (End × List ℕ)) (result : Result Answer Fault)
         → is_up old ≡ true → ((s : S) → IsQuietFrom s (row s)) → Moves old new a b before after row result
         → IfOk result (λ answer. is_quiet answer ≡ true → IsUnmoved old new a b before after) }
+{}
+
+/// A node may write again after a move without a fault, and after a restart.
+pub fn ready_again<S>()
+    ensures moved { (row : S → Move S) (old new : View S) (a b : DiskState) (before after : List (End × List ℕ)) (result : Result Answer Fault)
+        → is_up old ≡ true → MayWrite old a → Moves old new a b before after row result → OnOk result (MayWrite new b) }
+    ensures restarted { (old new : View S) (a b : DiskState) (recovered : List Fact → S) (result : Result (Unit {0}) Fault)
+        → Restarts old new a b recovered result → OnOk result (MayWrite new b) }
 {}
 
 /// The rows of a node's log do nothing where they tell why, and an offer never tells.

@@ -16,7 +16,7 @@ mod working;
 pub use answers::{answer_of, needs_own, offer_cause};
 pub use decided::{Decided, decide_turn};
 pub use facts::facts_of;
-pub use laws::{log_turns, moves, quiet_moves, quiet_turns, restarts, tells};
+pub use laws::{log_turns, moves, quiet_moves, quiet_turns, ready_again, restarts, tells};
 pub use log_node::LogNode;
 pub use peers::node_in;
 pub use restoring::restored;
