@@ -1,5 +1,5 @@
 -- A copy of a call that counts.
-use Rattle.std.proofs.Common.{◌≡◌, ℕ, Bool, true, false, ◌||◌, cond, List, [], not, refl, sym, ap, ◌∙◌, subst, append-nil, Option, Some, None, Ok}
+use Rattle.std.proofs.Common.{◌≡◌, ℕ, Bool, true, false, ◌||◌, cond, List, [], not, refl, sym, ap, ◌∙◌, subst, append-nil, Ok}
 use Rattle.aeg_base.specs.declared.names.End.{End}
 use Rattle.log_values.specs.Fields.{IsCallNumber, IsText}
 use Rattle.frames.specs.declared.turn.Turn.TheVariants.{Did}

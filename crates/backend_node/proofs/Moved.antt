@@ -14,13 +14,13 @@ use Rattle.node_log.specs.declared.decided.Decided.{Decided}
 use Rattle.node_log.specs.declared.working.Working.{Working}
 use Rattle.node_log.specs.LogNodes.{Standing, WasAtWork, standing_in}
 use Rattle.node_log.specs.Packets.{StillHas}
-use Rattle.node_log.specs.Settling.{Decides, Records}
+use Rattle.node_log.specs.Settling.{Records}
 use Rattle.node_log.specs.Views.{View, Moves, Tells, seen_as, went_down}
 use Rattle.node_log.proofs.Moved.{moves, taken_back}
 use Rattle.backend_node.specs.declared.member.Member.{Member}
 use Rattle.backend_node.specs.declared.serving.Serving.{Serving}
 use Rattle.backend_node.specs.Backends.{back_of}
-use Rattle.backend_node.specs.Deciding.{DecidesMove, IsMember, back_in}
+use Rattle.backend_node.specs.Deciding.{DecidesMove, back_in}
 
 -- it is this node, in the tier and with the index that are seen
 pub record IsSelf {B : Type 0} (m : Member) (self : View (Back B)) : Type 0 where

@@ -1,5 +1,5 @@
 -- Rows of a backend node that answer that nothing was done.
-use Rattle.std.proofs.Common.{◌≡◌, ℕ, ◌+◌, ◌*◌, ◌≤◌, Bool, true, false, cond, List, [], ◌∷◌, length, refl, sym, ap, ◌∙◌, subst, arith, Option, Some, None, Result, Ok, Err}
+use Rattle.std.proofs.Common.{◌≡◌, ℕ, Bool, true, false, cond, List, [], ◌∷◌, length, refl, sym, ap, ◌∙◌, subst, arith, Option, Some, None, Result, Ok, Err}
 use Rattle.std.specs.Prelude.{nat_lt, IfSome}
 use Rattle.std.proofs.lemmas.Option.{slice_get_past}
 use Rattle.aeg_base.specs.declared.names.End.{End}
@@ -25,7 +25,7 @@ use Rattle.round_model.specs.Service.{Backend}
 use Rattle.round_model.specs.Shims.{copies_at, copy_of, rises_to, told_floor}
 use Rattle.tier_model.specs.Moves.{Packet, Move, becomes, drops, idles, is_node_of, log_answer, says}
 use Rattle.tier_model.specs.Back.{Back, answer_to, in_log, new_value, value_state, value_tells}
-use Rattle.tier_model.specs.BackRows.{call_as, copied, leads, notes_copy, offers, offers_as, on_call, on_frame, on_settle, own_value}
+use Rattle.tier_model.specs.BackRows.{call_as, copied, leads, offers, offers_as, on_call, on_frame, on_settle, own_value}
 use Rattle.node_log.specs.Quiet.{IsIdleTurn, IsQuietFrom, is_quiet}
 use Rattle.node_log.specs.Received.{on_bytes, on_read, refuses}
 use Rattle.node_log.proofs.Quiet.{message_idle, lead_idle, offer_none}

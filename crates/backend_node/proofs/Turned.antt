@@ -1,5 +1,5 @@
 -- The turns of a backend node's log.
-use Rattle.std.proofs.Common.{◌≡◌, ℕ, ◌+◌, ◌*◌, ◌<◌, ◌≤◌, true, List, refl, sym, subst, arith, Option, Some, None}
+use Rattle.std.proofs.Common.{◌≡◌, ℕ, ◌+◌, ◌*◌, ◌<◌, true, List, refl, sym, subst, arith, Option, Some, None}
 use Rattle.std.specs.Prelude.{nat_lt, IfSome}
 use Rattle.std.proofs.lemmas.Bool.{and_parts}
 use Rattle.aeg_base.specs.declared.names.End.{End}
@@ -24,7 +24,7 @@ use Rattle.frames.specs.Frames.{FitsFrame}
 use Rattle.frames.specs.LogMessages.{IsCarried, FitsLog}
 use Rattle.paxos_log.specs.TierLog.{NodeLog}
 use Rattle.round_model.specs.Shims.{ShimState, ready, due_floor}
-use Rattle.server_shim.specs.Ranges.{IsCall, IsShimIn}
+use Rattle.server_shim.specs.Ranges.{IsCall}
 use Rattle.server_shim.proofs.Ranged.{ready_in, settled_in}
 use Rattle.tier_model.specs.Moves.{is_node_of}
 use Rattle.tier_model.specs.BackRows.{own_by, own_value}

@@ -1,5 +1,5 @@
 -- What a learned value does.
-use Rattle.std.proofs.Common.{◌≡◌, ℕ, ◌+◌, ◌*◌, ◌<◌, ◌≤◌, Bool, true, false, cond, List, [], ◌∷◌, ◌++◌, length, take, slice_get, refl, sym, ap, ◌∙◌, subst, arith}
+use Rattle.std.proofs.Common.{◌≡◌, ℕ, ◌+◌, ◌*◌, Bool, true, false, cond, List, [], ◌∷◌, ◌++◌, length, take, slice_get, refl, sym, ap, ◌∙◌, subst, arith}
 use Rattle.std.proofs.Common.{append_assoc, append-nil, Option, Some, None, zero, suc}
 use Rattle.std.specs.Prelude.{nat_lt}
 use Rattle.std.proofs.lemmas.Bool.{ltb-false}
@@ -15,7 +15,7 @@ use Rattle.log_values.specs.declared.back_value.BackValue.TheVariants.{Call, Set
 use Rattle.round_model.specs.Lists.{each}
 use Rattle.round_model.specs.Service.{Backend}
 use Rattle.round_model.specs.Shims.{ShimState, settles}
-use Rattle.server_shim.specs.Ranges.{IsFloorIn, IsShimIn}
+use Rattle.server_shim.specs.Ranges.{IsShimIn}
 use Rattle.server_shim.proofs.Ranged.{settles_in}
 use Rattle.tier_model.specs.Moves.{Packet}
 use Rattle.tier_model.specs.Back.{Back, answer_to, after_value, passes, new_value, value_state, value_sends, value_tells}

@@ -1,5 +1,5 @@
 -- A backend's replica, as the rows of its node see it.
-use Rattle.std.specs.Prelude.{◌≡◌, ℕ, ◌+◌, ◌*◌, ◌<◌, ◌≤◌, List, [], slice_get, Option, Some, None, if◌then◌else◌}
+use Rattle.std.specs.Prelude.{◌≡◌, ℕ, ◌+◌, ◌*◌, List, [], slice_get, Option, Some, None, if◌then◌else◌}
 use Rattle.aeg_base.specs.declared.names.Tier.{Tier}
 use Rattle.log_model.specs.Log.{LogState, nobody}
 use Rattle.log_values.specs.declared.any_value.AnyValue.{AnyValue}

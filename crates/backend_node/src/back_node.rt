@@ -1,5 +1,5 @@
 // A backend node.
-ghost use Rattle.std.specs.Prelude.{◌≡◌, ◌+◌, ◌*◌, ◌<◌, ◌≤◌, true, false, IfOk, IfSome};
+ghost use Rattle.std.specs.Prelude.{◌≡◌, ◌+◌, ◌*◌, ◌<◌, ◌≤◌, true, false, IfOk, IfSome, OnOk};
 ghost use Rattle.svc_api.specs.Plan.{IsBackend};
 ghost use Rattle.fact_journal.specs.Fitting.{FactsFit};
 ghost use Rattle.tier_model.specs.BackRows.{leads, offers, on_frame, recovered, retry};
@@ -114,6 +114,7 @@ impl<B: Backend> BackNode<B> {
             bytes.now) result }
         ensures quiet { IfOk result (λ answer. is_quiet answer ≡ true
             → IsUnmoved self.old self.new (D.state disk.old) (D.state disk.new) out.old out.new) }
+        ensures ready { OnOk result (MayWrite self.new (D.state disk.new)) }
     {
         let member = self.member();
         let mut up = self.node.take_up();
@@ -130,6 +131,7 @@ impl<B: Backend> BackNode<B> {
             (leads self.old.faults (backend_by B.opening B.state_after B.code_of) self.old.tier self.old.me) result }
         ensures quiet { IfOk result (λ answer. is_quiet answer ≡ true
             → IsUnmoved self.old self.new (D.state disk.old) (D.state disk.new) out.old out.new) }
+        ensures ready { OnOk result (MayWrite self.new (D.state disk.new)) }
     {
         let member = self.member();
         let mut up = self.node.take_up();
@@ -146,6 +148,7 @@ impl<B: Backend> BackNode<B> {
             (offers self.old.faults (backend_by B.opening B.state_after B.code_of) self.old.tier self.old.me) result }
         ensures quiet { IfOk result (λ answer. is_quiet answer ≡ true
             → IsUnmoved self.old self.new (D.state disk.old) (D.state disk.new) out.old out.new) }
+        ensures ready { OnOk result (MayWrite self.new (D.state disk.new)) }
     {
         let member = self.member();
         let mut up = self.node.take_up();
@@ -187,8 +190,9 @@ impl<B: Backend> BackNode<B> {
     /// Comes up from what its disk has.
     pub fn restart<D: Disk>(&mut self, disk: &mut D) -> Result<(), Fault>
         requires { is_up self.old ≡ false }
-        ensures { Restarts self.old self.new (D.state disk.old) (D.state disk.new)
+        ensures restarted { Restarts self.old self.new (D.state disk.old) (D.state disk.new)
             (recovered self.old.faults (backend_by B.opening B.state_after B.code_of)) result }
+        ensures ready { OnOk result (MayWrite self.new (D.state disk.new)) }
     {
         let opened = self.node.open(disk);
         self.come_up(opened)

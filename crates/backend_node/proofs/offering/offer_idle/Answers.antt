@@ -1,4 +1,4 @@
-use Rattle.std.proofs.Common.{◌≡◌, ap, subst, sym, ◌∙◌}
+use Rattle.std.proofs.Common.{ap, sym, ◌∙◌}
 use Rattle.log_model.specs.Rows.{wants}
 use Rattle.backend_node.specs.Backends.{backend_by}
 use Rattle.backend_node.specs.Deciding.{back_in}

@@ -1,8 +1,7 @@
 use Rattle.std.proofs.Common.{refl}
 use Rattle.node_log.specs.LogNodes.{whole_turn}
 use Rattle.node_log.proofs.Turns.{turn_sends}
-use Rattle.tier_model.specs.Back.{in_log}
-use Rattle.backend_node.specs.Backends.{back_with, backend_by}
+use Rattle.backend_node.specs.Backends.{backend_by}
 use Rattle.backend_node.proofs.Decided.{all_fit, had_none, kept_both, taken}
 use Rattle.backend_node.proofs.turns.take_turn.Goals as goal
 

@@ -3,6 +3,7 @@ use Rattle.std.specs.Prelude.{OnErr}
 use Rattle.tier_model.specs.BackRows.{on_frame}
 use Rattle.node_log.specs.Received.{on_bytes}
 use Rattle.node_log.proofs.Quiet.{unmoved}
+use Rattle.node_log.proofs.Ready.{moved as ready}
 use Rattle.backend_node.specs.Backends.{backend_by}
 use Rattle.backend_node.proofs.Moved.{moved}
 use Rattle.backend_node.proofs.QuietRows.{bytes_quiet}
@@ -35,3 +36,10 @@ returns-clause-quiet g c =
     unmoved (on_bytes (λ from message σ. on_frame self.faults b self.tier self.me σ from message) c.args.bytes.now) self _ (g.D.Disk.state c.args.disk.now) (g.D.Disk.state c.settle.new.disk) c.args.out.now
     c.settle.new.out c.settle.result c.requires.up (λ σ. bytes_quiet self.faults b self.tier self.me σ c.args.bytes.now)
     (returns-clause-moved g c)
+
+pub returns-clause-ready : goal.returns-clause-ready
+returns-clause-ready g c =
+    let b = backend_by g.B.Backend.opening g.B.Backend.state_after g.B.Backend.code_of in
+    let self = c.args.self.now in
+    ready (on_bytes (λ from message σ. on_frame self.faults b self.tier self.me σ from message) c.args.bytes.now) self _ (g.D.Disk.state c.args.disk.now) (g.D.Disk.state c.settle.new.disk) c.args.out.now c.settle.new.out c.settle.result c.requires.up
+    c.requires.disk (returns-clause-moved g c)

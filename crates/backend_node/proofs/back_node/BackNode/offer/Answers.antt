@@ -2,6 +2,7 @@ use Rattle.std.proofs.Common.{◌≡◌, length, take, subst}
 use Rattle.std.specs.Prelude.{OnErr}
 use Rattle.tier_model.specs.BackRows.{offers}
 use Rattle.node_log.proofs.Quiet.{unmoved}
+use Rattle.node_log.proofs.Ready.{moved as ready}
 use Rattle.backend_node.specs.Backends.{backend_by}
 use Rattle.backend_node.proofs.Moved.{moved}
 use Rattle.backend_node.proofs.QuietRows.{offers_quiet}
@@ -34,3 +35,10 @@ returns-clause-quiet g c =
     unmoved (offers self.faults b self.tier self.me) self _ (g.D.Disk.state c.args.disk.now) (g.D.Disk.state c.settle.new.disk) c.args.out.now
     c.settle.new.out c.settle.result c.requires.up (λ σ. offers_quiet self.faults b self.tier self.me σ)
     (returns-clause-moved g c)
+
+pub returns-clause-ready : goal.returns-clause-ready
+returns-clause-ready g c =
+    let b = backend_by g.B.Backend.opening g.B.Backend.state_after g.B.Backend.code_of in
+    let self = c.args.self.now in
+    ready (offers self.faults b self.tier self.me) self _ (g.D.Disk.state c.args.disk.now) (g.D.Disk.state c.settle.new.disk) c.args.out.now c.settle.new.out c.settle.result c.requires.up
+    c.requires.disk (returns-clause-moved g c)
