@@ -1,9 +1,9 @@
 -- The moves of a backend node.
-use Rattle.std.proofs.Common.{◌≡◌, ℕ, ◌+◌, ◌-◌, ◌*◌, ◌<◌, ◌≤◌, ◌^◌, Bool, true, false, cond, List, [], ◌∷◌, ◌++◌, length, refl, sym, ap, ◌∙◌, subst}
-use Rattle.std.proofs.Common.{arith, Option, Some, None, zero, suc}
+use Rattle.std.proofs.Common.{◌≡◌, ℕ, ◌+◌, ◌-◌, ◌*◌, ◌<◌, ◌≤◌, Bool, true, false, cond, List, [], ◌∷◌, ◌++◌, length, refl, sym, ap, ◌∙◌, subst}
+use Rattle.std.proofs.Common.{arith, Option, Some, None}
 use Rattle.std.specs.Prelude.{slice_get, nat_lt, IfSome}
-use Rattle.std.proofs.lemmas.Bool.{cond_both, lt-ltb, ltb-true, or_left}
-use Rattle.std.proofs.lemmas.List.{length-append, length-map, length-drop, length-set}
+use Rattle.std.proofs.lemmas.Bool.{cond_both, lt-ltb, or_left}
+use Rattle.std.proofs.lemmas.List.{length-append, length-map, length-drop}
 use Rattle.aeg_base.specs.declared.names.End.{End}
 use Rattle.aeg_base.specs.declared.names.Tier.{Tier}
 use Rattle.aeg_base.specs.declared.names.Tier.TheVariants.{Mid as InMid, Inv, Pay}
@@ -32,12 +32,12 @@ use Rattle.frames.specs.LogMessages.{IsCarried, FitsLog}
 use Rattle.frames.specs.Frames.{FitsFrame}
 use Rattle.frames.specs.Headers.{end_index, is_sent_by_tier}
 use Rattle.fact_journal.specs.Fitting.{Fit, all_facts, open_after_all}
-use Rattle.round_model.specs.Lists.{is_some, and_then, lowest, each}
-use Rattle.round_model.specs.Numbered.{find, from, first, last, picked, picked_as}
+use Rattle.round_model.specs.Lists.{is_some, each}
+use Rattle.round_model.specs.Numbered.{find, from, last}
 use Rattle.round_model.specs.Service.{Backend, Service}
 use Rattle.round_model.specs.Held.{held_code}
-use Rattle.round_model.specs.Shims.{ShimState, new_shim, copy_of, copies_or_none, copies_at, with_copy, notes, agreed, ready, is_backed, serves}
-use Rattle.round_model.specs.Shims.{settles, floor_at, rises_to, told_floor, is_more, due_among, due, due_floor, highest}
+use Rattle.round_model.specs.Shims.{copy_of, copies_at, ready}
+use Rattle.round_model.specs.Shims.{rises_to, told_floor, due_floor, highest}
 use Rattle.tier_model.specs.Moves.{as_fact, node, is_node_of, Packet, Move, idles, drops, log_packets, log_packet, asks, log_facts}
 use Rattle.tier_model.specs.Back.{Back, with_log, answer_to, passes, after_value, new_value, value_state, value_tells, in_log}
 use Rattle.tier_model.specs.BackRows.{copied, call_as, on_call, on_settle, on_frame, leads, own_by, own_value, offers_as, offers, answers_again}

@@ -1,14 +1,13 @@
 -- What holds of each item of a list.
-use Rattle.std.proofs.Common.{◌≡◌, ℕ, ◌<◌, ◌≤◌, Bool, true, false, cond, List, [], ◌∷◌, ◌++◌, length, map, replicate}
+use Rattle.std.proofs.Common.{◌≡◌, ℕ, ◌<◌, ◌≤◌, Bool, true, false, cond, List, [], ◌∷◌, ◌++◌, length, map}
 use Rattle.std.proofs.Common.{refl, sym, ap, ◌∙◌, inl, inr, arith, Option, Some, None, zero, suc}
-use Rattle.std.specs.Prelude.{slice_get, slice_set, slice_index_or, take, drop, nat_lt, ◌==◌, IfSome, ◌⊎◌}
+use Rattle.std.specs.Prelude.{slice_get, take, ◌⊎◌}
 use Rattle.std.proofs.lemmas.Bool.{cases_eq, cond_both}
 use Rattle.std.proofs.lemmas.List.{length-append}
 use Rattle.std.specs.List.{All}
 use Rattle.std.proofs.lemmas.List.Elements.{All-head, All-tail}
 use Rattle.log_model.proofs.Basics.{Every, every-append}
 use Rattle.round_model.specs.Lists.{each, at, put_at}
-use Rattle.round_model.specs.Numbered.{find, put, without, from}
 
 -- ONE FOR EACH
 
