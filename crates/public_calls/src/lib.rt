@@ -5,6 +5,8 @@
 #[cfg(test)]
 mod acceptors_and_learners;
 #[cfg(test)]
+mod backend_nodes;
+#[cfg(test)]
 mod clients_and_batches;
 #[cfg(test)]
 mod frame_bytes;
