@@ -75,7 +75,7 @@ again_next u t x (d ∷ es) zero e f =
 again_next u t x (d ∷ es) (suc i) e f =
     ap (λ z. each (2 * u + 1) nobody (answer_to t x d.0 d.1) ++ z) (again_next u t x es i e f)
     ∙ sym (append_assoc (each (2 * u + 1) nobody (answer_to t x d.0 d.1)) (answers_again u t x (take i es))
-        (each (2 * u + 1) nobody (answer_to t x e.0 e.1)))
+    (each (2 * u + 1) nobody (answer_to t x e.0 e.1)))
 
 pub again_more : (u : ℕ) (t : Tier) (x : ℕ) (es : List (ℕ × ℕ)) (i : ℕ) (e : ℕ × ℕ) (first old new : List (End × List ℕ)) → slice_get es i ≡ Some e
     → old ≡ first ++ all_sealed (answers_again u t x (take i es))

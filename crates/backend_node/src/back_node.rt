@@ -199,10 +199,7 @@ impl<B: Backend> BackNode<B> {
     }
 
     /// Comes up with what the facts of the opened journal leave, the oldest one first.
-    fn come_up(
-        &mut self,
-        opened: Result<(FactJournal, Vec<Fact>), Fault>,
-    ) -> Result<(), Fault>
+    fn come_up(&mut self, opened: Result<(FactJournal, Vec<Fact>), Fault>) -> Result<(), Fault>
         requires down { is_up self.old ≡ false }
         requires fit { IfOk opened (λ r. FactsFit self.old.tier 0 r.1.items) }
         ensures { ComesUp self.old self.new (recovered self.old.faults (backend_by B.opening B.state_after B.code_of)) opened result }

@@ -57,13 +57,25 @@ const LEARNS: [Taken; 6] = [
             (Tier::Mid, 2, DENIED),
         ],
     ),
-    (b"\x01\x0a\x00\x00\x00\x10\x00\x00\x00\x01\x0breserve 1 2", false, &[]),
-    (b"\x01\x01\x03\x01\x00\x0b\x00\x00\x00\x01\x06look 5", false, &[]),
+    (
+        b"\x01\x0a\x00\x00\x00\x10\x00\x00\x00\x01\x0breserve 1 2",
+        false,
+        &[],
+    ),
+    (
+        b"\x01\x01\x03\x01\x00\x0b\x00\x00\x00\x01\x06look 5",
+        false,
+        &[],
+    ),
 ];
 
 /// What the middle nodes tell, and a promise of ballot (1, 0).
 const FLOORS: [Taken; 4] = [
-    (b"\x01\x04\x01\x01\x00\x08\x00\x00\x00\x01\x00\x00\x00\x00", true, &[]),
+    (
+        b"\x01\x04\x01\x01\x00\x08\x00\x00\x00\x01\x00\x00\x00\x00",
+        true,
+        &[],
+    ),
     (b"\x01\x0d\x00\x00\x00\x04\x00\x00\x00\x04", true, &[]),
     (b"\x01\x0d\x00\x01\x00\x04\x00\x00\x00\x02", true, &[]),
     (b"\x01\x0d\x00\x02\x00\x04\x00\x00\x00\x03", true, &[]),
@@ -170,11 +182,7 @@ fn learned_calls_are_served_once(rt: HostRuntime) -> Result<(), Fail> {
 }
 
 /// Whether it begins to lead, and asks the others for their promises.
-fn leads<D: Disk>(
-    alloc: Global,
-    node: &mut BackNode<Inventory>,
-    disk: &mut D,
-) -> Result<bool, Fail>
+fn leads<D: Disk>(alloc: Global, node: &mut BackNode<Inventory>, disk: &mut D) -> Result<bool, Fail>
     requires { MayWrite node.old (D.state disk.old) }
     ensures { OnOk result (MayWrite node.new (D.state disk.new)) }
 {
