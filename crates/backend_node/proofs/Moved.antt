@@ -44,7 +44,8 @@ module _ {B : Type 0} (m : Member) (now down new : View (Standing (Serving B))) 
 
   by_member : DecidesMove m (row m.faults m.me.tier m.me.index (back_in held)) held next before between decided → Settled
       → Moves (seen_as back_of now) (seen_as back_of new) a b before after (row m.faults m.me.tier m.me.index) result
-  by_member d s = moves back_of (row m.faults m.me.tier m.me.index) now down new held next before after (subst (WasAtWork now) (sym s.held_is) s.taken) s.left a b
+  by_member d s = moves back_of (row m.faults m.me.tier m.me.index) now down new held next before after
+      (subst (WasAtWork now) (sym s.held_is) s.taken) s.left a b
       between decided result (record { state = d.state; facts = d.facts; answer = d.answer; packets = d.packets; kept = d.kept })
       s.node s.packets s.is_down s.taken_back s.recorded
 

@@ -42,7 +42,8 @@ sends_are : {B : Type 0} (u : ℕ) (b : Backend B) (t : Tier) (x : ℕ) (σ : Ba
 sends_are u b t x σ (OfMid v) = refl
 sends_are u b t x σ (OfBack (Call n text)) = go (passes σ n)
   where
-    go : (p : Bool) → cond {A = List Packet} p [] (each (2 * u + 1) nobody (answer_to t x n (b.serve σ.state text).code)) ≡ told_to_all u t x (cond {A = Option (ℕ × ℕ)} p None (Some (n, (b.serve σ.state text).code)))
+    go : (p : Bool) → cond {A = List Packet} p [] (each (2 * u + 1) nobody (answer_to t x n (b.serve σ.state text).code))
+        ≡ told_to_all u t x (cond {A = Option (ℕ × ℕ)} p None (Some (n, (b.serve σ.state text).code)))
     go true = refl
     go false = refl
 sends_are u b t x σ (OfBack (Settle g)) = refl

@@ -14,7 +14,8 @@ returns-clause-moved g c =
     let b = backend_by g.B.Backend.opening g.B.Backend.state_after g.B.Backend.code_of in
     moved c.member-member.result c.self.inside.node c.take_up-up.new.self c.settle.new.self c.args.self.now c.take_up-up.result.value
     c.deref_mut.result.now c.receive-decided.new.up (g.D.Disk.state c.args.disk.now) (g.D.Disk.state c.settle.new.disk) c.args.out.now
-    c.receive-decided.new.out c.settle.new.out c.receive-decided.result c.settle.result (λ u t x. on_bytes (λ from message σ. on_frame u b t x σ from message) c.args.bytes.now)
+    c.receive-decided.new.out c.settle.new.out c.receive-decided.result c.settle.result
+    (λ u t x. on_bytes (λ from message σ. on_frame u b t x σ from message) c.args.bytes.now)
     (record { faults = c.member-member.ensures.faults; tier = c.member-member.ensures.tier; index = c.member-member.ensures.index })
     c.self.view_is c.receive-decided.ensures
     (record {
@@ -33,7 +34,8 @@ pub returns-clause-quiet : goal.returns-clause-quiet
 returns-clause-quiet g c =
     let b = backend_by g.B.Backend.opening g.B.Backend.state_after g.B.Backend.code_of in
     let self = c.args.self.now in
-    unmoved (on_bytes (λ from message σ. on_frame self.faults b self.tier self.me σ from message) c.args.bytes.now) self _ (g.D.Disk.state c.args.disk.now) (g.D.Disk.state c.settle.new.disk) c.args.out.now
+    unmoved (on_bytes (λ from message σ. on_frame self.faults b self.tier self.me σ from message) c.args.bytes.now) self _
+    (g.D.Disk.state c.args.disk.now) (g.D.Disk.state c.settle.new.disk) c.args.out.now
     c.settle.new.out c.settle.result c.requires.up (λ σ. bytes_quiet self.faults b self.tier self.me σ c.args.bytes.now)
     (returns-clause-moved g c)
 
@@ -41,5 +43,6 @@ pub returns-clause-ready : goal.returns-clause-ready
 returns-clause-ready g c =
     let b = backend_by g.B.Backend.opening g.B.Backend.state_after g.B.Backend.code_of in
     let self = c.args.self.now in
-    ready (on_bytes (λ from message σ. on_frame self.faults b self.tier self.me σ from message) c.args.bytes.now) self _ (g.D.Disk.state c.args.disk.now) (g.D.Disk.state c.settle.new.disk) c.args.out.now c.settle.new.out c.settle.result c.requires.up
+    ready (on_bytes (λ from message σ. on_frame self.faults b self.tier self.me σ from message) c.args.bytes.now) self _
+    (g.D.Disk.state c.args.disk.now) (g.D.Disk.state c.settle.new.disk) c.args.out.now c.settle.new.out c.settle.result c.requires.up
     c.requires.disk (returns-clause-moved g c)

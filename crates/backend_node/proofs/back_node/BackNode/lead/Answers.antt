@@ -40,5 +40,6 @@ pub returns-clause-ready : goal.returns-clause-ready
 returns-clause-ready g c =
     let b = backend_by g.B.Backend.opening g.B.Backend.state_after g.B.Backend.code_of in
     let self = c.args.self.now in
-    ready (leads self.faults b self.tier self.me) self _ (g.D.Disk.state c.args.disk.now) (g.D.Disk.state c.settle.new.disk) c.args.out.now c.settle.new.out c.settle.result c.requires.up
+    ready (leads self.faults b self.tier self.me) self _
+    (g.D.Disk.state c.args.disk.now) (g.D.Disk.state c.settle.new.disk) c.args.out.now c.settle.new.out c.settle.result c.requires.up
     c.requires.disk (returns-clause-moved g c)
