@@ -51,6 +51,7 @@ impl Inventory {
 
 impl Backend for Inventory {
     ghost use Rattle.server_model.specs.Backends.{inventory_serve};
+    ghost use Rattle.server_model.specs.CodeBytes.{inventory_byte};
 
     ghost opening = { no_amounts };
 
@@ -79,6 +80,8 @@ impl Backend for Inventory {
         }
         Ok(1)
     }
+
+    ghost bytes = { λ seats call. inventory_byte seats call };
 
     fn blank(&self) -> Result<Self, Memory> {
         Ok(Inventory::new(self.alloc))

@@ -51,6 +51,7 @@ impl Payment {
 
 impl Backend for Payment {
     ghost use Rattle.server_model.specs.Backends.{payment_serve};
+    ghost use Rattle.server_model.specs.CodeBytes.{payment_byte};
 
     ghost opening = { no_amounts };
 
@@ -79,6 +80,8 @@ impl Backend for Payment {
         }
         Ok(1)
     }
+
+    ghost bytes = { λ spent call. payment_byte spent call };
 
     fn blank(&self) -> Result<Self, Memory> {
         Ok(Payment::new(self.alloc))

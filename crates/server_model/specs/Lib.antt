@@ -3,6 +3,7 @@ pub mod Further
 pub mod Requests
 pub mod Booking
 pub mod Backends
+pub mod CodeBytes
 pub mod Server
 pub mod Codes
 pub mod History

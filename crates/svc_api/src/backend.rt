@@ -1,5 +1,5 @@
 // A service that nested calls go to.
-ghost use Rattle.std.specs.Prelude.{◌≡◌, ℕ, List, IfOk, OnOk, OnErr};
+ghost use Rattle.std.specs.Prelude.{◌≡◌, ◌<◌, ℕ, List, IfOk, OnOk, OnErr};
 
 use aeg_base::{Bytes, Memory};
 
@@ -18,6 +18,9 @@ pub trait Backend: Drop {
         ensures code { IfOk result (λ code. code ≡ code_of self.old call.now) }
         ensures state { OnOk result (self.new ≡ state_after self.old call.now) }
         ensures unchanged { OnErr result (self.new ≡ self.old) };
+
+    /// Each code is a byte.
+    ghost bytes: { (s : Self) (call : List ℕ) → code_of s call < 256 };
 
     /// A backend in its opening state.
     fn blank(&self) -> Result<Self, Memory>
