@@ -2,8 +2,8 @@
 use Rattle.std.proofs.Common.{◌≡◌, ℕ, Bool, true, false, ◌||◌, cond, List, [], not, refl, sym, ap, ◌∙◌, subst, append-nil, Ok}
 use Rattle.aeg_base.specs.declared.names.End.{End}
 use Rattle.log_values.specs.Fields.{IsCallNumber, IsText}
-use Rattle.frames.specs.declared.turn.Turn.TheVariants.{Did}
-use Rattle.frames.specs.declared.turn.Idle.TheVariants as why
+use Rattle.tier_model.specs.declared.turn.Turn.TheVariants.{Did}
+use Rattle.tier_model.specs.declared.turn.Idle.TheVariants as why
 use Rattle.round_model.specs.Lists.{is_some}
 use Rattle.round_model.specs.Shims.{ShimState, copies_at, copy_of, ignores, is_done, notes, takes_copy}
 use Rattle.server_shim.specs.Ranges.{IsShimIn}

@@ -5,8 +5,8 @@ use Rattle.log_model.specs.declared.turn.Offering.{Offering}
 use Rattle.log_model.specs.declared.turn.Offering.TheVariants.{NotLeader, NoPromises, InFlight, LogFull, Taken, Free}
 use Rattle.log_model.specs.Rows.{offer, wants}
 use Rattle.log_values.specs.declared.any_value.AnyValue.{AnyValue}
-use Rattle.frames.specs.declared.turn.Idle.{Idle}
-use Rattle.frames.specs.declared.turn.Idle.TheVariants as why
+use Rattle.tier_model.specs.declared.turn.Idle.{Idle}
+use Rattle.tier_model.specs.declared.turn.Idle.TheVariants as why
 use Rattle.round_model.specs.Lists.{is_some}
 use Rattle.round_model.specs.Service.{Backend}
 use Rattle.tier_model.specs.Moves.{Move, idles, log_answer, offer_cause}

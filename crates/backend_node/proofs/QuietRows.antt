@@ -15,8 +15,8 @@ use Rattle.frames.specs.declared.header.Header.{Header}
 use Rattle.frames.specs.declared.header.Refused.{Refused}
 use Rattle.frames.specs.declared.message.Msg.{Msg}
 use Rattle.frames.specs.declared.message.Msg.TheVariants as msgs
-use Rattle.frames.specs.declared.turn.Idle.{Idle}
-use Rattle.frames.specs.declared.turn.Idle.TheVariants as why
+use Rattle.tier_model.specs.declared.turn.Idle.{Idle}
+use Rattle.tier_model.specs.declared.turn.Idle.TheVariants as why
 use Rattle.frames.specs.Frames.{frame_of}
 use Rattle.frames.specs.Headers.{end_index}
 use Rattle.round_model.specs.Lists.{is_some}

@@ -1,12 +1,10 @@
 -- The turns of a backend node's log.
-use Rattle.std.proofs.Common.{◌≡◌, ℕ, ◌+◌, ◌*◌, ◌<◌, true, List, refl, sym, subst, arith, Option, Some, None}
-use Rattle.std.specs.Prelude.{nat_lt, IfSome}
+use Rattle.std.proofs.Common.{◌≡◌, ℕ, ◌+◌, ◌*◌, ◌<◌, true, sym, subst, arith, Option}
+use Rattle.std.specs.Prelude.{nat_lt}
 use Rattle.std.proofs.lemmas.Bool.{and_parts}
 use Rattle.aeg_base.specs.declared.names.End.{End}
 use Rattle.aeg_base.specs.declared.names.End.TheVariants.{Node, Client}
 use Rattle.aeg_base.specs.declared.names.Tier.{Tier}
-use Rattle.aeg_base.specs.declared.names.Tier.TheVariants.{Mid, Inv, Pay}
-use Rattle.svc_api.specs.Plan.{IsBackend}
 use Rattle.server_model.specs.Server.{same_tier}
 use Rattle.server_model.proofs.Tiers.{tier_eq}
 use Rattle.log_model.specs.declared.message.PaxMsg.{PaxMsg}
@@ -14,26 +12,21 @@ use Rattle.log_model.specs.Log.{open_at}
 use Rattle.log_model.specs.Ranges.{IsOwnIn}
 use Rattle.log_model.specs.Rows.{on_msg, lead, offer}
 use Rattle.log_values.specs.declared.any_value.AnyValue.{AnyValue}
-use Rattle.log_values.specs.declared.any_value.AnyValue.TheVariants.{Back as OfBack}
-use Rattle.log_values.specs.declared.back_value.BackValue.{BackValue}
-use Rattle.log_values.specs.declared.back_value.BackValue.TheVariants.{Call, Settle}
-use Rattle.log_values.specs.Fields.{IsFloor}
-use Rattle.log_values.specs.Values.{FitsBack}
 use Rattle.frames.specs.declared.message.Msg.TheVariants.{Log}
 use Rattle.frames.specs.Frames.{FitsFrame}
 use Rattle.frames.specs.LogMessages.{IsCarried, FitsLog}
 use Rattle.paxos_log.specs.TierLog.{NodeLog}
 use Rattle.round_model.specs.Shims.{ShimState, ready, due_floor}
-use Rattle.server_shim.specs.Ranges.{IsCall}
 use Rattle.server_shim.proofs.Ranged.{ready_in, settled_in}
 use Rattle.tier_model.specs.Moves.{is_node_of}
-use Rattle.tier_model.specs.BackRows.{own_by, own_value}
+use Rattle.tier_model.specs.BackRows.{own_value}
 use Rattle.node_log.specs.declared.working.Working.{Working}
 use Rattle.node_log.specs.LogNodes.{IsLogTurn, IsOwnLog}
 use Rattle.node_log.proofs.Turns.{message_turn, lead_turn, offer_turn}
 use Rattle.backend_node.specs.declared.member.Member.{Member}
 use Rattle.backend_node.specs.declared.serving.Serving.{Serving}
 use Rattle.backend_node.specs.Deciding.{IsMember, IsInRange, back_in}
+use Rattle.tier_model.proofs.Carried.{own_carried}
 
 -- a message of the log from a node of the tier
 pub log_fits : (u : ℕ) (t : Tier) (from : End) (p : PaxMsg AnyValue) → is_node_of u t from ≡ true → FitsFrame from (Log p) → FitsLog t p
@@ -54,22 +47,11 @@ leading m log member own =
 
 -- OFFERS
 
-back_carried : (t : Tier) (p : ℕ) (v : BackValue) → IsBackend t → FitsBack v → IsCarried t p (OfBack v)
-back_carried Mid p v b f = absurd b
-back_carried Inv p v b f = (f, refl)
-back_carried Pay p v b f = (f, refl)
-
-own_in : (t : Tier) (p : ℕ) (o : Option (ℕ × List ℕ)) (g : Option ℕ) → IsBackend t → IfSome o IsCall → IfSome g IsFloor
-    → IsOwnIn (IsCarried t) p (own_by o g)
-own_in t p None None b r f = tt
-own_in t p None (Some g) b r f = back_carried t p (Settle g) b f
-own_in t p (Some call) g b r f = back_carried t p (Call call.0 call.1) b r
-
 pub offering : {B : Type 0} (m : Member) (w : Working (Serving B)) (own : Option AnyValue) → IsMember m → IsInRange m w → own ≡ own_value (back_in w)
     → IsLogTurn m.faults m.me.tier (offer w.log.faults w.log.me w.log.state own)
 offering m w own member range e =
     let shim : ShimState = w.rest.shim in
-    let stands = own_in m.me.tier (open_at w.log.state) (ready shim) (due_floor shim) member.tier (ready_in m.faults shim range.shim)
+    let stands = own_carried m.me.tier (open_at w.log.state) (ready shim) (due_floor shim) member.tier (ready_in m.faults shim range.shim)
     (settled_in m.faults shim range.shim) in
     subst (λ (z : ℕ). IsLogTurn m.faults m.me.tier (offer z w.log.me w.log.state own)) (sym range.log.faults)
     (subst (λ (z : ℕ). IsLogTurn m.faults m.me.tier (offer m.faults z w.log.state own)) (sym range.log.me)

@@ -5,9 +5,9 @@ use Rattle.aeg_base.specs.declared.limits.TheConstants.{MAX_FAULTS}
 use Rattle.aeg_base.specs.declared.memory.Memory.{Memory}
 use Rattle.aeg_base.specs.declared.names.End.{End}
 use Rattle.svc_api.specs.Plan.{IsBackend}
-use Rattle.frames.specs.declared.turn.Idle.{Idle}
-use Rattle.frames.specs.declared.turn.Turn.{Turn as Answer}
-use Rattle.frames.specs.declared.turn.Turn.TheVariants as answers
+use Rattle.tier_model.specs.declared.turn.Idle.{Idle}
+use Rattle.tier_model.specs.declared.turn.Turn.{Turn as Answer}
+use Rattle.tier_model.specs.declared.turn.Turn.TheVariants as answers
 use Rattle.server_shim.specs.Ranges.{IsShimIn}
 use Rattle.tier_model.specs.Moves.{Move}
 use Rattle.tier_model.specs.Back.{Back}

@@ -21,12 +21,13 @@ use aeg_base::limits::MAX_FAULTS;
 use aeg_base::{Memory, NodeId, Tier};
 use aeg_disk::Disk;
 use fact_journal::FactJournal;
-use frames::{Fault, Idle, Outbox, Turn};
+use frames::Outbox;
 use log_values::Fact;
 use node_log::{LogNode, restored};
 use std::alloc::Global;
 use std::marker::Model;
 use svc_api::Backend;
+use tier_model::{Fault, Idle, Turn};
 
 /// A node of a backend's tier, with a fresh backend for its restarts.
 #[derive(Drop)]

@@ -9,10 +9,11 @@ use crate::member::Member;
 use crate::serving::Serving;
 use crate::telling::answer_one;
 use aeg_base::{Bytes, CallNo, Memory};
-use frames::{Idle, Outbox, Turn};
+use frames::Outbox;
 use node_log::{Decided, Working};
 use server_shim::Kept;
 use svc_api::Backend;
+use tier_model::{Idle, Turn};
 
 /// A middle node's call: one whose code is kept is answered, and one that is not done is noted.
 pub fn on_call<B: Backend>(

@@ -12,11 +12,12 @@ use crate::member::Member;
 use crate::serving::Serving;
 use crate::turns::take_turn;
 use aeg_base::{End, Memory, Tier};
-use frames::{FrameErr, Msg, Outbox, Refused, Turn, decode};
+use frames::{FrameErr, Msg, Outbox, Refused, decode};
 use log_values::AnyValue;
 use node_log::{Decided, Working, node_in};
 use paxos_log::PaxMsg;
 use svc_api::Backend;
+use tier_model::Turn;
 
 /// A kind that the node doesn't take, or not from there.
 fn refused(member: Member) -> Decided

@@ -14,12 +14,13 @@ use crate::member::Member;
 use crate::serving::Serving;
 use crate::turns::take_turn;
 use aeg_base::Memory;
-use frames::{Idle, Outbox, Turn};
+use frames::Outbox;
 use log_values::{AnyValue, BackValue};
 use node_log::{Decided, Working, needs_own, offer_cause};
 use paxos_log::Offering;
 use server_shim::Shim;
 use svc_api::Backend;
+use tier_model::{Idle, Turn};
 
 /// A call of which u+1 equal copies came, or else a floor that u+1 middle nodes told.
 fn own_value(shim: &Shim) -> Result<Option<AnyValue>, Memory>

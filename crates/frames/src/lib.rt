@@ -1,4 +1,4 @@
-//! What nodes and clients say to each other: frames, their grammar and refusals, and what a node answers.
+//! What nodes and clients say to each other: frames, their grammar and refusals.
 #![tactic(auto)]
 
 mod header;
@@ -8,7 +8,6 @@ mod message;
 mod other_body;
 mod outbox;
 mod reading;
-mod turn;
 mod writing;
 
 pub use header::{FrameErr, Header, Refused, decode_header};
@@ -17,5 +16,4 @@ pub use log_body::carries;
 pub use message::Msg;
 pub use outbox::Outbox;
 pub use reading::decode;
-pub use turn::{Fault, Idle, RunNote, Turn};
 pub use writing::{encode, encode_log};

@@ -18,8 +18,8 @@ use Rattle.log_model.specs.Rows.{offers, offer_as, offer, accepts, says_again, o
 use Rattle.log_model.specs.Rows.{on_accepted, on_learn, on_ask, on_msg}
 use Rattle.log_values.specs.declared.any_value.AnyValue.{AnyValue}
 use Rattle.log_values.specs.declared.fact.Fact.{Fact}
-use Rattle.frames.specs.declared.turn.Turn.{Turn as Answer}
-use Rattle.frames.specs.declared.turn.Fault.{Fault}
+use Rattle.tier_model.specs.declared.turn.Turn.{Turn as Answer}
+use Rattle.tier_model.specs.declared.turn.Fault.{Fault}
 use Rattle.tier_model.specs.Moves.{Packet, Move}
 use Rattle.node_log.specs.Packets.{all_sealed}
 use Rattle.node_log.specs.Views.{View, is_up, Made, Moves, Wrote}

@@ -6,8 +6,8 @@ use Rattle.aeg_disk.specs.Disk.{DiskState}
 use Rattle.fact_journal.specs.Standing.{HasFacts}
 use Rattle.log_model.specs.Nodes.{recorded}
 use Rattle.log_values.specs.declared.fact.Fact.{Fact}
-use Rattle.frames.specs.declared.turn.Turn.{Turn as Answer}
-use Rattle.frames.specs.declared.turn.Fault.{Fault}
+use Rattle.tier_model.specs.declared.turn.Turn.{Turn as Answer}
+use Rattle.tier_model.specs.declared.turn.Fault.{Fault}
 use Rattle.tier_model.specs.Moves.{Move}
 use Rattle.node_log.specs.Views.{View, is_up, MayWrite, Moves, Restarts, Wrote}
 

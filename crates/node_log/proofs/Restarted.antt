@@ -12,8 +12,8 @@ use Rattle.fact_journal.specs.Fitting.{FactsFit, EachFits}
 use Rattle.fact_journal.specs.Standing.{StandsFor}
 use Rattle.fact_journal.proofs.Standing.{still_stands}
 use Rattle.log_values.specs.declared.fact.Fact.{Fact}
-use Rattle.frames.specs.declared.turn.Fault.{Fault}
-use Rattle.frames.specs.declared.turn.Fault.TheVariants as faults
+use Rattle.tier_model.specs.declared.turn.Fault.{Fault}
+use Rattle.tier_model.specs.declared.turn.Fault.TheVariants as faults
 use Rattle.node_log.specs.Faults.{as_opening_fault}
 use Rattle.log_model.specs.Recover.{onto}
 use Rattle.node_log.specs.LogNodes.{Standing}

@@ -10,7 +10,7 @@ use Rattle.fact_journal.specs.Standing.{HasFacts}
 use Rattle.fact_journal.proofs.Appends.{not_begun}
 use Rattle.log_model.specs.Nodes.{writes}
 use Rattle.log_values.specs.declared.fact.Fact.{Fact}
-use Rattle.frames.specs.declared.turn.Fault.{Fault}
+use Rattle.tier_model.specs.declared.turn.Fault.{Fault}
 use Rattle.node_log.specs.Faults.{as_fault}
 use Rattle.node_log.specs.Views.{Wrote, MayHaveWritten, HasCause}
 

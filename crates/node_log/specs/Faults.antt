@@ -1,7 +1,7 @@
 -- What the errors of a journal are to its node.
 use Rattle.std.specs.Prelude.{}
-use Rattle.frames.specs.declared.turn.Fault.{Fault}
-use Rattle.frames.specs.declared.turn.Fault.TheVariants as faults
+use Rattle.tier_model.specs.declared.turn.Fault.{Fault}
+use Rattle.tier_model.specs.declared.turn.Fault.TheVariants as faults
 use Rattle.node_journal.specs.declared.journal.AppendErr.{AppendErr}
 use Rattle.node_journal.specs.declared.journal.AppendErr.TheVariants as appends
 use Rattle.node_journal.specs.declared.opening.OpenErr.{OpenErr}

@@ -4,8 +4,8 @@ use Rattle.aeg_base.specs.declared.names.End.{End}
 use Rattle.aeg_disk.specs.Disk.{DiskState}
 use Rattle.log_model.specs.Log.{LogState, Turn, idles}
 use Rattle.log_values.specs.declared.any_value.AnyValue.{AnyValue}
-use Rattle.frames.specs.declared.turn.Turn.{Turn as Answer}
-use Rattle.frames.specs.declared.turn.Turn.TheVariants.{Did, Ran, Dropped, Idle}
+use Rattle.tier_model.specs.declared.turn.Turn.{Turn as Answer}
+use Rattle.tier_model.specs.declared.turn.Turn.TheVariants.{Did, Ran, Dropped, Idle}
 use Rattle.tier_model.specs.Moves.{Move}
 use Rattle.node_log.specs.Views.{View}
 

@@ -4,7 +4,7 @@ use Rattle.aeg_base.specs.declared.names.End.{End}
 use Rattle.frames.specs.declared.header.Header.{Header}
 use Rattle.frames.specs.declared.header.Refused.{Refused}
 use Rattle.frames.specs.declared.message.Msg.{Msg}
-use Rattle.frames.specs.declared.turn.Turn.TheVariants.{Dropped}
+use Rattle.tier_model.specs.declared.turn.Turn.TheVariants.{Dropped}
 use Rattle.frames.specs.Frames.{frame_of}
 use Rattle.tier_model.specs.Moves.{Move}
 

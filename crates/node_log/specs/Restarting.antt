@@ -12,8 +12,8 @@ use Rattle.fact_journal.specs.Standing.{StandsFor}
 use Rattle.log_model.specs.Recover.{onto, recover}
 use Rattle.log_values.specs.declared.any_value.AnyValue.{AnyValue}
 use Rattle.log_values.specs.declared.fact.Fact.{Fact}
-use Rattle.frames.specs.declared.turn.Fault.{Fault}
-use Rattle.frames.specs.declared.turn.Fault.TheVariants as faults
+use Rattle.tier_model.specs.declared.turn.Fault.{Fault}
+use Rattle.tier_model.specs.declared.turn.Fault.TheVariants as faults
 use Rattle.paxos_log.specs.TierLog.{NodeLog}
 use Rattle.tier_model.specs.Moves.{log_facts}
 use Rattle.node_log.specs.Views.{View, CameUp}

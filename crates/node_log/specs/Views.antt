@@ -12,9 +12,9 @@ use Rattle.fact_journal.specs.Fitting.{FactsFit, EachFits}
 use Rattle.log_model.specs.Nodes.{recorded, writes}
 use Rattle.log_model.specs.Recover.{onto}
 use Rattle.log_values.specs.declared.fact.Fact.{Fact}
-use Rattle.frames.specs.declared.turn.Turn.{Turn as Answer}
-use Rattle.frames.specs.declared.turn.Fault.{Fault}
-use Rattle.frames.specs.declared.turn.Fault.TheVariants as faults
+use Rattle.tier_model.specs.declared.turn.Turn.{Turn as Answer}
+use Rattle.tier_model.specs.declared.turn.Fault.{Fault}
+use Rattle.tier_model.specs.declared.turn.Fault.TheVariants as faults
 use Rattle.tier_model.specs.Moves.{Move}
 use Rattle.node_log.specs.Packets.{all_sealed}
 

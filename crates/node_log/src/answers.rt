@@ -3,8 +3,8 @@ ghost use Rattle.std.specs.Prelude.{◌≡◌};
 ghost use Rattle.tier_model.specs.Moves.{log_cause, log_answer, offer_cause};
 ghost use Rattle.node_log.specs.Packets.{needs_own};
 
-use frames::{Idle, Turn};
 use paxos_log::{LogIdle, Offering};
+use tier_model::{Idle, Turn};
 
 fn cause_of(idle: LogIdle) -> Idle
     ensures { result ≡ log_cause idle }

@@ -9,11 +9,12 @@ use crate::answers::answer_of;
 use crate::facts::facts_of;
 use crate::sending::send_log;
 use aeg_base::{Memory, NodeId};
-use frames::{Outbox, Turn};
+use frames::Outbox;
 use log_values::format::LAST_INDEX;
 use log_values::{AnyValue, Fact};
 use paxos_log::LogTurn;
 use std::alloc::Global;
+use tier_model::Turn;
 
 /// The facts to write down, and the answer to give then. The packets stand in the outbox.
 #[derive(Drop)]

@@ -3,7 +3,7 @@ ghost use Rattle.std.specs.Prelude.{◌≡◌};
 ghost use Rattle.node_log.specs.Faults.{as_fault, as_opening_fault};
 
 use fact_journal::{AppendErr, OpenErr};
-use frames::Fault;
+use tier_model::Fault;
 
 /// Why a node went down, where its record was not written.
 pub fn fault_of(error: AppendErr) -> Fault

@@ -16,11 +16,12 @@ use aeg_base::limits::MAX_FAULTS;
 use aeg_base::{End, Memory, NodeId};
 use aeg_disk::Disk;
 use fact_journal::FactJournal;
-use frames::{Fault, Outbox, Turn};
+use frames::Outbox;
 use log_values::{AnyValue, Fact};
 use paxos_log::TierLog;
 use std::alloc::Global;
 use std::marker::Model;
+use tier_model::{Fault, Turn};
 
 /// A node with its log, its journal and the rest of its state while it is up. While it is down it knows where its journal
 /// ended.

@@ -11,8 +11,8 @@ use crate::faults::fault_of;
 use aeg_base::Memory;
 use aeg_disk::Disk;
 use fact_journal::FactJournal;
-use frames::{Fault, Turn};
 use log_values::{Fact, Record};
+use tier_model::{Fault, Turn};
 
 /// Writes the facts down as one record.
 fn append<D: Disk>(journal: &mut FactJournal, disk: &mut D, facts: Vec<Fact>) -> Result<(), Fault>

@@ -9,10 +9,11 @@ use aeg_base::{Bytes, End, NodeId, Tier};
 use aeg_disk::{Disk, MemDisk};
 use backend_node::BackNode;
 use backend_svc::{Inventory, Payment};
-use frames::{Idle, Outbox, Turn};
+use frames::Outbox;
 use std::alloc::Global;
 use std::test::*;
 use svc_api::Backend;
+use tier_model::{Idle, Turn};
 
 /// A packet: the tier and the index of its receiver, and its bytes.
 type Sent = (Tier, u8, &'static [u8]);

@@ -19,15 +19,14 @@ use Rattle.log_model.proofs.Basics.{Every}
 use Rattle.log_model.proofs.Ranged.{msg_in, lead_in, offer_in}
 use Rattle.log_values.specs.declared.any_value.AnyValue.{AnyValue}
 use Rattle.log_values.specs.declared.any_value.AnyValue.TheVariants.{Mid as OfMid, Back as OfBack}
-use Rattle.log_values.specs.declared.back_value.BackValue.{BackValue}
 use Rattle.log_values.specs.declared.back_value.BackValue.TheVariants.{Call, Settle}
 use Rattle.log_values.specs.declared.fact.Fact.{Fact}
 use Rattle.log_values.specs.Fields.{FitsBallot, IsCallNumber, IsFloor, IsText}
-use Rattle.log_values.specs.Values.{FitsAny, FitsBack}
+use Rattle.log_values.specs.Values.{FitsAny}
 use Rattle.frames.specs.declared.message.Msg.{Msg}
 use Rattle.frames.specs.declared.message.Msg.TheVariants as msgs
-use Rattle.frames.specs.declared.turn.Turn.TheVariants.{Did, Idle as Idles}
-use Rattle.frames.specs.declared.turn.Idle.TheVariants as why
+use Rattle.tier_model.specs.declared.turn.Turn.TheVariants.{Did, Idle as Idles}
+use Rattle.tier_model.specs.declared.turn.Idle.TheVariants as why
 use Rattle.frames.specs.LogMessages.{IsCarried, FitsLog}
 use Rattle.frames.specs.Frames.{FitsFrame}
 use Rattle.frames.specs.Headers.{end_index, is_sent_by_tier}
@@ -40,10 +39,10 @@ use Rattle.round_model.specs.Shims.{copy_of, copies_at, ready}
 use Rattle.round_model.specs.Shims.{rises_to, told_floor, due_floor, highest}
 use Rattle.tier_model.specs.Moves.{as_fact, node, is_node_of, Packet, Move, idles, drops, log_packets, log_packet, asks, log_facts}
 use Rattle.tier_model.specs.Back.{Back, with_log, answer_to, passes, after_value, new_value, value_state, value_tells, in_log}
-use Rattle.tier_model.specs.BackRows.{copied, call_as, on_call, on_settle, on_frame, leads, own_by, own_value, offers_as, offers, answers_again}
+use Rattle.tier_model.specs.BackRows.{copied, call_as, on_call, on_settle, on_frame, leads, own_value, offers_as, offers, answers_again}
 use Rattle.tier_model.specs.BackRows.{retry, after_values, bare, recovered}
 use Rattle.row_laws.specs.Services.{IsBackendIn}
-use Rattle.server_shim.specs.Ranges.{IsCode, IsCall}
+use Rattle.server_shim.specs.Ranges.{IsCode}
 use Rattle.server_shim.proofs.Lists.{find_in}
 use Rattle.server_shim.proofs.Ranged.{serves_in, settles_in, notes_in, told_in, new_in, ready_in, settled_in, highest_in}
 use Rattle.row_laws.specs.Backs.{IsBackIn}
@@ -54,6 +53,7 @@ use Rattle.row_laws.proofs.LogTurns.{sender_is, taken_if, taken_either, message_
 use Rattle.row_laws.proofs.LogTurns.{asks_few, turn_facts, written_opens, may_raise}
 use Rattle.row_laws.proofs.Moving.{telling, quiet, either}
 use Rattle.row_laws.proofs.Restored.{log_restored, log_opens, all_carried}
+use Rattle.tier_model.proofs.Carried.{own_carried}
 
 -- a move of a backend's node x
 abbrev pub IsBackMove : {B : Type 0} → Service B → ℕ → ℕ → Tier → ℕ → Back B → Move (Back B) → Type 0
@@ -238,18 +238,8 @@ leads_in s u depth t x σ small l b codes k =
     turn_in s u depth t x σ (lead u x σ.log) b small l codes k (lead_few u x σ.log)
     (lead_in u (IsCarried t) FitsBallot x σ.log (may_raise x (omega (arith, small, l))) k.log)
 
-back_carried : (t : Tier) (p : ℕ) (v : BackValue) → IsBackend t → FitsBack v → IsCarried t p (OfBack v)
-back_carried InMid p v b f = absurd b
-back_carried Inv p v b f = (f, refl)
-back_carried Pay p v b f = (f, refl)
-
 own_in : {B : Type 0} (u : ℕ) (t : Tier) (p : ℕ) (σ : Back B) → IsBackend t → IsBackIn u t σ → IsOwnIn (IsCarried t) p (own_value σ)
-own_in u t p σ b k = go (ready σ.shim) (due_floor σ.shim) (ready_in u σ.shim k.shim) (settled_in u σ.shim k.shim)
-  where
-    go : (o : Option (ℕ × List ℕ)) (g : Option ℕ) → IfSome o IsCall → IfSome g IsFloor → IsOwnIn (IsCarried t) p (own_by o g)
-    go None None r f = tt
-    go None (Some g) r f = back_carried t p (Settle g) b f
-    go (Some call) g r f = back_carried t p (Call call.0 call.1) b r
+own_in u t p σ b k = own_carried t p (ready σ.shim) (due_floor σ.shim) b (ready_in u σ.shim k.shim) (settled_in u σ.shim k.shim)
 
 pub offers_in : {B : Type 0} (s : Service B) (u depth : ℕ) (t : Tier) (x : ℕ) (σ : Back B) → u ≤ 2 → x < 2 * u + 1 → IsBackend t → IsBackendIn (s.backend t)
     → IsBackIn u t σ → IsBackMove s u depth t x σ (offers u (s.backend t) t x σ)

@@ -18,7 +18,7 @@ use Rattle.log_values.specs.declared.entry.Entry.{Entry}
 use Rattle.log_values.specs.declared.fact.Fact.{Fact}
 use Rattle.log_values.specs.Fields.{IsText}
 use Rattle.log_values.specs.Values.{FitsEntry}
-use Rattle.frames.specs.declared.turn.Turn.TheVariants.{Did}
+use Rattle.tier_model.specs.declared.turn.Turn.TheVariants.{Did}
 use Rattle.fact_journal.specs.Fitting.{Fit, all_facts, open_after_all}
 use Rattle.round_model.specs.declared.answer.Answer.{Answer}
 use Rattle.round_model.specs.Lists.{is_some, concat, at}

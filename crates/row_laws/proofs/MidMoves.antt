@@ -28,9 +28,9 @@ use Rattle.log_values.specs.Outcomes.{IsCommit}
 use Rattle.log_values.specs.Values.{FitsEntry, FitsMid}
 use Rattle.frames.specs.declared.message.Msg.{Msg}
 use Rattle.frames.specs.declared.message.Msg.TheVariants as msgs
-use Rattle.frames.specs.declared.turn.Turn.TheVariants.{Did, Ran, Idle as Idles}
-use Rattle.frames.specs.declared.turn.Idle.{Idle}
-use Rattle.frames.specs.declared.turn.Idle.TheVariants as why
+use Rattle.tier_model.specs.declared.turn.Turn.TheVariants.{Did, Ran, Idle as Idles}
+use Rattle.tier_model.specs.declared.turn.Idle.{Idle}
+use Rattle.tier_model.specs.declared.turn.Idle.TheVariants as why
 use Rattle.frames.specs.LogMessages.{IsCarried}
 use Rattle.frames.specs.Frames.{FitsFrame}
 use Rattle.frames.specs.Headers.{end_index}

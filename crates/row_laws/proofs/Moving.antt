@@ -4,7 +4,7 @@ use Rattle.std.specs.List.{AllByRecursion}
 use Rattle.aeg_base.specs.declared.names.Tier.{Tier}
 use Rattle.log_model.specs.Log.{LogState, open_at}
 use Rattle.log_values.specs.declared.any_value.AnyValue.{AnyValue}
-use Rattle.frames.specs.declared.turn.Turn.{Turn}
+use Rattle.tier_model.specs.declared.turn.Turn.{Turn}
 use Rattle.tier_model.specs.Moves.{node, Packet, Move}
 use Rattle.row_laws.specs.Moves.{IsSealable, most_sent, IsMoveTo}
 

@@ -8,8 +8,8 @@ use Rattle.log_model.specs.Log.{LogState, open_at}
 use Rattle.log_values.specs.declared.any_value.AnyValue.{AnyValue}
 use Rattle.frames.specs.declared.message.Msg.{Msg}
 use Rattle.frames.specs.declared.message.Msg.TheVariants as msgs
-use Rattle.frames.specs.declared.turn.Turn.{Turn}
-use Rattle.frames.specs.declared.turn.Turn.TheVariants.{Did, Ran, Dropped, Idle}
+use Rattle.tier_model.specs.declared.turn.Turn.{Turn}
+use Rattle.tier_model.specs.declared.turn.Turn.TheVariants.{Did, Ran, Dropped, Idle}
 use Rattle.frames.specs.Frames.{FitsFrame}
 use Rattle.round_model.specs.Service.{Service}
 use Rattle.tier_model.specs.Moves.{node, Packet, Move}

@@ -11,8 +11,8 @@ use Rattle.log_model.specs.Log.{nobody}
 use Rattle.log_model.specs.Nodes.{Mode}
 use Rattle.log_model.specs.Nodes.Mode.{Up, Down, Gone}
 use Rattle.log_values.specs.declared.fact.Fact.{Fact}
-use Rattle.frames.specs.declared.turn.Turn.{Turn}
-use Rattle.frames.specs.declared.turn.Turn.TheVariants.{Did, Ran, Dropped, Idle as Idles}
+use Rattle.tier_model.specs.declared.turn.Turn.{Turn}
+use Rattle.tier_model.specs.declared.turn.Turn.TheVariants.{Did, Ran, Dropped, Idle as Idles}
 use Rattle.round_model.specs.Lists.{each}
 use Rattle.tier_model.specs.Moves.{Packet, Move}
 use Rattle.tier_model.specs.Mid as mid

@@ -25,11 +25,11 @@ use Rattle.frames.specs.declared.header.Refused.{Refused}
 use Rattle.frames.specs.declared.header.Refused.TheVariants as refusals
 use Rattle.frames.specs.declared.message.Msg.{Msg}
 use Rattle.frames.specs.declared.message.Msg.TheVariants as msgs
-use Rattle.frames.specs.declared.turn.Idle.{Idle}
-use Rattle.frames.specs.declared.turn.Idle.TheVariants as why
-use Rattle.frames.specs.declared.turn.RunNote.{RunNote}
-use Rattle.frames.specs.declared.turn.Turn.{Turn}
-use Rattle.frames.specs.declared.turn.Turn.TheVariants.{Did, Ran, Dropped, Idle as Idles}
+use Rattle.tier_model.specs.declared.turn.Idle.{Idle}
+use Rattle.tier_model.specs.declared.turn.Idle.TheVariants as why
+use Rattle.tier_model.specs.declared.turn.RunNote.{RunNote}
+use Rattle.tier_model.specs.declared.turn.Turn.{Turn}
+use Rattle.tier_model.specs.declared.turn.Turn.TheVariants.{Did, Ran, Dropped, Idle as Idles}
 use Rattle.round_model.specs.Lists.{is_some, half}
 use Rattle.tier_model.specs.Moves.{Packet, Move}
 use Rattle.tier_model.specs.MidRows as mids

@@ -24,8 +24,8 @@ use Rattle.log_values.specs.declared.mid_value.MidValue.TheVariants.{Batch, Verd
 use Rattle.log_values.specs.declared.mid_value.Verdict.TheVariants.{Commit, Serial}
 use Rattle.frames.specs.declared.message.Msg.{Msg}
 use Rattle.frames.specs.declared.message.Msg.TheVariants as msgs
-use Rattle.frames.specs.declared.turn.Turn.TheVariants.{Ran, Idle as Idles, Dropped}
-use Rattle.frames.specs.declared.turn.Idle.TheVariants as why
+use Rattle.tier_model.specs.declared.turn.Turn.TheVariants.{Ran, Idle as Idles, Dropped}
+use Rattle.tier_model.specs.declared.turn.Idle.TheVariants as why
 use Rattle.frames.specs.declared.header.Refused.TheVariants.{Row}
 use Rattle.round_model.specs.Service.{Programs, Service}
 use Rattle.round_model.specs.Spelled.{spelled}

@@ -1,3 +1,4 @@
 pub mod Examples
 pub mod BackExamples
 pub mod Facts
+pub mod Carried

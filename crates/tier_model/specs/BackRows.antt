@@ -14,7 +14,7 @@ use Rattle.log_values.specs.declared.back_value.BackValue.TheVariants.{Call, Set
 use Rattle.log_values.specs.declared.fact.Fact.{Fact}
 use Rattle.frames.specs.declared.message.Msg.{Msg}
 use Rattle.frames.specs.declared.message.Msg.TheVariants as msgs
-use Rattle.frames.specs.declared.turn.Idle.TheVariants as why
+use Rattle.tier_model.specs.declared.turn.Idle.TheVariants as why
 use Rattle.round_model.specs.Lists.{is_some, put_at, each}
 use Rattle.round_model.specs.Numbered.{find}
 use Rattle.round_model.specs.Service.{Backend}

@@ -11,8 +11,8 @@ use Rattle.log_values.specs.declared.entry.Entry.{Entry}
 use Rattle.log_values.specs.declared.mid_value.Verdict.{Verdict}
 use Rattle.log_values.specs.declared.mid_value.Verdict.TheVariants.{Commit, Serial}
 use Rattle.frames.specs.declared.message.Msg.TheVariants as msgs
-use Rattle.frames.specs.declared.turn.Idle.{Idle}
-use Rattle.frames.specs.declared.turn.Idle.TheVariants.{Nothing, NoAnswer}
+use Rattle.tier_model.specs.declared.turn.Idle.{Idle}
+use Rattle.tier_model.specs.declared.turn.Idle.TheVariants.{Nothing, NoAnswer}
 use Rattle.round_model.specs.Lists.{and_then, below, each, OfTiers, of_tier}
 use Rattle.round_model.specs.Service.{Programs, Finish}
 use Rattle.round_model.specs.Tables.{Tables, Number, Want, wants, Codes, job_of, first_missing, bump, settled, drop_done}

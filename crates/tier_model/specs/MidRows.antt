@@ -20,10 +20,10 @@ use Rattle.log_values.specs.declared.fact.Fact.{Fact}
 use Rattle.log_values.specs.declared.fact.Fact.TheVariants.{Held}
 use Rattle.frames.specs.declared.message.Msg.{Msg}
 use Rattle.frames.specs.declared.message.Msg.TheVariants as msgs
-use Rattle.frames.specs.declared.turn.Turn.TheVariants.{Did, Ran}
-use Rattle.frames.specs.declared.turn.RunNote.{RunNote}
-use Rattle.frames.specs.declared.turn.Idle.{Idle}
-use Rattle.frames.specs.declared.turn.Idle.TheVariants as why
+use Rattle.tier_model.specs.declared.turn.Turn.TheVariants.{Did, Ran}
+use Rattle.tier_model.specs.declared.turn.RunNote.{RunNote}
+use Rattle.tier_model.specs.declared.turn.Idle.{Idle}
+use Rattle.tier_model.specs.declared.turn.Idle.TheVariants as why
 use Rattle.round_model.specs.Lists.{is_some, and_then, is_nil, put_at, concat, each, odd, half}
 use Rattle.round_model.specs.Service.{Programs, is_request}
 use Rattle.round_model.specs.Tables.{Parked, tables0, last_of, kept_of, fresh_pending, pending_of, batch_of, wants, job_of, first_missing}

@@ -19,10 +19,10 @@ use Rattle.log_values.specs.declared.fact.Fact.{Fact}
 use Rattle.log_values.specs.declared.fact.Fact.TheVariants.{Promised, Accepted, Learned, Held}
 use Rattle.frames.specs.declared.message.Msg.{Msg}
 use Rattle.frames.specs.declared.message.Msg.TheVariants.{Log}
-use Rattle.frames.specs.declared.turn.Turn.{Turn}
-use Rattle.frames.specs.declared.turn.Turn.TheVariants.{Did, Dropped, Idle as Idles}
-use Rattle.frames.specs.declared.turn.Idle.{Idle}
-use Rattle.frames.specs.declared.turn.Idle.TheVariants as why
+use Rattle.tier_model.specs.declared.turn.Turn.{Turn}
+use Rattle.tier_model.specs.declared.turn.Turn.TheVariants.{Did, Dropped, Idle as Idles}
+use Rattle.tier_model.specs.declared.turn.Idle.{Idle}
+use Rattle.tier_model.specs.declared.turn.Idle.TheVariants as why
 use Rattle.frames.specs.declared.header.Refused.TheVariants.{Row}
 use Rattle.round_model.specs.Lists.{each}
 use Rattle.round_model.specs.Held.{HeldState, none_held, takes}

@@ -1,2 +1,6 @@
-//! The nodes of the tiers as definitions: the rows of middle and backend nodes, and what a restart restores.
+//! The nodes of the tiers as definitions: the rows of middle and backend nodes, what a restart restores, and what a node answers.
 #![tactic(auto)]
+
+mod turn;
+
+pub use turn::{Fault, Idle, RunNote, Turn};

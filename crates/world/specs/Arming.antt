@@ -1,9 +1,9 @@
 -- Stops of a disk that a line asks for.
 use Rattle.std.specs.Prelude.{◌≤◌, Bool, true, false, Option, Some, None}
 use Rattle.aeg_disk.specs.Disk.{DiskState}
-use Rattle.frames.specs.declared.turn.Turn.{Turn}
-use Rattle.frames.specs.declared.turn.Fault.{Fault as NodeFault}
-use Rattle.frames.specs.declared.turn.Fault.TheVariants as faults
+use Rattle.tier_model.specs.declared.turn.Turn.{Turn}
+use Rattle.tier_model.specs.declared.turn.Fault.{Fault as NodeFault}
+use Rattle.tier_model.specs.declared.turn.Fault.TheVariants as faults
 use Rattle.std.specs.declared.result.Result.{Result}
 use Rattle.std.specs.declared.result.Result.TheVariants.{Ok, Err}
 use Rattle.run_model.specs.declared.trace.Fared.{Fared}

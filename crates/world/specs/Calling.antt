@@ -6,8 +6,8 @@ use Rattle.aeg_base.specs.declared.names.NodeId.{NodeId}
 use Rattle.aeg_base.specs.declared.names.End.{End}
 use Rattle.aeg_base.specs.declared.names.Tier.{Tier}
 use Rattle.aeg_disk.specs.Disk.{DiskState}
-use Rattle.frames.specs.declared.turn.Turn.{Turn as Answer}
-use Rattle.frames.specs.declared.turn.Fault.{Fault}
+use Rattle.tier_model.specs.declared.turn.Turn.{Turn as Answer}
+use Rattle.tier_model.specs.declared.turn.Fault.{Fault}
 use Rattle.run_model.specs.declared.trace.Found.{Found}
 use Rattle.run_model.specs.declared.trace.Found.TheVariants.{Reads, Fault as Fails}
 use Rattle.run_model.specs.Text.{node_name, idle_line, gone_line}

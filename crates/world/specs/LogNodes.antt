@@ -19,8 +19,8 @@ use Rattle.log_values.specs.declared.any_value.AnyValue.{AnyValue}
 use Rattle.log_values.specs.declared.entry.Entry.{Entry}
 use Rattle.log_values.specs.Fields.{FitsBallot}
 use Rattle.frames.specs.declared.message.Msg.TheVariants.{Log}
-use Rattle.frames.specs.declared.turn.Turn.{Turn as Answer}
-use Rattle.frames.specs.declared.turn.Fault.{Fault}
+use Rattle.tier_model.specs.declared.turn.Turn.{Turn as Answer}
+use Rattle.tier_model.specs.declared.turn.Fault.{Fault}
 use Rattle.aeg_disk.specs.Disk.{DiskState, Later}
 use Rattle.frames.specs.Frames.{frame}
 use Rattle.paxos_log.specs.TierLog.{NodeLog}

@@ -11,8 +11,8 @@ use Rattle.log_model.specs.Nodes.{Mode}
 use Rattle.log_model.specs.Nodes.Mode.{Up, Down, Gone}
 use Rattle.log_values.specs.declared.any_value.AnyValue.{AnyValue}
 use Rattle.frames.specs.declared.message.Msg.{Msg}
-use Rattle.frames.specs.declared.turn.Turn.{Turn as Answer}
-use Rattle.frames.specs.declared.turn.Fault.{Fault}
+use Rattle.tier_model.specs.declared.turn.Turn.{Turn as Answer}
+use Rattle.tier_model.specs.declared.turn.Fault.{Fault}
 use Rattle.round_model.specs.Lists.{each}
 use Rattle.tier_model.specs.Moves.{Move}
 use Rattle.tier_model.specs.Kinds.{Kind}

@@ -29,9 +29,9 @@ use Rattle.log_values.specs.declared.fact.Fact.TheVariants as facts
 use Rattle.log_values.specs.Fields.{FitsBallot, IsClient, IsSeq}
 use Rattle.frames.specs.declared.message.Msg.{Msg}
 use Rattle.frames.specs.declared.message.Msg.TheVariants as msgs
-use Rattle.frames.specs.declared.turn.Turn.{Turn as Answer}
-use Rattle.frames.specs.declared.turn.Fault.{Fault}
-use Rattle.frames.specs.declared.turn.Fault.TheVariants as faults
+use Rattle.tier_model.specs.declared.turn.Turn.{Turn as Answer}
+use Rattle.tier_model.specs.declared.turn.Fault.{Fault}
+use Rattle.tier_model.specs.declared.turn.Fault.TheVariants as faults
 use Rattle.frames.specs.Frames.{frame, FitsFrame}
 use Rattle.frames.specs.LogMessages.{IsCarried}
 use Rattle.round_model.specs.Service.{is_request}

@@ -4,10 +4,10 @@ use Rattle.std.specs.Fmt.{decimal}
 use Rattle.std.specs.declared.result.Result.{Result}
 use Rattle.std.specs.declared.result.Result.TheVariants.{Ok, Err}
 use Rattle.aeg_base.specs.declared.names.NodeId.{NodeId}
-use Rattle.frames.specs.declared.turn.Turn.{Turn}
-use Rattle.frames.specs.declared.turn.Turn.TheVariants.{Did, Ran, Dropped, Idle as Idles}
-use Rattle.frames.specs.declared.turn.Fault.{Fault}
-use Rattle.frames.specs.declared.turn.Fault.TheVariants as faults
+use Rattle.tier_model.specs.declared.turn.Turn.{Turn}
+use Rattle.tier_model.specs.declared.turn.Turn.TheVariants.{Did, Ran, Dropped, Idle as Idles}
+use Rattle.tier_model.specs.declared.turn.Fault.{Fault}
+use Rattle.tier_model.specs.declared.turn.Fault.TheVariants as faults
 use Rattle.run_model.specs.Text.{node_name, cause_text, idle_line, down_line, drop_line, then_word}
 
 -- why a node went down: its journal is full, its disk stopped where that was armed, or its disk failed

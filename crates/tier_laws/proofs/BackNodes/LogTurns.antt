@@ -32,7 +32,7 @@ use Rattle.tier_laws.proofs.BackNodes.RightMoves.{BackHere, BackKnown, BackMoveO
 use Rattle.tier_laws.proofs.MidNodes.Offers.{drop_every, entries}
 use Rattle.tier_laws.proofs.Events.GrowingPast.{BackOk, FloorOk, SentOk, Past}
 use Rattle.tier_laws.proofs.Rounds.StableRounds.{MoreLog}
-use Rattle.frames.specs.declared.turn.Idle.TheVariants as why
+use Rattle.tier_model.specs.declared.turn.Idle.TheVariants as why
 use Rattle.tier_laws.proofs.Events.LogPackets.{NoLog, no_log, none_nil, none_append, none_each, log_soup-own, log_soup-other, every-log}
 use Rattle.run_model.specs.Runs.{log_soup}
 use Rattle.run_model.proofs.Soups.{log_soup-append}

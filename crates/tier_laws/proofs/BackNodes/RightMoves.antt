@@ -27,8 +27,8 @@ use Rattle.server_model.specs.Server.{same_tier}
 use Rattle.tier_laws.proofs.Events.OneTiersLog.{Complete}
 use Rattle.tier_laws.proofs.Events.GrowingPast.{BackOk, FloorOk, Grows, SentOk, Past, floor-more}
 use Rattle.aeg_base.specs.declared.names.Tier.TheVariants.{Mid as MidTier}
-use Rattle.frames.specs.declared.turn.Turn.{Turn as Answer}
-use Rattle.frames.specs.declared.turn.Idle.TheVariants as why
+use Rattle.tier_model.specs.declared.turn.Turn.{Turn as Answer}
+use Rattle.tier_model.specs.declared.turn.Idle.TheVariants as why
 use Rattle.tier_laws.proofs.MidNodes.CodesOfFacts.{helds}
 use Rattle.tier_laws.proofs.Events.LogPackets.{NoLog, no_log, none_nil}
 use Rattle.run_model.specs.Runs.{log_soup}

@@ -36,7 +36,7 @@ use Rattle.aeg_base.specs.declared.names.Tier.TheVariants.{Mid as MidTier}
 use Rattle.log_model.specs.declared.fact.Fact.TheVariants as logs
 use Rattle.log_model.specs.declared.turn.LogIdle.TheVariants.{Nothing}
 use Rattle.log_values.specs.declared.fact.Fact.TheVariants.{Promised, Accepted, Learned}
-use Rattle.frames.specs.declared.turn.Turn.{Turn as Answer}
+use Rattle.tier_model.specs.declared.turn.Turn.{Turn as Answer}
 use Rattle.tier_laws.specs.Said.{Laws}
 use Rattle.tier_laws.proofs.Events.LogPackets.{NoLog, no_log, none_nil, none_append, none_each, log_soup-own, log_soup-other, every-log}
 use Rattle.run_model.specs.Runs.{log_soup}

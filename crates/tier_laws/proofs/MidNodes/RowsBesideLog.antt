@@ -30,7 +30,7 @@ use Rattle.tier_laws.proofs.Events.GrowingPast.{DidRun, Grows, HeldOk, Known, Mi
 use Rattle.tier_laws.proofs.Events.GrowingPast.{holds, other-more, run-more, submitted-more, vote_by}
 use Rattle.tier_laws.proofs.Rounds.StableRounds.{then_parts}
 use Rattle.tier_laws.proofs.Rounds.BackedVerdicts.{run_right}
-use Rattle.frames.specs.declared.turn.Idle.TheVariants as why
+use Rattle.tier_model.specs.declared.turn.Idle.TheVariants as why
 use Rattle.tier_laws.proofs.Events.LogPackets.{NoLog, none_nil, none_each}
 use Rattle.tier_laws.proofs.MidNodes.CodesOfFacts.{code_of-push}
 use Rattle.tier_model.specs.Mid.{Mid, Ready, applies, ready}

@@ -14,8 +14,8 @@ use Rattle.aeg_disk.specs.Disk.{DiskState}
 use Rattle.fact_journal.proofs.Standing.{same_facts}
 use Rattle.log_model.specs.Nodes.{Node as NodeOf}
 use Rattle.log_values.specs.declared.fact.Fact.{Fact}
-use Rattle.frames.specs.declared.turn.Turn.{Turn as Answer}
-use Rattle.frames.specs.declared.turn.Fault.{Fault}
+use Rattle.tier_model.specs.declared.turn.Turn.{Turn as Answer}
+use Rattle.tier_model.specs.declared.turn.Fault.{Fault}
 use Rattle.run_model.specs.BookingRuns.{BookingWorld}
 use Rattle.world.specs.declared.nodes.all_nodes.Nodes.{Nodes}
 use Rattle.world.specs.declared.parts.arming.StopAt.{StopAt}

@@ -8,8 +8,8 @@ use Rattle.aeg_base.specs.declared.names.End.{End}
 use Rattle.aeg_disk.specs.Disk.{DiskState}
 use Rattle.aeg_base.specs.declared.names.NodeId.{NodeId}
 use Rattle.aeg_base.specs.declared.names.Tier.{Tier}
-use Rattle.frames.specs.declared.turn.Turn.{Turn as Answer}
-use Rattle.frames.specs.declared.turn.Fault.{Fault}
+use Rattle.tier_model.specs.declared.turn.Turn.{Turn as Answer}
+use Rattle.tier_model.specs.declared.turn.Fault.{Fault}
 use Rattle.world.specs.Parts.{View, PartOf, shape, Moves, Restarts, is_up}
 use Rattle.world.specs.declared.nodes.all_nodes.Nodes.{Nodes}
 use Rattle.world.specs.NodeLists.{view_up, views, KeepsElse, RowOf, ListMoves, MoveIn, NodesMove, RestartIn, NodeRestarts}

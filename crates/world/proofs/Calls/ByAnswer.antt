@@ -16,9 +16,9 @@ use Rattle.log_model.specs.Nodes.{Node as NodeOf, Device, recorded, stands, or_w
 use Rattle.log_model.specs.Nodes.Mode.{Up, Down}
 use Rattle.log_model.specs.Nodes.Device.{CutKeep, CutDrop, Fault as WasFault}
 use Rattle.log_values.specs.declared.fact.Fact.{Fact}
-use Rattle.frames.specs.declared.turn.Turn.{Turn as Answer}
-use Rattle.frames.specs.declared.turn.Fault.{Fault as NodeFault}
-use Rattle.frames.specs.declared.turn.Fault.TheVariants as faults
+use Rattle.tier_model.specs.declared.turn.Turn.{Turn as Answer}
+use Rattle.tier_model.specs.declared.turn.Fault.{Fault as NodeFault}
+use Rattle.tier_model.specs.declared.turn.Fault.TheVariants as faults
 use Rattle.tier_model.specs.Moves.{Move}
 use Rattle.run_model.specs.declared.trace.Fared.TheVariants.{Fine, Cut, Fault}
 use Rattle.run_model.specs.World.{device_of, fate, unwritten}

@@ -14,10 +14,10 @@ use Rattle.log_model.specs.Nodes.{Mode, Node as NodeOf, put, is_well}
 use Rattle.log_model.specs.Nodes.Mode.{Up}
 use Rattle.log_model.specs.declared.turn.LogIdle.{LogIdle}
 use Rattle.log_values.specs.declared.fact.Fact.{Fact}
-use Rattle.frames.specs.declared.turn.Turn.{Turn as Answer}
-use Rattle.frames.specs.declared.turn.Turn.TheVariants.{Did, Ran, Dropped, Idle as Idles}
-use Rattle.frames.specs.declared.turn.Fault.{Fault}
-use Rattle.frames.specs.declared.turn.Fault.TheVariants as faults
+use Rattle.tier_model.specs.declared.turn.Turn.{Turn as Answer}
+use Rattle.tier_model.specs.declared.turn.Turn.TheVariants.{Did, Ran, Dropped, Idle as Idles}
+use Rattle.tier_model.specs.declared.turn.Fault.{Fault}
+use Rattle.tier_model.specs.declared.turn.Fault.TheVariants as faults
 use Rattle.tier_model.specs.Moves.{Packet, Move, log_answer}
 use Rattle.tier_model.specs.Kinds.{State}
 use Rattle.run_model.specs.declared.trace.Fared.{Fared}

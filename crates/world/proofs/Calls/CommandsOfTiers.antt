@@ -15,9 +15,9 @@ use Rattle.log_model.specs.Rows.{lead, offer, wants}
 use Rattle.log_model.specs.Nodes.{Mode, Node as NodeOf, is_well}
 use Rattle.log_model.specs.Nodes.Mode.{Up, Down, Gone}
 use Rattle.log_values.specs.declared.fact.Fact.{Fact}
-use Rattle.frames.specs.declared.turn.Turn.{Turn as Answer}
-use Rattle.frames.specs.declared.turn.Fault.{Fault}
-use Rattle.frames.specs.declared.turn.Fault.TheVariants as faults
+use Rattle.tier_model.specs.declared.turn.Turn.{Turn as Answer}
+use Rattle.tier_model.specs.declared.turn.Fault.{Fault}
+use Rattle.tier_model.specs.declared.turn.Fault.TheVariants as faults
 use Rattle.round_model.specs.Lists.{is_some}
 use Rattle.round_model.specs.Service.{Backend}
 use Rattle.tier_model.specs.Moves.{Move}

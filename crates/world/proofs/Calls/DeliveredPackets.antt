@@ -17,8 +17,8 @@ use Rattle.aeg_base.specs.declared.memory.Memory.{Memory}
 use Rattle.aeg_disk.specs.Disk.{DiskState}
 use Rattle.frames.specs.declared.header.Header.{Header}
 use Rattle.frames.specs.declared.message.Msg.{Msg}
-use Rattle.frames.specs.declared.turn.Turn.{Turn as Answer}
-use Rattle.frames.specs.declared.turn.Fault.{Fault as NodeFault}
+use Rattle.tier_model.specs.declared.turn.Turn.{Turn as Answer}
+use Rattle.tier_model.specs.declared.turn.Fault.{Fault as NodeFault}
 use Rattle.frames.specs.Frames.{frame, header_for}
 use Rattle.frames.proofs.FrameGrammar.{frame_again}
 use Rattle.tier_model.specs.Moves.{Packet, Move}

@@ -16,8 +16,8 @@ use Rattle.log_model.specs.Log.{open_at}
 use Rattle.log_model.specs.Nodes.{Mode, Node as NodeOf, put, is_well}
 use Rattle.log_model.specs.Nodes.Mode.{Up, Down, Gone}
 use Rattle.log_values.specs.declared.fact.Fact.{Fact}
-use Rattle.frames.specs.declared.turn.Turn.{Turn as Answer}
-use Rattle.frames.specs.declared.turn.Fault.{Fault}
+use Rattle.tier_model.specs.declared.turn.Turn.{Turn as Answer}
+use Rattle.tier_model.specs.declared.turn.Fault.{Fault}
 use Rattle.tier_model.specs.Moves.{Move}
 use Rattle.tier_model.specs.Kinds.{State}
 use Rattle.run_model.specs.declared.trace.Fared.{Fared}

@@ -17,8 +17,8 @@ use Rattle.log_model.specs.Nodes.Mode.{Up, Down, Gone}
 use Rattle.log_model.specs.Recover.{newest}
 use Rattle.log_values.specs.declared.fact.Fact.{Fact}
 use Rattle.log_values.specs.Records.{record_text}
-use Rattle.frames.specs.declared.turn.Fault.{Fault as NodeFault}
-use Rattle.frames.specs.declared.turn.Fault.TheVariants as faults
+use Rattle.tier_model.specs.declared.turn.Fault.{Fault as NodeFault}
+use Rattle.tier_model.specs.declared.turn.Fault.TheVariants as faults
 use Rattle.tier_model.specs.Kinds.{State}
 use Rattle.run_model.specs.declared.trace.Found.{Found}
 use Rattle.run_model.specs.declared.trace.Found.TheVariants.{Reads as ReadsList, Fault as Fails}

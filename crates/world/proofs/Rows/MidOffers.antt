@@ -26,12 +26,12 @@ use Rattle.log_values.specs.declared.mid_value.MidValue.TheVariants.{Batch, Verd
 use Rattle.log_values.specs.declared.entry.Entry.{Entry}
 use Rattle.log_values.specs.Fields.{FitsBallot}
 use Rattle.log_values.specs.Values.{FitsMid}
-use Rattle.frames.specs.declared.turn.Fault.{Fault}
-use Rattle.frames.specs.declared.turn.Fault.TheVariants as faults
-use Rattle.frames.specs.declared.turn.Turn.{Turn as Answer}
-use Rattle.frames.specs.declared.turn.Turn.TheVariants.{Did, Idle as Idles}
-use Rattle.frames.specs.declared.turn.Idle.{Idle}
-use Rattle.frames.specs.declared.turn.Idle.TheVariants as why
+use Rattle.tier_model.specs.declared.turn.Fault.{Fault}
+use Rattle.tier_model.specs.declared.turn.Fault.TheVariants as faults
+use Rattle.tier_model.specs.declared.turn.Turn.{Turn as Answer}
+use Rattle.tier_model.specs.declared.turn.Turn.TheVariants.{Did, Idle as Idles}
+use Rattle.tier_model.specs.declared.turn.Idle.{Idle}
+use Rattle.tier_model.specs.declared.turn.Idle.TheVariants as why
 use Rattle.std.specs.Option.{is_some as std_some}
 use Rattle.round_model.specs.Lists.{is_some, is_nil, and_then, concat, each, odd, half}
 use Rattle.round_model.specs.Tables.{tables0, fresh_pending, batch_of, Parked}

@@ -21,11 +21,11 @@ use Rattle.log_values.specs.declared.mid_value.MidValue.TheVariants.{Batch, Verd
 use Rattle.log_values.specs.declared.entry.Entry.{Entry}
 use Rattle.log_values.specs.Fields.{FitsBallot, IsClient}
 use Rattle.frames.specs.declared.message.Msg.TheVariants as msgs
-use Rattle.frames.specs.declared.turn.Turn.{Turn as Answer}
-use Rattle.frames.specs.declared.turn.Turn.TheVariants.{Did, Idle as Idles}
-use Rattle.frames.specs.declared.turn.Idle.TheVariants as why
-use Rattle.frames.specs.declared.turn.Fault.{Fault}
-use Rattle.frames.specs.declared.turn.Fault.TheVariants as faults
+use Rattle.tier_model.specs.declared.turn.Turn.{Turn as Answer}
+use Rattle.tier_model.specs.declared.turn.Turn.TheVariants.{Did, Idle as Idles}
+use Rattle.tier_model.specs.declared.turn.Idle.TheVariants as why
+use Rattle.tier_model.specs.declared.turn.Fault.{Fault}
+use Rattle.tier_model.specs.declared.turn.Fault.TheVariants as faults
 use Rattle.round_model.specs.Lists.{is_some, put_at}
 use Rattle.round_model.specs.Service.{is_request}
 use Rattle.round_model.specs.Tables.{tables0, kept_of, pending_of}

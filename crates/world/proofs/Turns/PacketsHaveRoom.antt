@@ -10,9 +10,9 @@ use Rattle.aeg_base.specs.declared.names.Tier.{Tier}
 use Rattle.aeg_base.specs.declared.names.End.{End}
 use Rattle.aeg_disk.specs.Disk.{DiskState}
 use Rattle.log_model.specs.Log.{nobody}
-use Rattle.frames.specs.declared.turn.Turn.{Turn as Answer}
-use Rattle.frames.specs.declared.turn.Fault.{Fault}
-use Rattle.frames.specs.declared.turn.Fault.TheVariants as faults
+use Rattle.tier_model.specs.declared.turn.Turn.{Turn as Answer}
+use Rattle.tier_model.specs.declared.turn.Fault.{Fault}
+use Rattle.tier_model.specs.declared.turn.Fault.TheVariants as faults
 use Rattle.tier_model.specs.Moves.{Move}
 use Rattle.run_model.specs.World.{requests, request_to}
 use Rattle.world.specs.declared.nodes.all_nodes.Nodes.{Nodes}

@@ -25,8 +25,8 @@ use Rattle.log_values.specs.declared.entry.Entry.{Entry}
 use Rattle.log_values.specs.declared.fact.Fact.{Fact}
 use Rattle.log_values.specs.declared.fact.Fact.TheVariants.{Promised, Accepted, Learned, Held}
 use Rattle.log_values.specs.Fields.{FitsBallot}
-use Rattle.frames.specs.declared.turn.Fault.{Fault}
-use Rattle.frames.specs.declared.turn.Fault.TheVariants as faults
+use Rattle.tier_model.specs.declared.turn.Fault.{Fault}
+use Rattle.tier_model.specs.declared.turn.Fault.TheVariants as faults
 use Rattle.paxos_log.specs.TierLog.{NodeLog, with_state, new_log, newest_first}
 use Rattle.round_model.specs.Lists.{and_then}
 use Rattle.round_model.specs.After.{batch_at, verdict_at}

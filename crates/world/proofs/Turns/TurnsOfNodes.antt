@@ -35,9 +35,9 @@ use Rattle.log_values.specs.Fields.{FitsBallot}
 use Rattle.log_values.specs.Records.{record_text, FitsFact}
 use Rattle.frames.specs.LogMessages.{FitsLog}
 use Rattle.round_model.specs.Lists.{each}
-use Rattle.frames.specs.declared.turn.Turn.{Turn as Answer}
-use Rattle.frames.specs.declared.turn.Fault.{Fault}
-use Rattle.frames.specs.declared.turn.Fault.TheVariants as faults
+use Rattle.tier_model.specs.declared.turn.Turn.{Turn as Answer}
+use Rattle.tier_model.specs.declared.turn.Fault.{Fault}
+use Rattle.tier_model.specs.declared.turn.Fault.TheVariants as faults
 use Rattle.paxos_log.specs.TierLog.{NodeLog, with_state}
 use Rattle.tier_model.specs.Moves.{Move, log_packets, as_fact, log_answer, asks}
 use Rattle.world.specs.declared.nodes.working.Working.{Working}

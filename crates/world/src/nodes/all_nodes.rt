@@ -16,8 +16,9 @@ use super::mid_node::MidNode;
 use aeg_base::limits::MAX_FAULTS;
 use aeg_base::{End, Memory, NodeId, Tier};
 use aeg_disk::Disk;
-use frames::{Fault, Msg, Outbox, Turn};
+use frames::{Msg, Outbox};
 use std::alloc::Global;
+use tier_model::{Fault, Turn};
 
 /// The nodes of each tier by their indexes.
 #[derive(Drop)]

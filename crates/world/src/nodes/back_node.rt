@@ -18,11 +18,12 @@ use super::telling::offer_cause;
 use aeg_base::limits::MAX_FAULTS;
 use aeg_base::{End, NodeId, Tier};
 use aeg_disk::Disk;
-use frames::{Fault, Idle, Msg, Outbox, Refused, Turn};
+use frames::{Msg, Outbox, Refused};
 use log_values::AnyValue;
 use paxos_log::PaxMsg;
 use std::alloc::Global;
 use std::marker::Model;
+use tier_model::{Fault, Idle, Turn};
 
 /// A backend node while nothing is run: its log, which no value reaches.
 #[derive(Drop)]

@@ -27,11 +27,12 @@ use aeg_base::limits::{MAX_FAULTS, POSITIONS};
 use aeg_base::{End, Memory, NodeId, Pos, Seq, Tier};
 use aeg_disk::Disk;
 use fact_journal::FactJournal;
-use frames::{Fault, Outbox, Turn};
+use frames::Outbox;
 use log_values::{AnyValue, Record};
 use paxos_log::{LogTurn, Offering, PaxMsg, TierLog};
 use std::alloc::Global;
 use std::marker::Model;
+use tier_model::{Fault, Turn};
 
 /// A node with its log and its journal while it is up. While it is down it knows where its journal ended, and whether its
 /// disk may have one record more.

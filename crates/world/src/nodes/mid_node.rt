@@ -23,11 +23,12 @@ use aeg_base::limits::{MAX_DEPTH, MAX_FAULTS};
 use aeg_base::{Bytes, End, Memory, NodeId, Seq, Tier};
 use aeg_disk::Disk;
 use booking::read_request;
-use frames::{Fault, Idle, Msg, Outbox, Refused, Turn};
+use frames::{Msg, Outbox, Refused};
 use log_values::{AnyValue, Entry, MidValue};
 use paxos_log::PaxMsg;
 use std::alloc::Global;
 use std::marker::Model;
+use tier_model::{Fault, Idle, Turn};
 
 /// A middle node while nothing is run: its log, and the requests that wait for their round.
 #[derive(Drop)]

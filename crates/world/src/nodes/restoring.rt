@@ -6,10 +6,10 @@ ghost use Rattle.world.specs.Parts.{list_found};
 
 use aeg_base::Memory;
 use fact_journal::{AppendErr, OpenErr};
-use frames::Fault;
 use log_values::{AnyValue, Fact};
 use paxos_log::Fact as LogFact;
 use std::alloc::Global;
+use tier_model::Fault;
 
 /// Why a node went down, where its record was not written.
 pub fn fault_of(error: AppendErr) -> Fault

@@ -9,11 +9,12 @@ ghost use Rattle.world.specs.Parts.{sealed};
 ghost use Rattle.world.specs.LogNodes.{HasSent, IsFrameAt, needs_own};
 
 use aeg_base::{Bytes, End, Memory, NodeId, Seq, Value};
-use frames::{Idle, Outbox, Turn, encode_log};
+use frames::{Outbox, encode_log};
 use log_values::format::LAST_INDEX;
 use log_values::{AnyValue, Fact};
 use paxos_log::{Fact as LogFact, LogIdle, Offering, PaxMsg};
 use std::alloc::Global;
+use tier_model::{Idle, Turn};
 
 /// A fact of the log, as a journal has it.
 fn as_fact(fact: LogFact<AnyValue>) -> Fact

@@ -5,8 +5,8 @@ ghost use Rattle.world.specs.Disks.{place_of as disk_of};
 
 use aeg_base::{NodeId, Tier};
 use aeg_disk::Device;
-use frames::{Fault, Turn};
 use run_model::Fared;
+use tier_model::{Fault, Turn};
 
 /// The write or sync of an event, from 1 to 4, at which its disk stops, and whether what was written stays.
 #[derive(Clone, Copy, Debug, PartialEq, Eq)]

@@ -10,7 +10,8 @@ use super::arming::{StopAt, arm};
 use crate::nodes::{Command, Nodes};
 use aeg_base::{End, NodeId};
 use aeg_disk::Device;
-use frames::{Fault, Msg, Outbox, Turn};
+use frames::{Msg, Outbox};
+use tier_model::{Fault, Turn};
 
 /// Puts the power back after a call, and says whether an armed stop was met. The node is sure of its disk then.
 fn power<D: Device>(nodes: &mut Nodes, node: NodeId, disk: &mut D) -> bool

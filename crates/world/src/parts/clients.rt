@@ -15,8 +15,9 @@ use super::Parts;
 use crate::text::{add_busy, add_idle};
 use aeg_base::limits::{MAX_FAULTS, PACKETS_BEFORE};
 use aeg_base::{Bytes, End, Memory, NodeId, Tier};
-use frames::{Idle, Msg, Outbox, encode};
+use frames::{Msg, Outbox, encode};
 use std::alloc::Global;
+use tier_model::Idle;
 
 /// Adds a client's request to each of the 2u+1 middle nodes.
 fn add_requests(

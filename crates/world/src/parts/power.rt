@@ -14,8 +14,9 @@ use crate::text::{add_gone, add_idle_up, add_restart};
 use aeg_base::limits::PACKETS_BEFORE;
 use aeg_base::{Bytes, Memory, NodeId};
 use aeg_disk::Device;
-use frames::{Fault, Outbox};
+use frames::Outbox;
 use run_model::Found;
+use tier_model::Fault;
 
 fn is_gone(condition: Condition) -> bool
     ensures { result ≡ is_gone_in condition }

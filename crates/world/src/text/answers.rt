@@ -5,7 +5,7 @@ ghost use Rattle.world.specs.Telling.{told_fault, told_command, told_frame, told
 
 use crate::text::lines::{add_cut, add_disk, add_drop, add_full, add_idle, add_record};
 use aeg_base::{Bytes, End, Memory, NodeId};
-use frames::{Fault, Turn};
+use tier_model::{Fault, Turn};
 
 /// A fault of the node, unless it is want of memory. `met` says whether its disk met an armed stop.
 fn add_fault(out: &mut Bytes, node: NodeId, met: bool, fault: Fault) -> Result<(), Memory>

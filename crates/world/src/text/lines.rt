@@ -5,8 +5,9 @@ ghost use Rattle.run_model.specs.Text.{then_word, line_end, node_name, end_name,
 
 use crate::text::names::{add_end, add_node, add_number, add_tier};
 use aeg_base::{Bytes, End, Memory, NodeId};
-use frames::{Idle, Refused};
+use frames::Refused;
 use itoa::Buffer;
+use tier_model::Idle;
 
 fn add_cause(out: &mut Bytes, cause: Idle) -> Result<(), Memory>
     ensures { OnOk result (out.new ≡ out.old ++ cause_text cause) }

@@ -3,7 +3,7 @@ use Rattle.std.specs.Prelude.{map}
 use Rattle.std.proofs.lemmas.Bool.{cond-true, cond-false}
 use Rattle.std.proofs.lemmas.Result.{on_ok_weaker}
 use Rattle.aeg_base.specs.declared.names.End.TheVariants as ends
-use Rattle.frames.specs.declared.turn.Idle.TheVariants as why
+use Rattle.tier_model.specs.declared.turn.Idle.TheVariants as why
 use Rattle.run_model.specs.declared.trace.TraceEvent.TheVariants as events
 use Rattle.run_model.specs.World.{requests, reopens}
 use Rattle.run_model.specs.Text.{client_name, cause_text, idle_line}

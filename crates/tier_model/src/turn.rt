@@ -1,6 +1,6 @@
 // What a node answers to a packet or a command.
-use crate::Refused;
 use aeg_base::{Ballot, CallNo, Memory, Pos, Round, Seq, Tier};
+use frames::Refused;
 use thiserror::Error;
 
 /// How a job ran: its round, the steps of its segments, their order, and how often a group was run again.
@@ -53,7 +53,7 @@ pub enum Fault {
 
 impl From<Memory> for Fault {
     ghost use Rattle.std.specs.Prelude.{◌≡◌};
-    ghost use Rattle.frames.specs.declared.turn.Fault.TheVariants as faults;
+    ghost use Rattle.tier_model.specs.declared.turn.Fault.TheVariants as faults;
 
     ghost from_gives = { λ _ e. e ≡ faults.Memory };
 
