@@ -53,7 +53,7 @@ pub record IsFinishIn (m : Programs) (ws : List Want) (o : Finish) : Type 0 wher
 
 -- A COMMIT
 
-fitting_ends : (m : Programs) (ws : List Want) (es : List Ending) → fits m ws es ≡ true → Every IsEnding es → AreEndsIn m ws es
+pub fitting_ends : (m : Programs) (ws : List Want) (es : List Ending) → fits m ws es ≡ true → Every IsEnding es → AreEndsIn m ws es
 fitting_ends m [] [] f k = tt
 fitting_ends m [] (e ∷ es) f k = absurd (cc)
 fitting_ends m (w ∷ ws) [] f k = absurd (cc)
@@ -63,17 +63,17 @@ written_in : (s : Store) (k : Key) (v : ℕ) → IsStore s → IsKey k → v < 2
 written_in s k v st key small =
     one_store_in (λ i. Writes k v (Ends (Reply []))) (λ i. (omega arith, (omega arith, (key, (small, (omega arith, omega arith)))))) 0 s st
 
-all_written : (s : Store) (ps : List (Key × ℕ)) → IsStore s → Every FitsPair ps → IsStore (written_all s ps)
+pub all_written : (s : Store) (ps : List (Key × ℕ)) → IsStore s → Every FitsPair ps → IsStore (written_all s ps)
 all_written s [] st k = st
 all_written s (p ∷ ps) st k = all_written (written s p.0 p.1) ps (written_in s p.0 p.1 st k.0.0 k.0.1) k.1
 
 -- the outcome that a token tells has a spelling
-told_fits : (m : Programs) (token order : List ℕ) (o : Outcome) → IsServiceIn m → IsCommit token order → m.read token ≡ Some o → FitsOutcome o
+pub told_fits : (m : Programs) (token order : List ℕ) (o : Outcome) → IsServiceIn m → IsCommit token order → m.read token ≡ Some o → FitsOutcome o
 told_fits m token order o k c e =
     subst FitsOutcome (same_Some c.told o (sym (token_read c.told c.fits) ∙
     (ap (λ z. whole (outcome_at z)) (sym c.spelled) ∙ (sym (k.reads token) ∙ e)))) c.fits
 
-commit_in : (m : Programs) (ws : List Want) (T : Tables) (token order : List ℕ) (f : Finish) → IsServiceIn m → IsStore T.store → IsCommit token order
+pub commit_in : (m : Programs) (ws : List Want) (T : Tables) (token order : List ℕ) (f : Finish) → IsServiceIn m → IsStore T.store → IsCommit token order
     → and_then (m.read token) (λ o. cond (fits m ws o.ends) (Some (finish_by T.store o)) None) ≡ Some f → IsFinishIn m ws f
 commit_in m ws T token order f k st c e =
     let p = then_parts (m.read token) (λ o. cond (fits m ws o.ends) (Some (finish_by T.store o)) None) f e in
@@ -96,7 +96,7 @@ row_fits : (m : Programs) (w : Want) (row : Option (Option ℕ → Store → Seg
 row_fits m w None answer s g = refl
 row_fits m w (Some row) answer s g = staged m w (row answer s).ending (g answer s)
 
-segment_fits : (m : Programs) (w : Want) (j : Seg) (s : Store) → IsServiceIn m → IsFor w j → fit m w (segment m (Some j) s).ending ≡ true
+pub segment_fits : (m : Programs) (w : Want) (j : Seg) (s : Store) → IsServiceIn m → IsFor w j → fit m w (segment m (Some j) s).ending ≡ true
 segment_fits m w j s k f =
     row_fits m w (m.table j.who j.body j.stage) j.answer s
     (subst (λ z. GoesOn (m.table j.who j.body j.stage) (m.table z.0 z.1)) pair (k.again j.who j.body j.stage))
@@ -104,7 +104,7 @@ segment_fits m w j s k f =
     pair : ◌≡◌ {A = ReqId × List ℕ} (j.who, j.body) (who_wants w, w.body)
     pair = ap (λ z. (z, j.body)) f.who ∙ ap (λ z. (who_wants w, z)) f.body
 
-end_fits : (m : Programs) (J : List Seg) (order : List ℕ) (s : Store) (k : ℕ) (w : Want) (j : Seg) → IsServiceIn m → slice_get J k ≡ Some j → IsFor w j
+pub end_fits : (m : Programs) (J : List Seg) (order : List ℕ) (s : Store) (k : ℕ) (w : Want) (j : Seg) → IsServiceIn m → slice_get J k ≡ Some j → IsFor w j
     → fit m w (serial_end m J order s k) ≡ true
 end_fits m J [] s k w j i e f = refl
 end_fits m J (x ∷ xs) s k w j i e f = cond_both (x == k) _ _ (λ z. fit m w z ≡ true)

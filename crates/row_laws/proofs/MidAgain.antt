@@ -52,18 +52,18 @@ use Rattle.row_laws.proofs.Restored.{log_restored, log_opens}
 -- CALLS THAT WAIT
 
 -- at most 16 requests wait
-clients_in : (ps : List Parked) → All IsWaiting ps → All (λ (c : ℕ). (1 ≤ c) × (c ≤ 16)) (map owner ps)
+pub clients_in : (ps : List Parked) → All IsWaiting ps → All (λ (c : ℕ). (1 ≤ c) × (c ≤ 16)) (map owner ps)
 clients_in [] k = All-nil (λ (c : ℕ). (1 ≤ c) × (c ≤ 16))
 clients_in (p ∷ ps) k =
     let here : IsWaiting p = All-head IsWaiting p ps k in
     All-cons (λ (c : ℕ). (1 ≤ c) × (c ≤ 16)) p.client (map owner ps) (here.client_low, here.client_high) (clients_in ps (All-tail IsWaiting p ps k))
 
-few_wait : (m : Programs) (depth a : ℕ) (T : Tables) → AreTablesIn m depth a T → length (concat T.queue) ≤ 16
+pub few_wait : (m : Programs) (depth a : ℕ) (T : Tables) → AreTablesIn m depth a T → length (concat T.queue) ≤ 16
 few_wait m depth a T k = let e =
     at_most_16 (map owner (concat T.queue)) (clients_in (concat T.queue) k.rounds.requests) k.rounds.once in omega
     (arith, e, length-map (concat T.queue) owner)
 
-open_in : (P : Parked → Type 0) (h : HeldState) (t : Tier) (ps : List Parked) → Every P ps → Every P (open_calls h t ps)
+pub open_in : (P : Parked → Type 0) (h : HeldState) (t : Tier) (ps : List Parked) → Every P ps → Every P (open_calls h t ps)
 open_in P h t [] k = tt
 open_in P h t (p ∷ ps) k = cond_both (same_tier p.tier t && not (is_some (held_code h p.tier p.num))) _ _ (Every P) (λ e. (k.0, open_in P h t ps k.1))
     (λ e. open_in P h t ps k.1)
@@ -99,7 +99,7 @@ insert_in : (P : Parked → Type 0) (p : Parked) (ps : List Parked) → P p → 
 insert_in P p [] f k = (f, tt)
 insert_in P p (q ∷ qs) f k = cond_both (nat_lt q.num p.num) _ _ (Every P) (λ e. (k.0, insert_in P p qs f k.1)) (λ e. (f, k))
 
-sorted_in : (P : Parked → Type 0) (ps : List Parked) → Every P ps → Every P (by_number ps)
+pub sorted_in : (P : Parked → Type 0) (ps : List Parked) → Every P ps → Every P (by_number ps)
 sorted_in P [] k = tt
 sorted_in P (p ∷ ps) k = insert_in P p (by_number ps) k.0 (sorted_in P ps k.1)
 
@@ -114,7 +114,7 @@ sorted_length (p ∷ ps) = insert_length p (by_number ps) ∙ ap suc (sorted_len
 
 -- ANSWERS AND FLOORS
 
-codes_in : (u x : ℕ) (h : HeldState) (t : Tier) → Every IsAnswerIn (answers_of h t) → Every IsCode (highest h t)
+pub codes_in : (u x : ℕ) (h : HeldState) (t : Tier) → Every IsAnswerIn (answers_of h t) → Every IsCode (highest h t)
 codes_in u x h t k = map_in IsCode with_code (last 16 (answers_of h t))
     (fewer (last 16 (answers_of h t)) (drop_in IsAnswerIn (length (answers_of h t) - 16) (answers_of h t) k))
   where
@@ -122,10 +122,10 @@ codes_in u x h t k = map_in IsCode with_code (last 16 (answers_of h t))
     fewer [] k = tt
     fewer (e ∷ es) k = ((k.0.0, k.0.1.0), fewer es k.1)
 
-codes_few : (h : HeldState) (t : Tier) → length (highest h t) ≤ 16
+pub codes_few : (h : HeldState) (t : Tier) → length (highest h t) ≤ 16
 codes_few h t = omega (arith, length-map (last 16 (answers_of h t)) with_code, last_few 16 (answers_of h t))
 
-floor_high : (h : HeldState) (t : Tier) → floor h t < 2 ^ 32
+pub floor_high : (h : HeldState) (t : Tier) → floor h t < 2 ^ 32
 floor_high h t = let e = floor_most h.faults h.me (answers_of h t) in omega (arith, e)
 
 -- RETRY
@@ -201,7 +201,7 @@ long_lists : (depth : ℕ) → length (tables0 depth).queue ≡ depth
 long_lists zero = refl
 long_lists (suc n) = ap suc (long_lists n)
 
-first_tables : (m : Programs) (depth : ℕ) → 1 ≤ depth → AreTablesIn m depth 0 (tables0 depth)
+pub first_tables : (m : Programs) (depth : ℕ) → 1 ≤ depth → AreTablesIn m depth 0 (tables0 depth)
 first_tables m depth deep = record {
   store = empty_store;
   last = replicate_in (λ (seq : ℕ). seq ≤ LAST_SEQ) 17 0 (omega arith);
@@ -216,13 +216,13 @@ nobody_at zero c e f = cc
 nobody_at (suc n) zero e f = cc
 nobody_at (suc n) (suc c) e f = nobody_at n c e f
 
-no_pending : ArePendingIn (replicate 17 None)
+pub no_pending : ArePendingIn (replicate 17 None)
 no_pending = record {
   stand = record { places = refl; stand = λ c e f. absurd (nobody_at 17 c e f) };
   fit = replicate_in (λ entry. IfSome entry FitsEntry) 17 None tt;
 }
 
-bare_in : {B : Type 0} (s : Service B) (u depth x : ℕ) (rs : List (List Fact)) → 1 ≤ depth → Fit InMid rs
+pub bare_in : {B : Type 0} (s : Service B) (u depth x : ℕ) (rs : List (List Fact)) → 1 ≤ depth → Fit InMid rs
     → IsMidIn s.programs u depth x (bare u depth x (newest rs))
 bare_in s u depth x rs deep fit = record {
   log = log_restored u InMid rs fit;
@@ -235,7 +235,7 @@ bare_in s u depth x rs deep fit = record {
 }
 
 -- rounds are applied one after another
-catches_up : {B : Type 0} (s : Service B) (u depth x n : ℕ) (σ : Mid) → IsServiceIn s.programs → IsMidIn s.programs u depth x σ
+pub catches_up : {B : Type 0} (s : Service B) (u depth x n : ℕ) (σ : Mid) → IsServiceIn s.programs → IsMidIn s.programs u depth x σ
     → IsMidIn s.programs u depth x (catch_up s.programs n σ)
 catches_up s u depth x zero σ service k = k
 catches_up s u depth x (suc n) σ service k = go (ready s.programs σ) refl (λ R here. catches_up s u depth x n (apply σ R) service here)
@@ -250,7 +250,7 @@ catches_up s u depth x (suc n) σ service k = go (ready s.programs σ) refl (λ 
 abbrev next_left : Programs → ℕ → Mid → Option Ready → Mid
 next_left m n σ o = elim o [ None ↦ σ | Some R ↦ catch_up m n (apply σ R) ]
 
-catching_log : (m : Programs) (n : ℕ) (σ : Mid) → (catch_up m n σ).log ≡ σ.log
+pub catching_log : (m : Programs) (n : ℕ) (σ : Mid) → (catch_up m n σ).log ≡ σ.log
 catching_log m zero σ = refl
 catching_log m (suc n) σ = go (ready m σ) (λ R. catching_log m n (apply σ R))
   where

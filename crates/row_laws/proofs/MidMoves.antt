@@ -249,7 +249,7 @@ module _ {B : Type 0} (s : Service B) (u depth x : ℕ) (σ : Mid) where
       (holds_all (hears σ.held y t n code) k held) refl)
       (λ g. taken_in (hears σ.held y t n code) t n code small l k held b c i))
 
-backend_sender : (u : ℕ) (from : End) → is_backend_node u from ≡ true → IsBackend (tier_of from)
+pub backend_sender : (u : ℕ) (from : End) → is_backend_node u from ≡ true → IsBackend (tier_of from)
 backend_sender u (Client c) e = absurd (cc)
 backend_sender u (Node n) e = go (is_node_of u Inv (Node n)) refl e
   where
@@ -258,7 +258,7 @@ backend_sender u (Node n) e = go (is_node_of u Inv (Node n)) refl e
     go false f g = let y = sender_is u Pay (Node n) g in subst (λ z. IsBackend (tier_of z)) (sym y.2) tt
 
 -- a request comes from a client
-client_in : (from : End) (n : ℕ) (body : List ℕ) → not (is_client from) ≡ false → FitsFrame from (msgs.Request n body) → IsClient (end_index from)
+pub client_in : (from : End) (n : ℕ) (body : List ℕ) → not (is_client from) ≡ false → FitsFrame from (msgs.Request n body) → IsClient (end_index from)
 client_in (Node n) seq body e f = absurd (cc)
 client_in (Client c) seq body e f = f.sender
 
@@ -306,16 +306,16 @@ fresh_fit : (m : Programs) (T : Tables) (o : Option Entry) → IfSome o FitsEntr
 fresh_fit m T None k = tt
 fresh_fit m T (Some e) k = cond_both (is_fresh m T e) _ _ (Every FitsEntry) (λ t. (k, tt)) (λ t. tt)
 
-pending_fit : (m : Programs) (T : Tables) (pending : List (Option Entry)) (c : ℕ) → ArePendingIn pending → Every FitsEntry (fresh_pending m T pending c)
+pub pending_fit : (m : Programs) (T : Tables) (pending : List (Option Entry)) (c : ℕ) → ArePendingIn pending → Every FitsEntry (fresh_pending m T pending c)
 pending_fit m T pending zero k = tt
 pending_fit m T pending (suc c) k =
     every-append FitsEntry (fresh_pending m T pending c) (if_fresh m T (pending_of pending (suc c))) (pending_fit m T pending c k)
     (fresh_fit m T (pending_of pending (suc c)) (at_in (λ o. IfSome o FitsEntry) pending (suc c) tt k.fit))
 
-batch_fits : (m : Programs) (T : Tables) (pending : List (Option Entry)) → ArePendingIn pending → FitsMid (Batch (batch_of m T pending))
+pub batch_fits : (m : Programs) (T : Tables) (pending : List (Option Entry)) → ArePendingIn pending → FitsMid (Batch (batch_of m T pending))
 batch_fits m T pending k = (take_few 8 (fresh_pending m T pending 16), take_in FitsEntry 8 (fresh_pending m T pending 16) (pending_fit m T pending 16 k))
 
-verdict_fits : (u : ℕ) (claims : Claims) → AreClaimsIn claims → IfSome (verdict u claims) (λ v. FitsMid (Decided v))
+pub verdict_fits : (u : ℕ) (claims : Claims) → AreClaimsIn claims → IfSome (verdict u claims) (λ v. FitsMid (Decided v))
 verdict_fits u claims k = by (nat_lt u (how_many u claims)) (lowest_backed u claims) (backed (lowest (2 * u + 1) (λ y. is_backed u claims (claim_of claims y))))
   where
     backed : (o : Option ℕ) → IfSome (and_then o (claim_of claims)) (λ c. IsCommit c.token c.order)
@@ -327,7 +327,7 @@ verdict_fits u claims k = by (nat_lt u (how_many u claims)) (lowest_backed u cla
     by false None f = tt
     by b (Some c) f = f
 
-own_in : {B : Type 0} (s : Service B) (u depth x : ℕ) (σ : Mid) → IsMidIn s.programs u depth x σ
+pub own_in : {B : Type 0} (s : Service B) (u depth x : ℕ) (σ : Mid) → IsMidIn s.programs u depth x σ
     → IsOwnIn (IsCarried InMid) (open_at σ.log) (own_value u s.programs σ)
 own_in s u depth x σ k = cond_both (odd (open_at σ.log)) _ _ (IsOwnIn (IsCarried InMid) (open_at σ.log))
     (λ e. decided e (verdict u (claims_in σ.tally (half (open_at σ.log))))

@@ -45,11 +45,11 @@ use Rattle.row_laws.proofs.Applied.{settled_in, left_in}
 -- WHAT THE LOG HAS
 
 -- a batch, and its round
-record HasBatch (σ : Mid) (es : List Entry) : Type 0 where
+pub record HasBatch (σ : Mid) (es : List Entry) : Type 0 where
   pub fit : Every FitsEntry es
   pub room : 2 * σ.applied < open_at σ.log
 
-batch_of_log : (σ : Mid) (es : List Entry) → IsLogIn (IsCarried InMid) FitsBallot σ.log → batch_at σ.log.learned σ.applied ≡ Some es → HasBatch σ es
+pub batch_of_log : (σ : Mid) (es : List Entry) → IsLogIn (IsCarried InMid) FitsBallot σ.log → batch_at σ.log.learned σ.applied ≡ Some es → HasBatch σ es
 batch_of_log σ es k e =
     let v = batch_in-some (slice_get σ.log.learned (2 * σ.applied)) es e in
     record { fit = go v.0 (k.learned (2 * σ.applied) v.0 v.1) v.2; room = slice_get_within σ.log.learned (2 * σ.applied) v.0 v.1 }
@@ -59,11 +59,11 @@ batch_of_log σ es k e =
     go (OfMid (Decided w)) c f = absurd (cc)
     go (OfBack w) c f = absurd (cc)
 
-record HasVerdict (σ : Mid) (v : Verdict) : Type 0 where
+pub record HasVerdict (σ : Mid) (v : Verdict) : Type 0 where
   pub fit : FitsMid (Decided v)
   pub room : 2 * σ.applied + 1 < open_at σ.log
 
-verdict_of_log : (σ : Mid) (w : Verdict) → IsLogIn (IsCarried InMid) FitsBallot σ.log → verdict_at σ.log.learned σ.applied ≡ Some w → HasVerdict σ w
+pub verdict_of_log : (σ : Mid) (w : Verdict) → IsLogIn (IsCarried InMid) FitsBallot σ.log → verdict_at σ.log.learned σ.applied ≡ Some w → HasVerdict σ w
 verdict_of_log σ w k e =
     let v = verdict_in-some (slice_get σ.log.learned (2 * σ.applied + 1)) w e in
     record { fit = go v.0 (k.learned (2 * σ.applied + 1) v.0 v.1) v.2; room = slice_get_within σ.log.learned (2 * σ.applied + 1) v.0 v.1 }

@@ -38,16 +38,16 @@ pub there_some : {A : Type 0} (o : Option A) → IsSome o → is_some o ≡ true
 there_some None e = absurd (cc)
 there_some (Some a) e = refl
 
-resumed_in : (m : Programs) (ps : List Parked) → Every IsAsking (map resumed ps) → Every (IsParkedIn m) ps → Every (IsWantIn m) (map resumed ps)
+pub resumed_in : (m : Programs) (ps : List Parked) → Every IsAsking (map resumed ps) → Every (IsParkedIn m) ps → Every (IsWantIn m) (map resumed ps)
 resumed_in m [] a k = tt
 resumed_in m (p ∷ ps) a k = (record { asks = a.0; body = k.0.body; stage = k.0.stage }, resumed_in m ps a.1 k.1)
 
 -- a fresh entry has a text, and its request has a first stage
-record IsStart (m : Programs) (e : Entry) : Type 0 where
+pub record IsStart (m : Programs) (e : Entry) : Type 0 where
   pub body : IsText e.body
   pub stage : IsSome (m.table (who_of e) e.body 0)
 
-starts_in : {B : Type 0} (s : Service B) (T : Tables) (es : List Entry) → Every FitsEntry es → Every (IsStart s.programs) (fresh_entries s.programs T es)
+pub starts_in : {B : Type 0} (s : Service B) (T : Tables) (es : List Entry) → Every FitsEntry es → Every (IsStart s.programs) (fresh_entries s.programs T es)
 starts_in s T es k = every_from (IsStart s.programs) (fresh_entries s.programs T es) (λ i e f.
     let was = fresh-at s T [] es i e f in
     record {
@@ -55,7 +55,7 @@ starts_in s T es k = every_from (IsStart s.programs) (fresh_entries s.programs T
       stage = some_there (s.programs.table (who_of e) e.body 0) (is_fresh_parts s T e was.0).body;
     })
 
-started_in : (m : Programs) (es : List Entry) → Every IsAsking (map started es) → Every (IsStart m) es → Every (IsWantIn m) (map started es)
+pub started_in : (m : Programs) (es : List Entry) → Every IsAsking (map started es) → Every (IsStart m) es → Every (IsWantIn m) (map started es)
 started_in m [] a k = tt
 started_in m (e ∷ es) a k = (record { asks = a.0; body = k.0.body; stage = k.0.stage }, started_in m es a.1 k.1)
 
@@ -88,10 +88,10 @@ pub record IsFor (w : Want) (j : Seg) : Type 0 where
   pub body : j.body ≡ w.body
   pub stage : j.stage ≡ w.stage
 
-seg_for : (w : Want) (answer : Option ℕ) (j : Seg) → Some (as_seg w answer) ≡ Some j → IsFor w j
+pub seg_for : (w : Want) (answer : Option ℕ) (j : Seg) → Some (as_seg w answer) ≡ Some j → IsFor w j
 seg_for w answer j e = subst (IsFor w) (same_Some (as_seg w answer) j e) (record { who = refl; body = refl; stage = refl })
 
-answered_for : (A : Codes) (w : Want) (k : Option Number) (j : Seg) → answered A w k ≡ Some j → IsFor w j
+pub answered_for : (A : Codes) (w : Want) (k : Option Number) (j : Seg) → answered A w k ≡ Some j → IsFor w j
 answered_for A w None j e = seg_for w None j e
 answered_for A w (Some k) j e = let p = then_parts (A k.tier k.num) (λ code. Some (as_seg w (Some code))) j e in seg_for w (Some p.0) j p.2
 
@@ -115,7 +115,7 @@ length_for [] (j ∷ js) k = absurd k
 length_for (w ∷ ws) [] k = absurd k
 length_for (w ∷ ws) (j ∷ js) k = ap suc (length_for ws js k.1)
 
-asked_for : (m : Programs) (ws : List Want) (J : List Seg) → AreFor ws J → Every (IsWantIn m) ws → (i : ℕ) (j : Seg) → slice_get J i ≡ Some j → IsRequest j.who
+pub asked_for : (m : Programs) (ws : List Want) (J : List Seg) → AreFor ws J → Every (IsWantIn m) ws → (i : ℕ) (j : Seg) → slice_get J i ≡ Some j → IsRequest j.who
 asked_for m [] [] k f i j e = absurd (cc)
 asked_for m [] (x ∷ xs) k f i j e = absurd k
 asked_for m (w ∷ ws) [] k f i j e = absurd k

@@ -39,7 +39,7 @@ pub serial_is : (m : Programs) → Agrees m → (J : List Seg) (order : List ℕ
 serial_is m a J [] s = refl
 serial_is m a J (i ∷ is) s = serial_is m a J is (store_after (plan_at m.begins J i) s) ∙ ap (λ (g : Segment). serial m J is g.store) (segment_is m a J i s)
 
-end_is : (m : Programs) → Agrees m → (J : List Seg) (order : List ℕ) (s : Store) (k : ℕ)
+pub end_is : (m : Programs) → Agrees m → (J : List Seg) (order : List ℕ) (s : Store) (k : ℕ)
     → unwrap_or (plans.serial_end (plan_at m.begins J) s order k) said_nothing ≡ serial_end m J order s k
 end_is m a J [] s k = refl
 end_is m a J (i ∷ is) s k = at (i == k) (end_is m a J is (store_after p s) k)
@@ -59,11 +59,11 @@ tabulate-push : {A : Type 0} (n : ℕ) (f : ℕ → A) → tabulate (suc n) f �
 tabulate-push zero f = refl
 tabulate-push (suc n) f = ap (λ xs. f 0 ∷ xs) (tabulate-push n (λ i. f (suc i)))
 
-map-below : {A : Type 0} (f : ℕ → A) (n : ℕ) → map f (below n) ≡ tabulate n f
+pub map-below : {A : Type 0} (f : ℕ → A) (n : ℕ) → map f (below n) ≡ tabulate n f
 map-below f zero = refl
 map-below f (suc n) = map-append f (below n) (n ∷ []) ∙ ap (λ xs. xs ++ f n ∷ []) (map-below f n) ∙ sym (tabulate-push n f)
 
-tabulate-same : {A : Type 0} (n : ℕ) (f g : ℕ → A) → ((i : ℕ) → f i ≡ g i) → tabulate n f ≡ tabulate n g
+pub tabulate-same : {A : Type 0} (n : ℕ) (f g : ℕ → A) → ((i : ℕ) → f i ≡ g i) → tabulate n f ≡ tabulate n g
 tabulate-same zero f g h = refl
 tabulate-same (suc n) f g h = λ i. h 0 i ∷ tabulate-same n (λ k. f (suc k)) (λ k. g (suc k)) (λ k. h (suc k)) i
 
