@@ -114,14 +114,24 @@ impl<V: Drop> Numbered<V> {
         }
     }
 
+    /// Gives out the value of the number, which has none from now on.
+    pub fn remove(&mut self, no: u32) -> Option<V>
+        ensures value { result ≡ find self.old no }
+        ensures without { self.new ≡ without self.old no }
+        ensures sorted { IsTrue (rises 0 self.old) }
+    {
+        match place_of(&self.rows, no) {
+            Ok(at) => Some(self.rows.remove(at).1),
+            Err(_) => None,
+        }
+    }
+
     /// The number has none from now on.
     pub fn take_out(&mut self, no: u32)
         ensures without { self.new ≡ without self.old no }
         ensures sorted { IsTrue (rises 0 self.old) }
     {
-        if let Ok(at) = place_of(&self.rows, no) {
-            self.rows.remove(at);
-        }
+        let _value = self.remove(no);
     }
 
     /// Drops all numbers below this one.
