@@ -19,7 +19,7 @@ use Rattle.node_log.specs.LogNodes.{IsLogTurn, IsOwnLog, whole_turn}
 use Rattle.node_log.specs.Packets.{sealed, all_sealed, StillHas}
 use Rattle.node_log.specs.Settling.{CanRecord}
 use Rattle.node_log.proofs.Turns.{turn_recorded, own_after}
-use Rattle.backend_node.specs.declared.member.Member.{Member}
+use Rattle.node_log.specs.declared.member.Member.{Member}
 use Rattle.backend_node.specs.declared.serving.Serving.{Serving}
 use Rattle.backend_node.specs.Backends.{AllFit, answer_of, back_with, told_to_all}
 use Rattle.backend_node.specs.Deciding.{DecidesMove, IsInRange, back_in}

@@ -13,7 +13,7 @@ use Rattle.tier_model.specs.Back.{Back}
 use Rattle.tier_model.specs.BackRows.{copied, notes_copy}
 use Rattle.node_log.specs.declared.decided.Decided.{Decided}
 use Rattle.node_log.specs.declared.working.Working.{Working}
-use Rattle.backend_node.specs.declared.member.Member.{Member}
+use Rattle.node_log.specs.declared.member.Member.{Member}
 use Rattle.backend_node.specs.declared.serving.Serving.{Serving}
 use Rattle.backend_node.specs.Deciding.{DecidesMove, IsInRange, back_in}
 use Rattle.backend_node.proofs.Decided.{without_facts}

@@ -17,7 +17,7 @@ use Rattle.node_log.specs.Packets.{StillHas}
 use Rattle.node_log.specs.Settling.{Records}
 use Rattle.node_log.specs.Views.{View, Moves, Tells, seen_as, went_down}
 use Rattle.node_log.proofs.Moved.{moves, taken_back}
-use Rattle.backend_node.specs.declared.member.Member.{Member}
+use Rattle.node_log.specs.declared.member.Member.{Member}
 use Rattle.backend_node.specs.declared.serving.Serving.{Serving}
 use Rattle.backend_node.specs.Backends.{back_of}
 use Rattle.backend_node.specs.Deciding.{DecidesMove, back_in}

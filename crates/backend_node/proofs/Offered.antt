@@ -14,7 +14,8 @@ use Rattle.tier_model.specs.Back.{Back, in_log}
 use Rattle.tier_model.specs.BackRows.{offers, offers_as, own_value}
 use Rattle.node_log.specs.Packets.{needs_own}
 use Rattle.node_log.proofs.Quiet.{offer_none}
-use Rattle.backend_node.specs.Deciding.{idle_in}
+use Rattle.node_log.specs.Deciding.{idle_in}
+use Rattle.backend_node.specs.Deciding.{}
 
 module _ {B : Type 0} (u : ℕ) (b : Backend B) (t : Tier) (x : ℕ) (σ : Back B) where
   abbrev offered : Move (Back B)

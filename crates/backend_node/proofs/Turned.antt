@@ -23,7 +23,7 @@ use Rattle.tier_model.specs.BackRows.{own_value}
 use Rattle.node_log.specs.declared.working.Working.{Working}
 use Rattle.node_log.specs.LogNodes.{IsLogTurn, IsOwnLog}
 use Rattle.node_log.proofs.Turns.{message_turn, lead_turn, offer_turn}
-use Rattle.backend_node.specs.declared.member.Member.{Member}
+use Rattle.node_log.specs.declared.member.Member.{Member}
 use Rattle.backend_node.specs.declared.serving.Serving.{Serving}
 use Rattle.backend_node.specs.Deciding.{IsMember, IsInRange, back_in}
 use Rattle.tier_model.proofs.Carried.{own_carried}

@@ -8,10 +8,10 @@ ghost use Rattle.node_log.specs.Quiet.{IsUnmoved, is_quiet};
 ghost use Rattle.node_log.specs.Received.{on_bytes};
 ghost use Rattle.node_log.specs.Restarting.{ComesUp};
 ghost use Rattle.backend_node.specs.Backends.{backend_by};
-ghost use Rattle.backend_node.specs.Deciding.{IsMember, idle_in};
+ghost use Rattle.node_log.specs.Deciding.{idle_in};
+ghost use Rattle.backend_node.specs.Deciding.{IsMember};
 
 use crate::frames_in::receive;
-use crate::member::Member;
 use crate::offering::{offer, offer_idle};
 use crate::restoring::serve_again;
 use crate::serving::Serving;
@@ -23,7 +23,7 @@ use aeg_disk::Disk;
 use fact_journal::FactJournal;
 use frames::Outbox;
 use log_values::Fact;
-use node_log::{LogNode, restored};
+use node_log::{LogNode, Member, restored};
 use std::alloc::Global;
 use std::marker::Model;
 use svc_api::Backend;
@@ -67,7 +67,7 @@ impl<B: Backend> BackNode<B> {
         }
     }
 
-    pub fn is_up(&self) -> bool
+    pub fn up(&self) -> bool
         ensures { result ≡ is_up self.now }
     {
         self.node.is_up()

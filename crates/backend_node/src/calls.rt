@@ -5,12 +5,11 @@ ghost use Rattle.round_model.specs.Shims.{is_done};
 ghost use Rattle.tier_model.specs.BackRows.{notes_copy, on_call, on_settle};
 ghost use Rattle.backend_node.specs.Deciding.{DecidesMove, IsInRange, IsMember, back_in};
 
-use crate::member::Member;
 use crate::serving::Serving;
 use crate::telling::answer_one;
 use aeg_base::{Bytes, CallNo, Memory};
 use frames::Outbox;
-use node_log::{Decided, Working};
+use node_log::{Decided, Member, Working};
 use server_shim::Kept;
 use svc_api::Backend;
 use tier_model::{Idle, Turn};

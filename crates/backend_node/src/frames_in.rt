@@ -1,5 +1,4 @@
 // Frames that come in.
-ghost use Rattle.std.specs.Prelude.{◌≡◌, []};
 ghost use Rattle.frames.specs.declared.message.Msg.TheVariants as msgs;
 ghost use Rattle.frames.specs.Frames.{FitsFrame};
 ghost use Rattle.tier_model.specs.BackRows.{on_frame};
@@ -8,24 +7,15 @@ ghost use Rattle.backend_node.specs.Backends.{backend_by};
 ghost use Rattle.backend_node.specs.Deciding.{DecidesMove, IsInRange, IsMember, back_in};
 
 use crate::calls::{on_call, on_settle};
-use crate::member::Member;
 use crate::serving::Serving;
 use crate::turns::take_turn;
 use aeg_base::{End, Memory, Tier};
-use frames::{FrameErr, Msg, Outbox, Refused, decode};
+use frames::{FrameErr, Msg, Outbox, decode};
 use log_values::AnyValue;
-use node_log::{Decided, Working, node_in};
+use node_log::{Decided, Member, Working, node_in};
 use paxos_log::PaxMsg;
 use svc_api::Backend;
 use tier_model::Turn;
-
-/// A kind that the node doesn't take, or not from there.
-fn refused(member: Member) -> Decided
-    ensures facts { result.facts.items ≡ [] }
-    ensures answer { result.answer ≡ Turn.Dropped (Refused.Row 7) }
-{
-    Decided::without_facts(member.alloc, Turn::Dropped(Refused::Row(7)))
-}
 
 /// A message of the log, from a node of its tier.
 fn on_log<B: Backend>(
@@ -42,7 +32,7 @@ fn on_log<B: Backend>(
         from (msgs.Log message.now)) up.old up.new out.old out.new result }
 {
     let Some(index) = node_in(member.faults, member.me.tier, from) else {
-        return Ok(refused(member));
+        return Ok(Decided::refused(member.alloc, 7));
     };
     let open = up.log.first_open();
     let turn = up.log.on_msg(index, message)?;
@@ -66,14 +56,14 @@ fn on_message<B: Backend>(
     match message {
         Msg::Log(message) => on_log(member, up, from, message, out),
         Msg::Call { no, body } => match node_in(member.faults, Tier::Mid, from) {
-            None => Ok(refused(member)),
+            None => Ok(Decided::refused(member.alloc, 7)),
             Some(index) => on_call(member, up, index, *no, body, out),
         },
         Msg::Settle { floor } => match node_in(member.faults, Tier::Mid, from) {
-            None => Ok(refused(member)),
+            None => Ok(Decided::refused(member.alloc, 7)),
             Some(index) => on_settle(member, up, index, *floor, out),
         },
-        _ => Ok(refused(member)),
+        _ => Ok(Decided::refused(member.alloc, 7)),
     }
 }
 

@@ -5,7 +5,6 @@
 mod back_node;
 mod calls;
 mod frames_in;
-mod member;
 mod offering;
 mod restoring;
 mod serving;

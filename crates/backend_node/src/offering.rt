@@ -8,15 +8,15 @@ ghost use Rattle.tier_model.specs.Back.{in_log};
 ghost use Rattle.tier_model.specs.BackRows.{offers, own_by, own_value};
 ghost use Rattle.node_log.specs.Packets.{needs_own};
 ghost use Rattle.backend_node.specs.Backends.{backend_by};
-ghost use Rattle.backend_node.specs.Deciding.{DecidesMove, IsInRange, IsMember, back_in, idle_in};
+ghost use Rattle.node_log.specs.Deciding.{idle_in};
+ghost use Rattle.backend_node.specs.Deciding.{DecidesMove, IsInRange, IsMember, back_in};
 
-use crate::member::Member;
 use crate::serving::Serving;
 use crate::turns::take_turn;
 use aeg_base::Memory;
 use frames::Outbox;
 use log_values::{AnyValue, BackValue};
-use node_log::{Decided, Working, needs_own, offer_cause};
+use node_log::{Decided, Member, Working, needs_own, offer_cause};
 use paxos_log::Offering;
 use server_shim::Shim;
 use svc_api::Backend;

@@ -6,10 +6,10 @@ ghost use Rattle.tier_model.specs.BackRows.{after_values};
 ghost use Rattle.backend_node.specs.Backends.{AllFit, back_with, backend_by};
 ghost use Rattle.backend_node.specs.Deciding.{IsMember};
 
-use crate::member::Member;
 use crate::serving::Serving;
 use aeg_base::Memory;
 use log_values::AnyValue;
+use node_log::Member;
 use paxos_log::TierLog;
 use server_shim::Shim;
 use svc_api::Backend;

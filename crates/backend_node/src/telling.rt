@@ -10,11 +10,10 @@ ghost use Rattle.node_log.specs.Packets.{all_sealed, StillHas};
 ghost use Rattle.backend_node.specs.Backends.{told_to_all};
 ghost use Rattle.backend_node.specs.Deciding.{IsInRange, IsMember, back_in};
 
-use crate::member::Member;
 use crate::serving::Serving;
 use aeg_base::{CallNo, End, Memory, NodeId, Tier};
 use frames::{Msg, Outbox};
-use node_log::{Working, send_asks, send_one, send_to_tier};
+use node_log::{Member, Working, send_asks, send_one, send_to_tier};
 use svc_api::Backend;
 
 /// Answers a call to one middle node.

@@ -8,13 +8,12 @@ ghost use Rattle.node_log.specs.LogNodes.{IsLogTurn, whole_turn};
 ghost use Rattle.backend_node.specs.Backends.{back_with, backend_by};
 ghost use Rattle.backend_node.specs.Deciding.{DecidesMove, IsInRange, IsMember, back_in};
 
-use crate::member::Member;
 use crate::serving::Serving;
 use crate::telling::send_answer_if;
 use aeg_base::{Memory, Pos};
 use frames::Outbox;
 use log_values::AnyValue;
-use node_log::{Decided, Working, decide_turn};
+use node_log::{Decided, Member, Working, decide_turn};
 use paxos_log::LogTurn;
 use svc_api::Backend;
 

@@ -6,3 +6,4 @@ pub mod LogNodes
 pub mod Packets
 pub mod Received
 pub mod Quiet
+pub mod Deciding

@@ -9,7 +9,7 @@ use crate::answers::answer_of;
 use crate::facts::facts_of;
 use crate::sending::send_log;
 use aeg_base::{Memory, NodeId};
-use frames::Outbox;
+use frames::{Outbox, Refused};
 use log_values::format::LAST_INDEX;
 use log_values::{AnyValue, Fact};
 use paxos_log::LogTurn;
@@ -33,6 +33,14 @@ impl Decided {
             facts: Vec::new(alloc),
             answer,
         }
+    }
+
+    /// A frame that the node refuses by this rule, after it was read.
+    pub fn refused(alloc: Global, rule: u8) -> Self
+        ensures facts { result.facts.items ≡ [] }
+        ensures answer { result.answer ≡ Turn.Dropped (Refused.Row rule) }
+    {
+        Decided::without_facts(alloc, Turn::Dropped(Refused::Row(rule)))
     }
 }
 

@@ -147,7 +147,7 @@ fn takes<D: Disk>(
     requires { MayWrite node.old (D.state disk.old) }
     ensures { OnOk result (MayWrite node.new (D.state disk.new)) }
 {
-    if !node.is_up() {
+    if !node.up() {
         return Err("it is down".into());
     }
     let mut out = Outbox::new(alloc);
@@ -187,7 +187,7 @@ fn leads<D: Disk>(alloc: Global, node: &mut BackNode<Inventory>, disk: &mut D) -
     requires { MayWrite node.old (D.state disk.old) }
     ensures { OnOk result (MayWrite node.new (D.state disk.new)) }
 {
-    if !node.is_up() {
+    if !node.up() {
         return Err("it is down".into());
     }
     let mut out = Outbox::new(alloc);
@@ -197,7 +197,7 @@ fn leads<D: Disk>(alloc: Global, node: &mut BackNode<Inventory>, disk: &mut D) -
 
 /// Why an offer would be idle.
 fn idle(node: &BackNode<Inventory>) -> Result<Option<Idle>, Fail> {
-    if !node.is_up() {
+    if !node.up() {
         return Err("it is down".into());
     }
     Ok(node.offer_idle()?)
@@ -211,7 +211,7 @@ fn offers<D: Disk>(
 ) -> Result<bool, Fail>
     requires { MayWrite node.old (D.state disk.old) }
 {
-    if !node.is_up() {
+    if !node.up() {
         return Err("it is down".into());
     }
     let mut out = Outbox::new(alloc);
@@ -238,7 +238,7 @@ fn the_second_largest_floor_is_offered(rt: HostRuntime) -> Result<(), Fail> {
 
 /// Whether it asks the other nodes of its tier again, as it has nothing else to tell.
 fn tells_again(alloc: Global, node: &mut BackNode<Inventory>) -> Result<bool, Fail> {
-    if !node.is_up() {
+    if !node.up() {
         return Err("it is down".into());
     }
     let mut out = Outbox::new(alloc);
