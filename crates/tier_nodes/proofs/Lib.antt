@@ -1,0 +1,6 @@
+pub mod Journals
+pub mod Stops
+pub mod Seated
+pub mod Moved
+pub mod Answered
+pub mod Powered

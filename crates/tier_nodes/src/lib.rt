@@ -1,0 +1,13 @@
+//! The nodes of one tier, of any kind, each with its disk: what an event makes of a node.
+#![tactic(auto)]
+
+mod arming;
+mod back_nodes;
+mod condition;
+mod posts;
+mod tier_node;
+
+pub use arming::StopAt;
+pub use condition::Condition;
+pub use posts::Post;
+pub use tier_node::TierNode;
