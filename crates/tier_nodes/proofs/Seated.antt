@@ -1,6 +1,6 @@
 -- A node at its place that stands for one of the definition, with its disk.
 use Rattle.std.proofs.Common.{◌≡◌, ℕ, ◌+◌, ◌≤◌, Bool, true, false, List, [], ◌∷◌, refl, sym, ap, ◌∙◌, subst, arith, Option, Some, None}
-use Rattle.std.specs.Prelude.{IfSome}
+use Rattle.std.specs.Prelude.{IfSome, is_some}
 use Rattle.aeg_disk.specs.Disk.{DiskState}
 use Rattle.fact_journal.proofs.Standing.{same_facts, same_stands}
 use Rattle.fact_journal.specs.Fitting.{EachFits, Fit, all_facts, open_after_all}
@@ -50,18 +50,10 @@ is_down_at seat e = down_by seat.gone seat.view.up e
 
 -- its node is up
 pub seen_up : {S : Type 0} (seat : Seat S) → condition_of seat ≡ conditions.Up → is_up seat.view ≡ true
-seen_up seat e = let s = is_up_at seat e in ap is_up_in (up_seat seat s.0 s.1).1
-  where
-    is_up_in : {S : Type 0} → Option S → Bool
-    is_up_in None = false
-    is_up_in (Some s) = true
+seen_up seat e = let s = is_up_at seat e in ap is_some (up_seat seat s.0 s.1).1
 
 pub seen_down : {S : Type 0} (seat : Seat S) → condition_of seat ≡ conditions.Down → is_up seat.view ≡ false
-seen_down seat e = ap is_up_in (is_down_at seat e).1
-  where
-    is_up_in : {S : Type 0} → Option S → Bool
-    is_up_in None = false
-    is_up_in (Some s) = true
+seen_down seat e = ap is_some (is_down_at seat e).1
 
 pub at_up : {S : Type 0} (P : S → Type 0) (up : Option S) (s : S) → up ≡ Some s → IfSome up P → P s
 at_up P up s e h = subst (λ z. IfSome z P) e h
@@ -95,7 +87,7 @@ pub may_write : {S : Type 0} (log_in : S → LogState AnyValue) (seat : Seat S) 
     → condition_of seat ≡ conditions.Up → MayWrite seat.view (armed_with stop disk)
 may_write log_in seat disk stop k e tells =
     let s = is_up_at seat e in
-    (k.0, armed_has log_in k.0 seat k.1 disk stop s.0 k.2 (k.1.mode ∙ s.1))
+    (k.0.records, armed_has log_in k.0 seat k.1 disk stop s.0 k.2 (k.1.mode ∙ s.1))
 
 pub rest_stands : {S : Type 0} (node : Node S Fact) (disk : DiskState) → IsDiskOf node disk → StandsFor (node.records ∷ node.others) (at_rest disk)
 rest_stands node disk d = same_stands (node.records ∷ node.others) disk (at_rest disk) d.lists (rest_content disk) refl

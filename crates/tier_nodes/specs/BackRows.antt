@@ -39,7 +39,7 @@ no_programs : Programs
 no_programs = record { table = λ who text stage. None; begins = λ who text stage. None; spell = λ outcome. []; read = λ token. None }
 
 -- a service with this backend in each tier
-served_by : {B : Type 0} → Backend B → Service B
+abbrev served_by : {B : Type 0} → Backend B → Service B
 served_by b = record { programs = no_programs; backend = λ t. b }
 
 goes : {S : Type 0} (IsIn : S → Type 0) (log_in : S → LogState AnyValue) (GoesWell : Packet → Type 0) (t : Tier) (x : ℕ) (s : S) (move : Move S)

@@ -70,6 +70,6 @@ pub record Rises {S : Type 0} (log_in : S → LogState AnyValue) (recovered : Li
     (answer : Result (Unit {0}) Fault) (found : Found) : Type 0 where
   pub risen : HadMemory answer → (node : Node S Fact) → IsNodeOf log_in node old → IsDiskOf node disk_before
       → Risen log_in recovered new disk_before disk_after node answer found
-  pub found : found ≡ found_of old.doubt old.view.place new.view.place answer
+  pub reads : found ≡ found_of old.doubt old.view.place new.view.place answer
   pub later : disk_before.faults ≤ disk_after.faults
   pub same : IsSameSeat old new
