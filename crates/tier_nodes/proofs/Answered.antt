@@ -1,18 +1,21 @@
 -- A call at a place is its node's event on the node's disk.
 use Rattle.std.proofs.Common.{◌≡◌, ℕ, ◌+◌, ◌≤◌, Bool, true, false, List, [], ◌∷◌, ◌++◌, refl, sym, ap, ◌∙◌, subst, inl, inr, arith}
 use Rattle.std.proofs.Common.{Option, Some, None, Result, Ok, Err}
-use Rattle.std.proofs.lemmas.Result.{IfOk-weaker, on_err_weaker, on_ok_weaker}
+use Rattle.std.proofs.lemmas.Result.{IfOk-at_ok, IfOk-weaker, on_err_weaker, on_ok_weaker}
 use Rattle.std.specs.Prelude.{IfOk, IfSome, OnErr, OnOk, is_some, ◌⊎◌}
 use Rattle.aeg_base.specs.declared.names.End.{End}
+use Rattle.aeg_base.specs.declared.names.Tier.{Tier}
 use Rattle.aeg_disk.specs.Disk.{DiskState, Later, Rose}
 use Rattle.aeg_wire.proofs.Grammar.{IsBytes}
+use Rattle.fact_journal.specs.Fitting.{EachFits, open_after_all}
+use Rattle.fact_journal.specs.Standing.{StandsFor}
 use Rattle.frames.proofs.FrameGrammar.{frame_takes}
 use Rattle.frames.specs.declared.header.Header.{Header}
 use Rattle.frames.specs.declared.header.Refused.{Refused}
 use Rattle.frames.specs.declared.message.Msg.{Msg}
 use Rattle.frames.specs.Frames.{FitsFrame, frame_of}
-use Rattle.log_model.specs.Log.{LogState}
-use Rattle.log_model.specs.Nodes.{Node}
+use Rattle.log_model.specs.Log.{LogState, open_at}
+use Rattle.log_model.specs.Nodes.{Node, moved, recorded, stands}
 use Rattle.log_model.specs.Nodes.Device.{Fine as WasFine}
 use Rattle.log_model.specs.Nodes.Mode.{Up}
 use Rattle.log_values.specs.declared.any_value.AnyValue.{AnyValue}
@@ -27,16 +30,16 @@ use Rattle.tier_model.specs.declared.turn.Fault.{Fault as NodeFault}
 use Rattle.tier_model.specs.declared.turn.Fault.TheVariants as faults
 use Rattle.tier_model.specs.declared.turn.Turn.{Turn as Answer}
 use Rattle.tier_model.specs.Moves.{Move}
-use Rattle.tier_nodes.proofs.Moved.{Call, came, came_quiet}
-use Rattle.tier_nodes.proofs.Seated.{at_up, is_up_at, up_seat}
-use Rattle.tier_nodes.proofs.Stops.{armed_faults, asked_can, no_cause, resting}
+use Rattle.tier_nodes.proofs.Moved.{Call, came}
+use Rattle.tier_nodes.proofs.Seated.{at_up, is_up_at, sure_alone, up_open, up_placed, up_seat}
+use Rattle.tier_nodes.proofs.Stops.{armed_faults, asked_can, no_cause}
 use Rattle.tier_nodes.specs.Arming.{CanStop, FaresAs, armed_with, asked_of, at_rest, doubts, fared_by, fate_of, is_fault}
 use Rattle.tier_nodes.specs.Calling.{Came, Comes, HadMemory, IsSameSeat, Tells}
 use Rattle.tier_nodes.specs.declared.arming.StopAt.{StopAt}
 use Rattle.tier_nodes.specs.declared.condition.Condition.TheVariants as conditions
 use Rattle.tier_nodes.specs.Moving.{IsMoveOf}
 use Rattle.tier_nodes.specs.Seats.{condition_of}
-use Rattle.tier_nodes.specs.Standing.{IsDiskOf, IsNodeOf, Seat, StandsOn, mode_of}
+use Rattle.tier_nodes.specs.Standing.{IsDiskOf, IsDoubted, IsNodeOf, IsReady, Seat, journal_of, mode_in, mode_of}
 
 -- OF A NODE THAT IS UP
 
@@ -184,3 +187,63 @@ received IsMove row s bytes are none some = go (frame_of bytes) refl
     go : (r : Result (Header × Msg) Refused) → frame_of bytes ≡ r → IsMove (on_read row r s)
     go (Err refused) e = none refused
     go (Ok found) e = some found.0.from found.1 (frame_takes bytes found are e).0.fit
+
+-- a move that leaves everything as it is, and sends nothing
+pub stays : {S : Type 0} (IsIn : S → Type 0) (log_in : S → LogState AnyValue) (t : Tier) (x : ℕ) (s : S) (answer : Answer) → IsIn s
+    → IsMoveOf IsIn log_in t x s (record { state = s; facts = []; sends = []; answer = answer })
+stays IsIn log_in t x s answer k = record { state = k; sealable = tt; few = omega arith; short = omega arith; facts = tt; opens = refl }
+
+-- A CALL THAT WRITES NOTHING
+
+module _ {S : Type 0} (IsIn : S → Type 0) (log_in : S → LogState AnyValue) (old new : Seat S) (before after : List (End × List ℕ)) (row : S → Move S)
+    (answer : Result Answer NodeFault) (is_up : views.is_up old.view ≡ true)
+    (goes : (s : S) → old.view.up ≡ Some s → IsMoveOf IsIn log_in old.view.tier old.view.me s (row s)) (silent : (s : S) → (row s).facts ≡ [])
+    (told : views.Tells old.view new.view before after row answer) (gone : new.gone ≡ old.gone) (doubt : new.doubt ≡ old.doubt) where
+  -- what it sends leaves its journal and its disk alone
+  told_ok : (a : Answer) → answer ≡ Ok a → (node : Node S Fact) (s : S) (disk : DiskState) → IsNodeOf log_in node old → IsDiskOf node disk
+      → node.mode ≡ Up s → Came log_in new disk before after node WasFine (row s) (Ok a)
+  told_ok a e node s disk is on up = record {
+    is = subst (λ z. IsNodeOf log_in z new) (sym stood) (record {
+      mode = sym (ap (λ z. mode_in z new.view.up) (gone ∙ there.0) ∙ ap (mode_in false) now);
+      placed = (ap (λ z. z + 1) told.same_place ∙ placed.0, doubt ∙ placed.1);
+      doubted = subst (λ b. IsDoubted b node.records []) (sym (doubt ∙ placed.1)) refl;
+      within = (is.within.0, tt);
+      fits = subst (λ t. EachFits t (node.records ∷ [])) (sym (same_view old.view new.view _ _ made.node).tier) (is.fits.0, tt);
+      opened = (goes s there.1).opens ∙ ap (open_after_all (open_at (log_in s))) (silent s) ∙ up_open log_in node old is s up;
+    });
+    on = subst (λ z. IsDiskOf z disk) (sym stood) (record {
+      rest = on.rest;
+      lists = subst (λ z. StandsFor (node.records ∷ z) disk) (sure_alone log_in node old is placed.1) on.lists;
+      ready = subst (λ m. IsReady m node.records disk) up on.ready;
+    });
+    sends = made.packets;
+    out = (refl, made.answer_is);
+  }
+    where
+      there : (old.gone ≡ false) × (old.view.up ≡ Some s)
+      there = up_seat old s (sym is.mode ∙ up)
+
+      placed : (old.view.place + 1 ≡ journal_of node.records) × (old.doubt ≡ false)
+      placed = up_placed log_in node old is s up
+
+      made : views.Made old.view new.view before after (row s) a
+      made = at_up (λ s. views.Made old.view new.view before after (row s) a) old.view.up s there.1
+          (IfOk-at_ok (λ a. IfSome old.view.up (λ s. views.Made old.view new.view before after (row s) a)) e told.made)
+
+      now : new.view.up ≡ Some (row s).state
+      now = ap (λ (z : View S). z.up) made.node
+
+      stood : moved node WasFine (row s).state (row s).facts ≡ stands (Up (row s).state) node.records
+      stood = ap (λ z. stands (Up (row s).state) (recorded node.records z)) (silent s)
+
+  pub tells : Tells IsIn log_in old new before after row answer
+  tells = record {
+    came = λ memory node s disk is on up. go answer refl memory node s disk is on up;
+    goes = if_up _ old.view.up goes;
+    same = same_seat old new (told_view old.view new.view before after row answer is_up told);
+  }
+    where
+      go : (r : Result Answer NodeFault) → answer ≡ r → HadMemory r → (node : Node S Fact) (s : S) (disk : DiskState) → IsNodeOf log_in node old
+          → IsDiskOf node disk → node.mode ≡ Up s → Came log_in new disk before after node WasFine (row s) r
+      go (Ok a) e m node s disk is on up = told_ok a e node s disk is on up
+      go (Err fault) e m node s disk is on up = absurd (subst (λ (z : NodeFault). HadMemory {A = Answer} (Err z)) (told.memory fault e) m)

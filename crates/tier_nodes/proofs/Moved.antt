@@ -13,7 +13,7 @@ use Rattle.fact_journal.specs.Fitting.{EachFits, FactsFit, Fit, all_facts, open_
 use Rattle.fact_journal.specs.Standing.{HasFacts, StandsFor}
 use Rattle.log_model.specs.Log.{LogState, open_at}
 use Rattle.log_model.specs.Nodes.{Device, Node, failed, is_well, moved, recorded, sent, stands, writes}
-use Rattle.log_model.specs.Nodes.Device.{CutDrop, Fault as WasFault, Fine as WasFine}
+use Rattle.log_model.specs.Nodes.Device.{CutDrop, Fault as WasFault}
 use Rattle.log_model.specs.Nodes.Mode.{Down, Up}
 use Rattle.log_values.specs.declared.any_value.AnyValue.{AnyValue}
 use Rattle.log_values.specs.declared.fact.Fact.{Fact}
@@ -310,9 +310,9 @@ module _ {S : Type 0} (IsIn : S → Type 0) (log_in : S → LogState AnyValue) (
       is : IsNodeOf log_in (record { mode = Down; records = node.records; others = recs ∷ [] }) new
       is = down_node log_in node.records (recs ∷ []) new (down_mode (not_gone k.is k.up k.gone) k.down) (λ e. place)
           (subst (λ b. IsDoubted b node.records (recs ∷ [])) (sym doubt) more)
-          (k.is.within.0, more_within node.records v.facts k.is.within.0 past, tt)
+          (k.is.within.0, (more_within node.records v.facts k.is.within.0 past, tt))
           (subst (λ t. EachFits t (node.records ∷ recs ∷ [])) (sym tier)
-          (k.is.fits.0, fit_recorded old.view.tier node.records v.facts k.is.fits.0 (in_place k.is k.up k.goes.facts), tt))
+          (k.is.fits.0, (fit_recorded old.view.tier node.records v.facts k.is.fits.0 (in_place k.is k.up k.goes.facts), tt)))
 
   -- BY ITS ANSWER
 
@@ -326,8 +326,3 @@ module _ {S : Type 0} (IsIn : S → Type 0) (log_in : S → LogState AnyValue) (
   came (Some at) (Err faults.Disk) true e m k = came_cut at e k
   came stop (Err faults.Disk) false e m k = came_fault stop e k
   came stop (Err (faults.BadRecord at)) met e m k = absurd (k.cause (faults.BadRecord at) refl)
-
-  -- a call that writes nothing
-  pub came_quiet : (answer : Answer) → Call IsIn log_in node old new disk called None s v before after (Ok answer)
-      → Came log_in new (at_rest called) before after node WasFine v (Ok answer)
-  came_quiet answer k = came_well None answer WasFine refl k

@@ -38,10 +38,6 @@ armed_faults (Some s) disk = refl
 pub rest_content : (disk : DiskState) → SameContent disk (at_rest disk)
 rest_content disk = record { bytes = refl; kept = refl; ranges = refl; past = refl }
 
--- a disk that was under power and not armed stays as it is
-pub resting : (disk : DiskState) → disk.armed ≡ 0 → disk.stopped ≡ false → at_rest disk ≡ disk
-resting disk a s = (λ i. record disk { stopped = sym s i; armed = sym a i })
-
 few_armed : (stop : Option StopAt) (disk : DiskState) → CanStop stop → disk.armed ≡ 0 → (armed_with stop disk).armed ≤ 4
 few_armed None disk k e = omega (arith, e)
 few_armed (Some s) disk k e = k.1
@@ -55,10 +51,6 @@ unmet stop disk called facts k quiet still h same later = go (writes facts) refl
     go : (b : Bool) → writes facts ≡ b → called.stopped ≡ false
     go true e = (later.free (h e (few_armed stop disk k quiet)) (armed_stopped stop disk ∙ still)).1
     go false e = ap (λ (d : DiskState). d.stopped) (same e) ∙ armed_stopped stop disk ∙ still
-
--- a disk that isn't armed doesn't stop
-pub unarmed : (disk called : DiskState) (P : Type 0) → disk.armed ≡ 0 → disk.stopped ≡ false → Later disk called → called.stopped ≡ true → P
-unarmed disk called P quiet still later met = absurd (let f : called.stopped ≡ false = (later.free quiet still).1 in cc)
 
 -- HOW AN EVENT FARES
 
