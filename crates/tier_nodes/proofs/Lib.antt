@@ -4,3 +4,4 @@ pub mod Seated
 pub mod Moved
 pub mod Answered
 pub mod Powered
+pub mod Places

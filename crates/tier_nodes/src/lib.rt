@@ -6,8 +6,10 @@ mod back_nodes;
 mod condition;
 mod posts;
 mod tier_node;
+mod tiers;
 
 pub use arming::StopAt;
 pub use condition::Condition;
 pub use posts::Post;
 pub use tier_node::TierNode;
+pub use tiers::Tier;
