@@ -1,11 +1,11 @@
 -- A call at a place is its node's event on the node's disk.
-use Rattle.std.proofs.Common.{◌≡◌, ℕ, ◌+◌, ◌≤◌, Bool, true, false, List, [], ◌∷◌, ◌++◌, refl, sym, ap, ◌∙◌, subst, inl, inr, arith}
+use Rattle.std.proofs.Common.{◌≡◌, ℕ, ◌+◌, ◌≤◌, Bool, true, false, List, [], ◌∷◌, refl, sym, ap, ◌∙◌, subst, inl, inr, arith}
 use Rattle.std.proofs.Common.{Option, Some, None, Result, Ok, Err}
 use Rattle.std.proofs.lemmas.Result.{IfOk-at_ok, IfOk-weaker, on_err_weaker, on_ok_weaker}
-use Rattle.std.specs.Prelude.{IfOk, IfSome, OnErr, OnOk, is_some, ◌⊎◌}
+use Rattle.std.specs.Prelude.{IfSome, is_some, ◌⊎◌}
 use Rattle.aeg_base.specs.declared.names.End.{End}
 use Rattle.aeg_base.specs.declared.names.Tier.{Tier}
-use Rattle.aeg_disk.specs.Disk.{DiskState, Later, Rose}
+use Rattle.aeg_disk.specs.Disk.{DiskState, Rose}
 use Rattle.aeg_wire.proofs.Grammar.{IsBytes}
 use Rattle.fact_journal.specs.Fitting.{EachFits, open_after_all}
 use Rattle.fact_journal.specs.Standing.{StandsFor}
@@ -24,7 +24,6 @@ use Rattle.node_log.specs.Received.{on_bytes, on_read}
 use Rattle.node_log.specs.Views.{HasCause, Moves, View, Restarts}
 use Rattle.node_log.specs.Views as views
 use Rattle.run_model.specs.declared.trace.Fared.{Fared}
-use Rattle.run_model.specs.declared.trace.Fared.TheVariants.{Fault}
 use Rattle.run_model.specs.World.{can_fare}
 use Rattle.tier_model.specs.declared.turn.Fault.{Fault as NodeFault}
 use Rattle.tier_model.specs.declared.turn.Fault.TheVariants as faults
@@ -33,7 +32,7 @@ use Rattle.tier_model.specs.Moves.{Move}
 use Rattle.tier_nodes.proofs.Moved.{Call, came}
 use Rattle.tier_nodes.proofs.Seated.{at_up, is_up_at, sure_alone, up_open, up_placed, up_seat}
 use Rattle.tier_nodes.proofs.Stops.{armed_faults, asked_can, no_cause}
-use Rattle.tier_nodes.specs.Arming.{CanStop, FaresAs, armed_with, asked_of, at_rest, doubts, fared_by, fate_of, is_fault}
+use Rattle.tier_nodes.specs.Arming.{CanStop, FaresAs, armed_with, asked_of, at_rest, doubts, fared_by, is_fault}
 use Rattle.tier_nodes.specs.Calling.{Came, Comes, HadMemory, IsSameSeat, Tells}
 use Rattle.tier_nodes.specs.declared.arming.StopAt.{StopAt}
 use Rattle.tier_nodes.specs.declared.condition.Condition.TheVariants as conditions

@@ -5,3 +5,4 @@ pub mod Moved
 pub mod Answered
 pub mod Powered
 pub mod Places
+pub mod Fates

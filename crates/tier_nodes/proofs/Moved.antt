@@ -1,14 +1,13 @@
 -- What a call of a node that is up comes to, by its answer.
-use Rattle.std.proofs.Common.{◌≡◌, ℕ, ◌+◌, ◌≤◌, Bool, true, false, cond, List, [], ◌∷◌, ◌++◌, refl, sym, ap, ◌∙◌, subst, append-nil}
+use Rattle.std.proofs.Common.{◌≡◌, ℕ, ◌+◌, Bool, true, false, cond, List, [], ◌∷◌, ◌++◌, refl, sym, ap, ◌∙◌, subst, append-nil}
 use Rattle.std.proofs.Common.{Option, Some, None, Result, Ok, Err}
 use Rattle.std.specs.Prelude.{IfOk, OnErr, OnOk, not}
 use Rattle.std.proofs.lemmas.Bool.{cond-true, cond-false}
 use Rattle.aeg_base.specs.declared.names.End.{End}
-use Rattle.aeg_base.specs.declared.names.Tier.{Tier}
-use Rattle.aeg_disk.specs.Disk.{DiskState, Later, Rose}
+use Rattle.aeg_disk.specs.Disk.{DiskState, Later}
 use Rattle.fact_journal.proofs.Fits.{fit_recorded}
 use Rattle.fact_journal.proofs.Standing.{having_stands, same_facts, same_stands}
-use Rattle.fact_journal.specs.Calls.{IsCut, is_past, length_with, old_or_new}
+use Rattle.fact_journal.specs.Calls.{IsCut, is_past, length_with}
 use Rattle.fact_journal.specs.Fitting.{EachFits, FactsFit, Fit, all_facts, open_after_all}
 use Rattle.fact_journal.specs.Standing.{HasFacts, StandsFor}
 use Rattle.log_model.specs.Log.{LogState, open_at}
@@ -36,7 +35,8 @@ use Rattle.tier_nodes.specs.declared.arming.StopAt.{StopAt}
 use Rattle.tier_nodes.specs.Moving.{IsMoveOf}
 use Rattle.tier_nodes.specs.Standing.{IsDiskOf, IsDoubted, IsNodeOf, Seat, journal_of, mode_in, mode_of}
 
--- A call made this move, at a node that is up and stands for one of the definition, on its disk, which was armed before.
+-- A call made this move, at a node that is up and stands for one of the definition, on its disk, which was armed
+-- before.
 pub record Call {S : Type 0} (IsIn : S → Type 0) (log_in : S → LogState AnyValue) (node : Node S Fact) (old new : Seat S) (disk called : DiskState)
     (stop : Option StopAt) (s : S) (move : Move S) (before after : List (End × List ℕ)) (answer : Result Answer NodeFault) : Type 0 where
   pub is : IsNodeOf log_in node old

@@ -1,31 +1,27 @@
 -- Nodes that crash, restart, tell again, or are wiped.
 use Rattle.std.proofs.Common.{◌≡◌, ℕ, zero, suc, ◌+◌, ◌≤◌, Bool, true, false, cond, List, [], ◌∷◌, ◌++◌, refl, sym, ap, ◌∙◌, subst, inl, inr, arith}
 use Rattle.std.proofs.Common.{length, Option, Some, None, Result, Ok, Err}
-use Rattle.std.specs.Prelude.{nat_lt, slice_get, ◌⊎◌, IfOk, IfSome, ◌&&◌}
+use Rattle.std.specs.Prelude.{nat_lt, slice_get, ◌⊎◌}
 use Rattle.std.specs.List.{AllByRecursion}
 use Rattle.std.proofs.lemmas.Bool.{le-ltb, lt-ltb}
 use Rattle.aeg_base.specs.declared.limits.TheConstants.{JOURNAL_BYTES}
-use Rattle.aeg_base.specs.declared.names.End.{End}
-use Rattle.aeg_base.specs.declared.names.Tier.{Tier}
 use Rattle.aeg_disk.specs.Disk.{Blank, DiskState, Later, Rose}
 use Rattle.fact_journal.proofs.Opens.{each_get}
 use Rattle.fact_journal.proofs.Restoring.{newest_facts}
-use Rattle.fact_journal.proofs.Standing.{erased_stands, having_stands, same_stands}
+use Rattle.fact_journal.proofs.Standing.{erased_stands, having_stands}
 use Rattle.fact_journal.specs.Calls.{ReadsOne}
 use Rattle.fact_journal.specs.Fitting.{EachFits, Fit, all_facts, open_after_all}
-use Rattle.fact_journal.specs.Standing.{HasFacts, StandsFor}
+use Rattle.fact_journal.specs.Standing.{StandsFor}
 use Rattle.log_model.specs.Log.{LogState, open_at}
-use Rattle.log_model.specs.Nodes.{Mode, Node, crashed, found_at, restarted, stands, up_as, up_from}
-use Rattle.log_model.specs.Nodes.Mode.{Down, Gone, Up}
+use Rattle.log_model.specs.Nodes.{Node, crashed, found_at, restarted, stands, up_as, up_from}
+use Rattle.log_model.specs.Nodes.Mode.{Down, Up}
 use Rattle.log_model.specs.Recover.{newest, onto}
 use Rattle.log_values.specs.declared.any_value.AnyValue.{AnyValue}
 use Rattle.log_values.specs.declared.fact.Fact.{Fact}
 use Rattle.log_values.specs.Records.{record_text}
 use Rattle.node_log.specs.Views.{CameUp, Restarts, View, went_down}
-use Rattle.node_log.specs.Views as views
 use Rattle.run_model.specs.declared.trace.Found.{Found}
 use Rattle.run_model.specs.declared.trace.Found.TheVariants.{Reads, Fault as Fails}
-use Rattle.run_model.specs.World.{list_of}
 use Rattle.tier_model.specs.declared.turn.Fault.{Fault as NodeFault}
 use Rattle.tier_model.specs.declared.turn.Fault.TheVariants as faults
 use Rattle.tier_nodes.proofs.Answered.{restarted_view, same_seat, same_view}
@@ -34,8 +30,7 @@ use Rattle.tier_nodes.proofs.Seated.{down_node, is_down_at, rest_stands, sure_al
 use Rattle.tier_nodes.specs.Arming.{at_rest}
 use Rattle.tier_nodes.specs.Calling.{HadMemory, IsSameSeat}
 use Rattle.tier_nodes.specs.declared.condition.Condition.TheVariants as conditions
-use Rattle.tier_nodes.specs.Moving.{IsRestored}
-use Rattle.tier_nodes.specs.Powering.{Crashes, IsAmong, Risen, Rises, RoseOut, Wipes, found_of, list_found, still_doubts}
+use Rattle.tier_nodes.specs.Powering.{Crashes, Risen, Rises, RoseOut, Wipes, found_of, list_found, still_doubts}
 use Rattle.tier_nodes.specs.Seats.{condition_of}
 use Rattle.tier_nodes.specs.Standing.{IsDiskOf, IsDoubted, IsNodeOf, IsPlaced, IsReady, Seat, journal_of, mode_in, mode_of}
 

@@ -1,13 +1,13 @@
 -- A node at its place that stands for one of the definition, with its disk.
-use Rattle.std.proofs.Common.{◌≡◌, ℕ, ◌+◌, ◌≤◌, Bool, true, false, List, [], ◌∷◌, refl, sym, ap, ◌∙◌, subst, arith, Option, Some, None}
+use Rattle.std.proofs.Common.{◌≡◌, ℕ, ◌+◌, Bool, true, false, List, [], ◌∷◌, refl, sym, ap, ◌∙◌, subst, arith, Option, Some, None}
 use Rattle.std.specs.Prelude.{IfSome, is_some}
 use Rattle.aeg_disk.specs.Disk.{DiskState}
 use Rattle.fact_journal.proofs.Standing.{same_facts, same_stands}
-use Rattle.fact_journal.specs.Fitting.{EachFits, Fit, all_facts, open_after_all}
+use Rattle.fact_journal.specs.Fitting.{EachFits, all_facts, open_after_all}
 use Rattle.fact_journal.specs.Standing.{HasFacts, StandsFor}
 use Rattle.log_model.specs.Log.{LogState, open_at}
-use Rattle.log_model.specs.Nodes.{Mode, Node}
-use Rattle.log_model.specs.Nodes.Mode.{Down, Gone, Up}
+use Rattle.log_model.specs.Nodes.{Node}
+use Rattle.log_model.specs.Nodes.Mode.{Down, Up}
 use Rattle.log_values.specs.declared.any_value.AnyValue.{AnyValue}
 use Rattle.log_values.specs.declared.fact.Fact.{Fact}
 use Rattle.node_log.specs.Views.{MayWrite, is_up}

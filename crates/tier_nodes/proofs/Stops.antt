@@ -1,17 +1,17 @@
 -- Disks that are armed, stopped and put back under power, and how an event fares on them.
-use Rattle.std.proofs.Common.{◌≡◌, ℕ, ◌≤◌, Bool, true, false, cond, List, [], ◌∷◌, refl, sym, ap, ◌∙◌, subst, inl, inr, arith}
+use Rattle.std.proofs.Common.{◌≡◌, ℕ, ◌≤◌, Bool, true, false, cond, List, [], ◌∷◌, refl, ap, ◌∙◌, subst, arith}
 use Rattle.std.proofs.Common.{Option, Some, None}
 use Rattle.std.specs.Prelude.{nat_lt, nat_le, ◌&&◌}
 use Rattle.std.proofs.lemmas.Bool.{cond-true, cond-false, cond_both, le-leb, leb-false, leb-true, ltb-false, ltb-true}
 use Rattle.aeg_disk.specs.Disk.{DiskState, Later, SameContent}
 use Rattle.fact_journal.specs.Calls.{is_past}
-use Rattle.log_model.specs.Nodes.{Device, Node, failed, is_well, recorded, stands, writes}
+use Rattle.log_model.specs.Nodes.{Node, failed, is_well, recorded, stands, writes}
 use Rattle.log_model.specs.Nodes.Mode.{Down}
 use Rattle.log_model.specs.Nodes.Device.{CutDrop, CutKeep}
 use Rattle.log_values.specs.declared.fact.Fact.{Fact}
 use Rattle.node_journal.specs.Append.{is_kept}
 use Rattle.run_model.specs.declared.trace.Fared.{Fared}
-use Rattle.run_model.specs.declared.trace.Fared.TheVariants.{Cut, Fault, Fine}
+use Rattle.run_model.specs.declared.trace.Fared.TheVariants.{Cut}
 use Rattle.run_model.specs.World.{can_fare, device_of}
 use Rattle.tier_nodes.specs.Arming.{CanStop, armed_with, asked_of, at_rest, fate_of, is_fault}
 use Rattle.tier_nodes.specs.declared.arming.StopAt.{StopAt}

@@ -1,5 +1,5 @@
 -- Stops of a disk that an event asks for, and how the event fares then.
-use Rattle.std.specs.Prelude.{◌≡◌, ◌⊎◌, ℕ, ◌≤◌, Bool, true, false, not, List, Option, Some, None, if◌then◌else◌}
+use Rattle.std.specs.Prelude.{◌≡◌, ◌⊎◌, ◌≤◌, Bool, true, false, not, List, Option, Some, None, if◌then◌else◌}
 use Rattle.std.specs.declared.result.Result.{Result}
 use Rattle.std.specs.declared.result.Result.TheVariants.{Ok, Err}
 use Rattle.aeg_disk.specs.Disk.{DiskState}
@@ -7,7 +7,6 @@ use Rattle.fact_journal.specs.Calls.{is_past}
 use Rattle.log_model.specs.Nodes.{Device}
 use Rattle.log_model.specs.Nodes.Device.{CutDrop}
 use Rattle.log_values.specs.declared.fact.Fact.{Fact}
-use Rattle.tier_model.specs.declared.turn.Turn.{Turn}
 use Rattle.tier_model.specs.declared.turn.Fault.{Fault as NodeFault}
 use Rattle.tier_model.specs.declared.turn.Fault.TheVariants as faults
 use Rattle.run_model.specs.declared.trace.Fared.{Fared}
@@ -59,7 +58,7 @@ doubts (Err (faults.JournalFull size)) met = false
 doubts (Err faults.Memory) met = false
 doubts (Err (faults.BadRecord at)) met = false
 
--- How a node's device fares whose journal has these records. Facts that would pass the journal's limit are not written, and
--- the node goes down.
+-- How a node's device fares whose journal has these records. Facts that would pass the journal's limit are not written,
+-- and the node goes down.
 abbrev pub fate_of : Fared → List (List Fact) → List Fact → Device
 fate_of fared records facts = if is_past (journal_of records) facts then CutDrop else device_of fared

@@ -1,5 +1,5 @@
 -- The rows of a backend's nodes make moves of their tier.
-use Rattle.std.specs.Prelude.{◌≡◌, ℕ, ◌+◌, ◌*◌, ◌<◌, ◌≤◌, List, [], None}
+use Rattle.std.specs.Prelude.{ℕ, ◌+◌, ◌*◌, ◌<◌, ◌≤◌, List, [], None}
 use Rattle.aeg_base.specs.declared.limits.TheConstants.{MAX_FAULTS}
 use Rattle.aeg_base.specs.declared.names.End.{End}
 use Rattle.aeg_base.specs.declared.names.Tier.{Tier}

@@ -38,7 +38,8 @@ CameOut (Err faults.Disk) well past move = (well ≡ false) × (past ≡ false)
 CameOut (Err faults.Memory) well past move = ⊥
 CameOut (Err (faults.BadRecord at)) well past move = ⊥
 
--- Node and disk are as the move leaves them, as the device fared. It sent what the move sends then, behind what was there.
+-- Node and disk are as the move leaves them, as the device fared. It sent what the move sends then, behind what was
+-- there.
 pub record Came {S : Type 0} (log_in : S → LogState AnyValue) (new : Seat S) (disk : DiskState) (before after : List (End × List ℕ))
     (node : Node S Fact) (device : Device) (move : Move S) (answer : Result Answer Fault) : Type 0 where
   pub is : IsNodeOf log_in (moved node device move.state move.facts) new
@@ -52,8 +53,8 @@ pub record IsSameSeat {S : Type 0} (old new : Seat S) : Type 0 where
   pub tier : new.view.tier ≡ old.view.tier
   pub me : new.view.me ≡ old.view.me
 
--- A call of a node that is up, during which its disk may stop. Whatever node it stands for, with its disk, it stands then for
--- what the row's move makes of that one. Want of memory says nothing.
+-- A call of a node that is up, during which its disk may stop. Whatever node it stands for, with its disk, it stands
+-- then for what the row's move makes of that one. Want of memory says nothing.
 pub record Comes {S : Type 0} (IsIn : S → Type 0) (log_in : S → LogState AnyValue) (old new : Seat S) (disk_before disk_after : DiskState)
     (before after : List (End × List ℕ)) (row : S → Move S) (stop : Option StopAt) (answer : Result Answer Fault) (fared : Fared) : Type 0 where
   pub came : HadMemory answer → (node : Node S Fact) (s : S) → IsNodeOf log_in node old → IsDiskOf node disk_before → node.mode ≡ Up s

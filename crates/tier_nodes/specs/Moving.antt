@@ -8,8 +8,8 @@ use Rattle.log_values.specs.declared.any_value.AnyValue.{AnyValue}
 use Rattle.tier_model.specs.Moves.{node, Move}
 use Rattle.row_laws.specs.Moves.{IsSealable, most_sent}
 
--- What the move of the tier's node x leaves is in range. Each packet is its own and has a frame, and they are few. At most
--- one fact is written down; it fits the node's journal, and opens the log where the move leaves it open.
+-- What the move of the tier's node x leaves is in range. Each packet is its own and has a frame, and they are few. At
+-- most one fact is written down; it fits the node's journal, and opens the log where the move leaves it open.
 pub record IsMoveOf {S : Type 0} (IsIn : S → Type 0) (log_in : S → LogState AnyValue) (t : Tier) (x : ℕ) (s : S) (move : Move S) : Type 0 where
   pub state : IsIn move.state
   pub sealable : AllByRecursion (IsSealable (node t x)) move.sends

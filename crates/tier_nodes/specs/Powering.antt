@@ -1,5 +1,5 @@
 -- What a crash, a restart and a wipe make of a node and its disk.
-use Rattle.std.specs.Prelude.{◌≡◌, ℕ, ◌≤◌, Bool, true, false, List, [], length, nat_lt, ◌&&◌, if◌then◌else◌}
+use Rattle.std.specs.Prelude.{◌≡◌, ℕ, ◌≤◌, Bool, false, List, [], length, nat_lt, ◌&&◌, if◌then◌else◌}
 use Rattle.std.specs.declared.result.Result.{Result}
 use Rattle.std.specs.declared.result.Result.TheVariants.{Ok, Err}
 use Rattle.aeg_disk.specs.Disk.{DiskState, Rose}
@@ -29,7 +29,8 @@ pub record Wipes {S : Type 0} (log_in : S → LogState AnyValue) (old new : Seat
   pub faults : disk_after.faults ≡ disk_before.faults
   pub same : IsSameSeat old new
 
--- Which list a restart reads: where the node was in doubt and its journal is longer than it knew, the one with the record more.
+-- Which list a restart reads: where the node was in doubt and its journal is longer than it knew, the one with the
+-- record more.
 abbrev pub list_found : Bool → ℕ → ℕ → ℕ
 list_found doubt known found = if doubt && nat_lt known found then 1 else 0
 
@@ -64,8 +65,8 @@ pub record Risen {S : Type 0} (log_in : S → LogState AnyValue) (recovered : Li
   pub among : IsAmong node.others found
   pub out : RoseOut disk_before disk_after answer
 
--- A node that is down restarts under power. Whatever node it stands for, with its disk, it stands then for what a restart
--- makes of that one. Want of memory says nothing.
+-- A node that is down restarts under power. Whatever node it stands for, with its disk, it stands then for what a
+-- restart makes of that one. Want of memory says nothing.
 pub record Rises {S : Type 0} (log_in : S → LogState AnyValue) (recovered : List Fact → S) (old new : Seat S) (disk_before disk_after : DiskState)
     (answer : Result (Unit {0}) Fault) (found : Found) : Type 0 where
   pub risen : HadMemory answer → (node : Node S Fact) → IsNodeOf log_in node old → IsDiskOf node disk_before

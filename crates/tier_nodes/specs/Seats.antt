@@ -1,5 +1,5 @@
 -- Nodes at their places, as contracts see them.
-use Rattle.std.specs.Prelude.{◌≡◌, ℕ, false, List, Some, map, slice_get, slice_set}
+use Rattle.std.specs.Prelude.{◌≡◌, ℕ, false, List, Some, slice_get, slice_set}
 use Rattle.log_model.specs.Nodes.{Mode}
 use Rattle.log_model.specs.Nodes.Mode.{Up, Down, Gone}
 use Rattle.node_log.specs.Views.{View}

@@ -14,8 +14,8 @@ use Rattle.log_values.specs.Records.{record_text}
 use Rattle.run_model.specs.World.{journal_length}
 use Rattle.node_log.specs.Views.{View}
 
--- A node at its place: what is seen of it, whether it is gone for good, and whether its disk may have one record more than
--- it knows.
+-- A node at its place: what is seen of it, whether it is gone for good, and whether its disk may have one record more
+-- than it knows.
 pub record Seat (S : Type 0) : Type 0 where
   pub view : View S
   pub gone : Bool
@@ -33,8 +33,8 @@ mode_of seat = mode_in seat.gone seat.view.up
 abbrev pub journal_of : List (List Fact) → ℕ
 journal_of records = journal_length (λ facts. length (record_text facts)) records
 
--- A node that is up has its place, and is in no doubt. One in doubt has the place of its records, and its disk may have one
--- record more. A node that is gone has none.
+-- A node that is up has its place, and is in no doubt. One in doubt has the place of its records, and its disk may have
+-- one record more. A node that is gone has none.
 abbrev pub IsPlaced : {S : Type 0} → Mode S → ℕ → Bool → List (List Fact) → Type 0
 IsPlaced (Up s) place doubt records = (place + 1 ≡ journal_of records) × (doubt ≡ false)
 IsPlaced Down place doubt records = doubt ≡ true → place + 1 ≡ journal_of records
@@ -54,8 +54,8 @@ IsOpen log_in (Up s) records = open_at (log_in s) ≡ open_after_all 0 (all_fact
 IsOpen log_in Down records = Unit {0}
 IsOpen log_in Gone records = Unit {0}
 
--- It is up, down or gone as the node is. The records that the node's disk may stand for fit its tier, and what it knows of
--- its journal agrees with them.
+-- It is up, down or gone as the node is. The records that the node's disk may stand for fit its tier, and what it knows
+-- of its journal agrees with them.
 pub record IsNodeOf {S : Type 0} (log_in : S → LogState AnyValue) (node : Node S Fact) (seat : Seat S) : Type 0 where
   pub mode : node.mode ≡ mode_of seat
   pub placed : IsPlaced node.mode seat.view.place seat.doubt node.records
@@ -70,7 +70,8 @@ IsReady (Up s) records disk = (at : ℕ) × HasFacts records disk at
 IsReady Down records disk = Unit {0}
 IsReady Gone records disk = Unit {0}
 
--- It is neither armed nor stopped, and each of its images has the records of one of the lists that the node lets it stand for.
+-- It is neither armed nor stopped, and each of its images has the records of one of the lists that the node lets it
+-- stand for.
 pub record IsDiskOf {S : Type 0} (node : Node S Fact) (disk : DiskState) : Type 0 where
   pub rest : IsAtRest disk
   pub lists : StandsFor (node.records ∷ node.others) disk

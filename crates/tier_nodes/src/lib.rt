@@ -4,12 +4,14 @@
 mod arming;
 mod back_nodes;
 mod condition;
+mod laws;
 mod posts;
 mod tier_node;
 mod tiers;
 
 pub use arming::StopAt;
 pub use condition::Condition;
+pub use laws::nodes_in_worlds;
 pub use posts::Post;
 pub use tier_node::TierNode;
 pub use tiers::Tier;

@@ -55,8 +55,8 @@ impl<N: TierNode> Post<N> {
         Condition::Down
     }
 
-    /// Puts the power back after a call, and says how its event fared. After a fault of the disk the node is in doubt, and
-    /// where an armed stop was met it is sure.
+    /// Puts the power back after a call, and says how its event fared. After a fault of the disk the node is in doubt,
+    /// and where an armed stop was met it is sure.
     fn settle<D: Device>(
         &mut self,
         stop: Option<StopAt>,

@@ -23,7 +23,8 @@ returns-clause-comes g c =
     let called = state c.deliver-answer.new.disk in
     let row = on_bytes (g.N.TierNode.kind node).on_frame c.args.bytes.now in
     subst (λ (z : Post _). Comes (g.N.TierNode.IsIn node) g.N.TierNode.log_in (seat_of seen c.args.self.now) (seat_of seen z)
-    (state c.args.disk.now) (state c.settle-fared.new.disk) c.args.out.now c.deliver-answer.new.out row c.args.stop c.deliver-answer.result c.settle-fared.result)
+    (state c.args.disk.now) (state c.settle-fared.new.disk) c.args.out.now c.deliver-answer.new.out row c.args.stop c.deliver-answer.result
+    c.settle-fared.result)
     (sym c.settle-fared.ensures.post)
     (comes (g.N.TierNode.IsIn node) g.N.TierNode.log_in (seat_of seen c.args.self.now) _ c.args.out.now c.deliver-answer.new.out row
     (state c.args.disk.now) (state c.arm.new.disk) called (state c.settle-fared.new.disk) c.args.stop c.deliver-answer.result c.settle-fared.result
