@@ -30,7 +30,7 @@ use Rattle.tier_model.specs.declared.turn.Fault.TheVariants as faults
 use Rattle.tier_model.specs.declared.turn.Turn.{Turn as Answer}
 use Rattle.tier_model.specs.Moves.{Move}
 use Rattle.tier_nodes.proofs.Moved.{Call, came}
-use Rattle.tier_nodes.proofs.Seated.{at_up, is_up_at, sure_alone, up_open, up_placed, up_seat}
+use Rattle.tier_nodes.proofs.Seated.{at_up, is_up_at, seen_up, sure_alone, up_open, up_placed, up_seat}
 use Rattle.tier_nodes.proofs.Stops.{armed_faults, asked_can, no_cause}
 use Rattle.tier_nodes.specs.Arming.{CanStop, FaresAs, armed_with, asked_of, at_rest, doubts, fared_by, is_fault}
 use Rattle.tier_nodes.specs.Calling.{Came, Comes, HadMemory, IsSameSeat, Tells}
@@ -146,13 +146,14 @@ module _ {S : Type 0} (IsIn : S → Type 0) (log_in : S → LogState AnyValue) (
       there : old.view.up ≡ Some s
       there = (up_seat old s (sym is.mode ∙ up)).1
 
-  pub comes : (disk armed called disk_after : DiskState) (stop : Option StopAt) (answer : Result Answer NodeFault) (fared : Fared) → CanStop stop
-      → condition_of old ≡ conditions.Up → views.is_up old.view ≡ true
+  -- the disk was armed, the call left what is seen then, and the power was put back
+  pub comes : (view : View S) (disk armed called disk_after : DiskState) (stop : Option StopAt) (answer : Result Answer NodeFault) (fared : Fared)
+      → CanStop stop → condition_of old ≡ conditions.Up
       → ((s : S) → old.view.up ≡ Some s → IsMoveOf IsIn log_in old.view.tier old.view.me s (row s))
-      → armed ≡ armed_with stop disk → Moves old.view new.view armed called before after row answer → new.gone ≡ old.gone
+      → armed ≡ armed_with stop disk → Moves old.view view armed called before after row answer → new.view ≡ view → new.gone ≡ old.gone
       → new.doubt ≡ doubts answer called.stopped → fared ≡ fared_by stop answer called.stopped → disk_after ≡ at_rest called
       → Comes IsIn log_in old new disk disk_after before after row stop answer fared
-  comes disk armed called disk_after stop answer fared stops condition is_up goes arms moves gone doubt fares rests =
+  comes view disk armed called disk_after stop answer fared stops condition goes arms moves seen gone doubt fares rests =
       subst (λ z. Comes IsIn log_in old new disk z before after row stop answer fared) (sym rests)
       (subst (λ z. Comes IsIn log_in old new disk (at_rest called) before after row stop answer z) (sym fares) (record {
         came = λ memory node s is on up. came IsIn log_in node old new disk called s (row s) before after stop answer called.stopped refl memory
@@ -163,11 +164,12 @@ module _ {S : Type 0} (IsIn : S → Type 0) (log_in : S → LogState AnyValue) (
         cause = cause_by stop answer called.stopped disk called old.view.place (row here.0).facts refl
             (λ fault e. at_up (λ s. HasCause (armed_with stop disk) called old.view.place (row s).facts fault) old.view.up here.0 there (made.cause fault e));
         later = subst (λ z. z ≤ called.faults) (armed_faults stop disk) made.later.faults;
-        same = same_seat old new (moved_view old.view new.view armed called before after row answer is_up moves);
+        same = same_seat old new (moved_view old.view new.view (armed_with stop disk) called before after row answer (seen_up old condition) made);
       }))
     where
       made : Moves old.view new.view (armed_with stop disk) called before after row answer
-      made = subst (λ z. Moves old.view new.view z called before after row answer) arms moves
+      made = subst (λ z. Moves old.view new.view z called before after row answer) arms
+          (subst (λ z. Moves old.view z armed called before after row answer) (sym seen) moves)
 
       here : (s : S) × (mode_of old ≡ Up s)
       here = is_up_at old condition

@@ -1,7 +1,7 @@
 -- What a call of a node that is up comes to, by its answer.
 use Rattle.std.proofs.Common.{◌≡◌, ℕ, ◌+◌, Bool, true, false, cond, List, [], ◌∷◌, ◌++◌, refl, sym, ap, ◌∙◌, subst, append-nil}
 use Rattle.std.proofs.Common.{Option, Some, None, Result, Ok, Err}
-use Rattle.std.specs.Prelude.{IfOk, OnErr, OnOk, not}
+use Rattle.std.specs.Prelude.{◌-◌, ◌^◌, IfOk, OnErr, OnOk, min, not}
 use Rattle.std.proofs.lemmas.Bool.{cond-true, cond-false}
 use Rattle.aeg_base.specs.declared.names.End.{End}
 use Rattle.aeg_disk.specs.Disk.{DiskState, Later}
@@ -171,7 +171,7 @@ module _ {S : Type 0} (IsIn : S → Type 0) (log_in : S → LogState AnyValue) (
     is = subst (λ z. IsNodeOf log_in z new) (sym is_down) is;
     on = subst (λ z. IsDiskOf z (at_rest called)) (sym is_down) (down_disk node.records [] called same);
     sends = unsent before after _ k.nothing_sent (sent_ill dev v ill);
-    out = (ill, past);
+    out = (ill, past, why.1 ∙ ap (λ z. min (length_with z v.facts) (2 ^ 64 - 1)) (placed k.is k.up).0);
   }
     where
       dev : Device

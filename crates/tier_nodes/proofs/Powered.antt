@@ -228,22 +228,26 @@ module _ {S : Type 0} (log_in : S → LogState AnyValue) (recovered : List Fact 
   risen (Err (faults.JournalFull size)) m k d = absurd (k.never_full size refl)
   risen (Err (faults.BadRecord at)) m k d = absurd (k.none_refused (node.records ∷ node.others) (rest_stands node disk on) is.fits at refl)
 
-pub rises : {S : Type 0} (log_in : S → LogState AnyValue) (recovered : List Fact → S) (old new : Seat S) (disk powered disk_after : DiskState)
-    (answer : Result (Unit {0}) NodeFault) (found : Found)
+pub rises : {S : Type 0} (log_in : S → LogState AnyValue) (recovered : List Fact → S) (old new : Seat S) (view : View S) (known : ℕ)
+    (disk powered disk_after : DiskState) (answer : Result (Unit {0}) NodeFault) (found : Found)
     → ((rs : List (List Fact)) → Fit old.view.tier rs → open_at (log_in (recovered (newest rs))) ≡ open_after_all 0 (all_facts rs))
-    → condition_of old ≡ conditions.Down → powered ≡ at_rest disk → Restarts old.view new.view powered disk_after recovered answer
-    → new.gone ≡ old.gone → new.doubt ≡ still_doubts answer old.doubt → found ≡ found_of old.doubt old.view.place new.view.place answer
+    → condition_of old ≡ conditions.Down → powered ≡ at_rest disk → Restarts old.view view powered disk_after recovered answer → new.view ≡ view
+    → new.gone ≡ old.gone → new.doubt ≡ still_doubts answer old.doubt → known ≡ old.view.place → found ≡ found_of old.doubt known view.place answer
     → Rises log_in recovered old new disk disk_after answer found
-rises log_in recovered old new disk powered disk_after answer found opens condition e k g d f = record {
-  risen = λ memory node is on. subst (λ z. Risen log_in recovered new disk disk_after node answer z) (sym f)
+rises {S} log_in recovered old new view known disk powered disk_after answer found opens condition e k seen g d knew f = record {
+  risen = λ memory node is on. subst (λ z. Risen log_in recovered new disk disk_after node answer z) (sym reads)
       (risen log_in recovered old new disk disk_after opens (g ∙ down.0) node is on down.2 here.later answer memory here d);
-  reads = f;
+  reads = reads;
   later = here.later.faults;
-  same = same_seat old new (restarted_view old.view new.view powered disk_after recovered answer k);
+  same = same_seat old new (restarted_view old.view new.view (at_rest disk) disk_after recovered answer here);
 }
   where
     down : (old.gone ≡ false) × (old.view.up ≡ None) × (mode_of old ≡ Down)
     down = is_down_at old condition
 
     here : Restarts old.view new.view (at_rest disk) disk_after recovered answer
-    here = subst (λ z. Restarts old.view new.view z disk_after recovered answer) e k
+    here = subst (λ z. Restarts old.view new.view z disk_after recovered answer) e
+        (subst (λ z. Restarts old.view z powered disk_after recovered answer) (sym seen) k)
+
+    reads : found ≡ found_of old.doubt old.view.place new.view.place answer
+    reads = f ∙ ap (λ z. found_of old.doubt z view.place answer) knew ∙ ap (λ (z : View S). found_of old.doubt old.view.place z.place answer) (sym seen)

@@ -1,10 +1,10 @@
 -- What a call of a node makes of it, of its disk and of the packets.
-use Rattle.std.specs.Prelude.{◌≡◌, ℕ, ◌≤◌, Bool, true, false, List, ◌++◌, IfSome, Option}
+use Rattle.std.specs.Prelude.{◌≡◌, ℕ, ◌-◌, ◌^◌, ◌≤◌, min, Bool, true, false, List, ◌++◌, IfSome, Option}
 use Rattle.std.specs.declared.result.Result.{Result}
 use Rattle.std.specs.declared.result.Result.TheVariants.{Ok, Err}
 use Rattle.aeg_base.specs.declared.names.End.{End}
 use Rattle.aeg_disk.specs.Disk.{DiskState, Rose}
-use Rattle.fact_journal.specs.Calls.{is_past}
+use Rattle.fact_journal.specs.Calls.{is_past, length_with}
 use Rattle.log_model.specs.Log.{LogState}
 use Rattle.log_model.specs.Nodes.{Node, Device, is_well, moved, sent}
 use Rattle.log_model.specs.Nodes.Device.{Fine}
@@ -30,13 +30,14 @@ HadMemory (Err faults.Disk) = Unit {0}
 HadMemory (Err (faults.JournalFull size)) = Unit {0}
 HadMemory (Err (faults.BadRecord at)) = Unit {0}
 
--- it made its move, or its journal would pass its limit, or its disk stopped or failed as the facts were written
-abbrev pub CameOut : {S : Type 0} → Result Answer Fault → Bool → Bool → Move S → Type 0
-CameOut (Ok answer) well past move = (well ≡ true) × (answer ≡ move.answer)
-CameOut (Err (faults.JournalFull size)) well past move = (well ≡ false) × (past ≡ true)
-CameOut (Err faults.Disk) well past move = (well ≡ false) × (past ≡ false)
-CameOut (Err faults.Memory) well past move = ⊥
-CameOut (Err (faults.BadRecord at)) well past move = ⊥
+-- it made its move, or its journal would have passed its limit, or its disk stopped or failed as the facts were written
+abbrev pub CameOut : {S : Type 0} → Result Answer Fault → Bool → List (List Fact) → Move S → Type 0
+CameOut (Ok answer) well records move = (well ≡ true) × (answer ≡ move.answer)
+CameOut (Err (faults.JournalFull size)) well records move = (well ≡ false) × (is_past (journal_of records) move.facts ≡ true)
+    × (size ≡ min (length_with (journal_of records) move.facts) (2 ^ 64 - 1))
+CameOut (Err faults.Disk) well records move = (well ≡ false) × (is_past (journal_of records) move.facts ≡ false)
+CameOut (Err faults.Memory) well records move = ⊥
+CameOut (Err (faults.BadRecord at)) well records move = ⊥
 
 -- Node and disk are as the move leaves them, as the device fared. It sent what the move sends then, behind what was
 -- there.
@@ -45,7 +46,7 @@ pub record Came {S : Type 0} (log_in : S → LogState AnyValue) (new : Seat S) (
   pub is : IsNodeOf log_in (moved node device move.state move.facts) new
   pub on : IsDiskOf (moved node device move.state move.facts) disk
   pub sends : after ≡ before ++ all_sealed (sent device move.facts move.sends)
-  pub out : CameOut answer (is_well device move.facts) (is_past (journal_of node.records) move.facts) move
+  pub out : CameOut answer (is_well device move.facts) node.records move
 
 -- it is the same one of its tier
 pub record IsSameSeat {S : Type 0} (old new : Seat S) : Type 0 where
