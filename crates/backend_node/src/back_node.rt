@@ -1,6 +1,11 @@
 // A backend node.
 ghost use Rattle.std.specs.Prelude.{◌≡◌, ◌+◌, ◌*◌, ◌<◌, ◌≤◌, true, false, IfOk, IfSome, OnOk};
+ghost use Rattle.aeg_base.specs.declared.limits.TheConstants.{MAX_FAULTS};
 ghost use Rattle.svc_api.specs.Plan.{IsBackend};
+ghost use Rattle.log_model.specs.Ranges.{IsLogIn};
+ghost use Rattle.log_values.specs.Fields.{FitsBallot};
+ghost use Rattle.frames.specs.LogMessages.{IsCarried};
+ghost use Rattle.server_shim.specs.Ranges.{IsShimIn};
 ghost use Rattle.fact_journal.specs.Fitting.{FactsFit};
 ghost use Rattle.tier_model.specs.BackRows.{leads, offers, on_frame, recovered, retry};
 ghost use Rattle.node_log.specs.Views.{MayWrite, Moves, Restarts, Tells, is_up, new_node, went_down};
@@ -78,6 +83,20 @@ impl<B: Backend> BackNode<B> {
         ensures { result ≡ self.now.place }
     {
         self.node.place()
+    }
+
+    /// It is one of its tier's nodes, and what it has is in range while it is up.
+    pub fn keep(&self)
+        ensures few { self.now.faults ≤ MAX_FAULTS }
+        ensures node { self.now.me < 2 * self.now.faults + 1 }
+        ensures tier { IsBackend self.now.tier }
+        ensures log { IfSome self.now.up (λ σ. IsLogIn (IsCarried self.now.tier) FitsBallot σ.log) }
+        ensures shim { IfSome self.now.up (λ σ. IsShimIn self.now.faults σ.shim) }
+    {
+        let _member = self.member();
+        if self.node.is_up() {
+            let _up = self.node.working();
+        }
     }
 
     fn member(&self) -> Member

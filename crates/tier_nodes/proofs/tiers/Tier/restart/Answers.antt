@@ -1,0 +1,6 @@
+use Rattle.tier_nodes.proofs.Places.{changes_at}
+use Rattle.tier_nodes.proofs.tiers.Tier.restart.Goals as goal
+
+pub returns : goal.returns
+returns g c = changes_at c.args.self.now.posts.items c.args.at c.from.result c.index_mut.result.now c.restart.new.self _ c.requires.there c.from.ensures
+    c.index_mut.ensures.value (c.restart.ensures.rises, c.restart.ensures.rows)
