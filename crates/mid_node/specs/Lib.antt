@@ -1,0 +1,2 @@
+pub mod Mids
+pub mod Deciding

@@ -1,0 +1,7 @@
+//! A middle node: a log that it shares with its tier, the rounds that it applies and runs, and what it keeps of clients,
+//! tokens and answers.
+#![tactic(auto)]
+
+mod keeping;
+
+pub use keeping::Keeping;
