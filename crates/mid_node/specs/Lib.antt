@@ -1,2 +1,3 @@
 pub mod Mids
 pub mod Deciding
+pub mod Settlings

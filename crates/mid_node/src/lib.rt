@@ -2,6 +2,9 @@
 //! tokens and answers.
 #![tactic(auto)]
 
+mod applying;
 mod keeping;
+mod rounds_learned;
+mod running;
 
 pub use keeping::Keeping;
