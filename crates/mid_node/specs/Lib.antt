@@ -1,3 +1,4 @@
 pub mod Mids
 pub mod Deciding
 pub mod Settlings
+pub mod Telling

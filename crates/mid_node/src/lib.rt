@@ -6,5 +6,6 @@ mod applying;
 mod keeping;
 mod rounds_learned;
 mod running;
+mod telling;
 
 pub use keeping::Keeping;
