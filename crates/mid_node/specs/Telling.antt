@@ -12,10 +12,6 @@ abbrev pub told_to : ℕ → ℕ → Told → List Packet
 told_to u x (Reply who text) = reply_to x who.client who.seq text ∷ []
 told_to u x (Call tier num text) = calls_to u x tier num text
 
-abbrev pub all_told : ℕ → ℕ → List Told → List Packet
-all_told u x [] = []
-all_told u x (t ∷ ts) = told_to u x t ++ all_told u x ts
-
 -- it has a frame
 abbrev pub IsToldIn : Told → Type 0
 IsToldIn (Reply who text) = IsClient who.client × (IsSeq who.seq × IsText text)

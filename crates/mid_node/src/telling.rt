@@ -1,6 +1,6 @@
 // What a middle node tells clients, backends and its tier.
 ghost use Rattle.std.specs.Prelude.{◌≡◌, ◌<◌, ◌≤◌, ◌^◌, ◌+◌, ◌*◌, ◌++◌, ◌∷◌, [], OnOk, OnErr};
-ghost use Rattle.std.specs.List.{AllByRecursion};
+ghost use Rattle.std.specs.List.{AllByRecursion, flat_map};
 ghost use Rattle.aeg_base.specs.declared.limits.TheConstants.{ROUNDS};
 ghost use Rattle.svc_api.specs.Plan.{IsBackend};
 ghost use Rattle.log_model.specs.Log.{is, nobody};
@@ -12,7 +12,7 @@ ghost use Rattle.tier_model.specs.Mid.{calls_to, reply_to};
 ghost use Rattle.tier_model.specs.MidRows.{haves, settle_at, token_to};
 ghost use Rattle.node_log.specs.Packets.{all_sealed, StillHas};
 ghost use Rattle.mid_node.specs.Deciding.{IsMember};
-ghost use Rattle.mid_node.specs.Telling.{IsToldIn, all_told, told_to};
+ghost use Rattle.mid_node.specs.Telling.{IsToldIn, told_to};
 
 use aeg_base::{Bytes, CallNo, End, Memory, NodeId, ReqId, Round, Seq, Tier};
 use applied_rounds::Told;
@@ -190,11 +190,11 @@ fn tell_one(member: Member, told: &Told, out: &mut Outbox) -> Result<(), Memory>
 pub fn tell(member: Member, told: &[Told], out: &mut Outbox) -> Result<(), Memory>
     requires member { IsMember member }
     requires fit { AllByRecursion IsToldIn told.now }
-    ensures sent { OnOk result (out.new ≡ out.old ++ all_sealed (all_told member.faults member.me.index told.now)) }
+    ensures sent { OnOk result (out.new ≡ out.old ++ flat_map (λ one. all_sealed (told_to member.faults member.me.index one)) told.now) }
     ensures kept { StillHas out.old out.new }
 {
-    for i in 0..told.len() {
-        tell_one(member, &told[i], out)?;
+    for one in told {
+        tell_one(member, one, out)?;
     }
     Ok(())
 }
