@@ -31,6 +31,7 @@ use Rattle.mid_node.specs.declared.keeping.Keeping.{Keeping}
 use Rattle.mid_node.specs.Mids.{claims_by, mid_with}
 use Rattle.mid_node.specs.Deciding.{IsKeptWell}
 use Rattle.mid_node.proofs.Services.{service_by}
+use Rattle.mid_node.proofs.Votes.{claims_without}
 
 -- WHAT THE LOG LEARNED OF IT
 
@@ -66,16 +67,6 @@ ready_is p σ es v e f =
     ∙ ap (λ (o : Option Verdict). and_then o (λ v.
     and_then (finish_of p (held_code σ.held) (wants p σ.tables es) σ.tables v) (λ o. Some (record { wants = wants p σ.tables es; finish = o })))) (sym f)
     ∙ ready_then (wants p σ.tables es) (finish_of p (held_code σ.held) (wants p σ.tables es) σ.tables v)
-
--- claims without those of a round
-claims_without : (tallies : List (ℕ × TallyState)) (r : ℕ) → claims_by (without tallies r) ≡ without (claims_by tallies) r
-claims_without [] r = refl
-claims_without (e ∷ es) r = go (e.0 == r) (claims_without es r)
-  where
-    go : (b : Bool) → claims_by (without es r) ≡ without (claims_by es) r
-        → claims_by (cond b es (e ∷ without es r)) ≡ cond b (claims_by es) ((e.0, e.1.claims) ∷ without (claims_by es) r)
-    go true rest = refl
-    go false rest = ap (λ (z : List (ℕ × Claims)). (e.0, e.1.claims) ∷ z) rest
 
 -- a round that tells nothing wasn't applied
 pub unapplied : (s new : AppliedState) (ws : List Want) (o : Option Finish) (f : Finish → List Told) → new ≡ after_round_if s ws o

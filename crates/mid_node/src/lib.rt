@@ -4,6 +4,7 @@
 
 mod applying;
 mod keeping;
+mod own_votes;
 mod rounds_learned;
 mod running;
 mod telling;
