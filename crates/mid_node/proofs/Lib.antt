@@ -1,3 +1,4 @@
 pub mod Services
 pub mod Votes
 pub mod NextRounds
+pub mod DecidedMoves
