@@ -4,7 +4,6 @@ use Rattle.std.proofs.Common.{append_assoc, append-nil}
 use Rattle.std.specs.Prelude.{IsErr}
 use Rattle.std.specs.List.{AllByRecursion, flat_map}
 use Rattle.std.proofs.lemmas.List.{map-append}
-use Rattle.std.proofs.lemmas.List.Concat.{flat_map-cons}
 use Rattle.std.proofs.lemmas.Option.{same_Some}
 use Rattle.aeg_base.specs.declared.memory.Memory.{Memory}
 use Rattle.aeg_base.specs.declared.names.End.{End}
@@ -99,7 +98,7 @@ told_fit p u depth x σ told service k e = go (ready p σ) refl e
         (subst (λ (z : List Want). AllByRecursion IsToldIn (tolds σ.tables.next z R.finish.ends)) (sym r.is)
         (tolds_fit p σ.tables.next ws R.finish.ends r.ask r.fits.ends (numbers_in p depth σ.applied (length ws) σ.tables k.tables early r.few)))
 
-abbrev sealed_of : ℕ → ℕ → Told → List (End × List ℕ)
+abbrev pub sealed_of : ℕ → ℕ → Told → List (End × List ℕ)
 sealed_of u x told = all_sealed (told_to u x told)
 
 tolds_sealed : (u x : ℕ) (next : OfTiers ℕ) (ws : List Want) (es : List Ending)
@@ -107,11 +106,9 @@ tolds_sealed : (u x : ℕ) (next : OfTiers ℕ) (ws : List Want) (es : List Endi
 tolds_sealed u x next [] es = refl
 tolds_sealed u x next (w ∷ ws) [] = refl
 tolds_sealed u x next (w ∷ ws) (Reply text ∷ es) =
-    flat_map-cons (sealed_of u x) _ (tolds next ws es)
-    ∙ ap (λ (z : List (End × List ℕ)). all_sealed (reply_to x w.client w.seq text ∷ []) ++ z) (tolds_sealed u x next ws es)
+    ap (λ (z : List (End × List ℕ)). all_sealed (reply_to x w.client w.seq text ∷ []) ++ z) (tolds_sealed u x next ws es)
 tolds_sealed u x next (w ∷ ws) (Call t stage text ∷ es) =
-    flat_map-cons (sealed_of u x) _ (tolds (bump next t) ws es)
-    ∙ ap (λ (z : List (End × List ℕ)). all_sealed (calls_to u x t (of_tier next t) text) ++ z) (tolds_sealed u x (bump next t) ws es)
+    ap (λ (z : List (End × List ℕ)). all_sealed (calls_to u x t (of_tier next t) text) ++ z) (tolds_sealed u x (bump next t) ws es)
     ∙ sym (map-append sealed (calls_to u x t (of_tier next t) text) (tells u x (bump next t) ws es))
 
 module _ (p : Programs) (m : Member) (old new : Working Keeping) (before after : List (End × List ℕ)) (d : Decided) where
