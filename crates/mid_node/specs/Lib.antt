@@ -2,3 +2,4 @@ pub mod Mids
 pub mod Deciding
 pub mod Settlings
 pub mod Telling
+pub mod Running
