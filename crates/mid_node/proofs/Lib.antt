@@ -2,3 +2,4 @@ pub mod Services
 pub mod Votes
 pub mod NextRounds
 pub mod DecidedMoves
+pub mod RunMoves
