@@ -3,3 +3,4 @@ pub mod Votes
 pub mod NextRounds
 pub mod DecidedMoves
 pub mod RunMoves
+pub mod WorkMoves
