@@ -8,5 +8,6 @@ mod own_votes;
 mod rounds_learned;
 mod running;
 mod telling;
+mod telling_again;
 
 pub use keeping::Keeping;

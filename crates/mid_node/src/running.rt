@@ -4,6 +4,7 @@ ghost use Rattle.applied_rounds.specs.States.{programs_of};
 ghost use Rattle.exec_core.specs.Counts.{one_more};
 ghost use Rattle.exec_core.specs.Jobs.{UsesGiven};
 ghost use Rattle.node_log.specs.Deciding.{idle_in};
+ghost use Rattle.round_model.specs.After.{verdict_at};
 ghost use Rattle.tier_model.specs.Mid.{applies, ready};
 ghost use Rattle.tier_model.specs.MidRows.{runs_or_not, to_run, work};
 ghost use Rattle.mid_node.specs.Deciding.{DecidesMove, IsInRange, IsMember, mid_in};
@@ -19,9 +20,9 @@ use aeg_base::{Memory, Seq};
 use applied_rounds::Applied;
 use exec_core::{Exec, Job};
 use frames::Outbox;
-use log_values::Token;
+use log_values::{Token, Verdict};
 use node_log::{Decided, Member, Working};
-use pipeline::JobState;
+use pipeline::{JobState, Settled};
 use svc_api::Service;
 use tier_model::{Idle, Turn};
 
@@ -171,4 +172,51 @@ pub fn work<S: Service, X: Exec<S>>(
         Next::Idle(cause) => Ok(idle(member, cause)),
         Next::Run(job) => run_next(member, svc, up, exec, job, out),
     }
+}
+
+/// Why the next round, whose verdict this is, can't be applied, if it can't.
+fn apply_idle<S: Service>(
+    member: Member,
+    svc: &S,
+    up: &Working<Keeping>,
+    verdict: &Verdict,
+) -> Result<Option<Idle>, Memory>
+    requires member { IsMember member }
+    requires range { IsInRange (programs_of (S.table svc.now) (S.beginning svc.now)) member up.now }
+    requires verdict { Some verdict.now ≡ verdict_at up.now.log.state.learned up.now.rest.rounds.applied }
+    ensures { IfOk result (λ cause. cause ≡ idle_in (applies member.faults (programs_of (S.table svc.now) (S.beginning svc.now)) member.me.index
+        (mid_in member up.now) (ready (programs_of (S.table svc.now) (S.beginning svc.now)) (mid_in member up.now))).answer) }
+{
+    let Some(batch) = batch_at(&up.log, up.rest.rounds.applied()) else {
+        return Ok(Some(Idle::Nothing));
+    };
+    match up
+        .rest
+        .rounds
+        .can_apply(svc, batch, verdict, &up.rest.held)?
+    {
+        Settled::Ready(_) => Ok(None),
+        Settled::NoAnswer { tier, no } => Ok(Some(Idle::NoAnswer { tier, no })),
+        Settled::Misfit => Ok(Some(Idle::Nothing)),
+    }
+}
+
+/// Why a work would do nothing, if it would do nothing. Nothing is applied or run for that.
+pub fn work_idle<S: Service>(
+    member: Member,
+    svc: &S,
+    up: &Working<Keeping>,
+) -> Result<Option<Idle>, Memory>
+    requires member { IsMember member }
+    requires range { IsInRange (programs_of (S.table svc.now) (S.beginning svc.now)) member up.now }
+    ensures { (schedule : List ℕ) → IfOk result (λ cause. cause ≡ idle_in (work member.faults (programs_of (S.table svc.now) (S.beginning svc.now))
+        member.me.index (mid_in member up.now) schedule).answer) }
+{
+    let Some(verdict) = verdict_at(&up.log, up.rest.rounds.applied()) else {
+        return match next_job(member, svc, up)? {
+            Next::Run(_) => Ok(None),
+            Next::Idle(cause) => Ok(Some(cause)),
+        };
+    };
+    apply_idle(member, svc, up, verdict)
 }
