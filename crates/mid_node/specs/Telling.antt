@@ -22,8 +22,8 @@ IsToldIn (Call tier num text) = IsBackend tier × (IsCallNumber num × IsText te
 
 -- a call that waits has a frame
 abbrev pub IsCallIn : Tier × ℕ × List ℕ → Type 0
-IsCallIn call = IsBackend call.0 × (IsCallNumber call.1.0 × IsText call.1.1)
+IsCallIn call = IsBackend call.0 × (IsCallNumber call.1 × IsText call.2)
 
 -- it is made again where its answer isn't held
 abbrev pub call_unless_held : ℕ → ℕ → HeldState → Tier × ℕ × List ℕ → List Packet
-call_unless_held u x held call = if is_some (held_code held call.0 call.1.0) then [] else calls_to u x call.0 call.1.0 call.1.1
+call_unless_held u x held call = if is_some (held_code held call.0 call.1) then [] else calls_to u x call.0 call.1 call.2
