@@ -4,3 +4,4 @@ pub mod NextRounds
 pub mod DecidedMoves
 pub mod RunMoves
 pub mod WorkMoves
+pub mod ToldAgain

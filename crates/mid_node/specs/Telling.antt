@@ -7,6 +7,8 @@ use Rattle.svc_api.specs.Plan.{IsBackend}
 use Rattle.log_values.specs.Fields.{IsCallNumber, IsClient, IsSeq, IsText}
 use Rattle.round_model.specs.Held.{HeldState, held_code}
 use Rattle.round_model.specs.Lists.{is_some}
+use Rattle.round_model.specs.Tables.{Parked}
+use Rattle.pipeline.specs.States.{call_of}
 use Rattle.tier_model.specs.Moves.{Packet}
 use Rattle.tier_model.specs.Mid.{calls_to, reply_to}
 
@@ -23,6 +25,10 @@ IsToldIn (Call tier num text) = IsBackend tier × (IsCallNumber num × IsText te
 -- a call that waits has a frame
 abbrev pub IsCallIn : Tier × ℕ × List ℕ → Type 0
 IsCallIn call = IsBackend call.0 × (IsCallNumber call.1 × IsText call.2)
+
+-- a request that waits for such a call
+abbrev pub IsWaiting : Parked → Type 0
+IsWaiting p = IsCallIn (call_of p)
 
 -- it is made again where its answer isn't held
 abbrev pub call_unless_held : ℕ → ℕ → HeldState → Tier × ℕ × List ℕ → List Packet

@@ -5,10 +5,11 @@ ghost use Rattle.round_model.specs.Held.{floor, highest};
 ghost use Rattle.round_model.specs.Service.{Programs};
 ghost use Rattle.svc_api.specs.Plan.{IsBackend};
 ghost use Rattle.server_shim.specs.Ranges.{IsCode};
-ghost use Rattle.tier_model.specs.MidRows.{haves, haves_again, retry, settle_to};
+ghost use Rattle.round_model.specs.Lists.{concat};
+ghost use Rattle.tier_model.specs.MidRows.{by_number, calls_again, haves, haves_again, open_calls, retry, settle_to};
 ghost use Rattle.node_log.specs.Packets.{all_sealed, StillHas};
 ghost use Rattle.mid_node.specs.Deciding.{IsInRange, IsMember, mid_in};
-ghost use Rattle.mid_node.specs.Telling.{IsCallIn, call_unless_held};
+ghost use Rattle.mid_node.specs.Telling.{IsCallIn, IsWaiting, call_unless_held};
 
 use crate::keeping::Keeping;
 use crate::telling::{send_calls, send_haves, send_settle};
@@ -82,7 +83,8 @@ fn have_again(member: Member, tier: Tier, held: &Held, out: &mut Outbox) -> Resu
     ensures kept { StillHas out.old out.new }
 {
     let codes = held.highest(tier)?;
-    have_all_again(member, tier, &codes, out)
+    have_all_again(member, tier, &codes, out)?;
+    Ok(())
 }
 
 /// Tells the tier again the floor of its answers, where one was raised.
@@ -98,6 +100,38 @@ fn settle_again(member: Member, tier: Tier, held: &Held, out: &mut Outbox) -> Re
     Ok(())
 }
 
+/// Makes the calls again that wait and whose answers aren't held, by tier, then number.
+fn call_waiting(member: Member, keeping: &Keeping, out: &mut Outbox) -> Result<(), Memory>
+    requires member { IsMember member }
+    requires fit { AllByRecursion IsWaiting (concat keeping.now.rounds.tables.queue) }
+    ensures sent { OnOk result (out.new ≡ out.old ++ all_sealed (
+        calls_again member.faults member.me.index (by_number (open_calls keeping.now.held Tier.Inv (concat keeping.now.rounds.tables.queue)))
+        ++ calls_again member.faults member.me.index (by_number (open_calls keeping.now.held Tier.Pay (concat keeping.now.rounds.tables.queue))))) }
+    ensures kept { StillHas out.old out.new }
+{
+    let calls = keeping.rounds.parked()?;
+    call_all_again(member, &keeping.held, &calls, out)?;
+    Ok(())
+}
+
+/// Tells again which answers are held, and the floors that were raised.
+fn tell_held(member: Member, held: &Held, out: &mut Outbox) -> Result<(), Memory>
+    requires member { IsMember member }
+    requires inventory { AllByRecursion IsCode (highest held.now Tier.Inv) }
+    requires payment { AllByRecursion IsCode (highest held.now Tier.Pay) }
+    ensures sent { OnOk result (out.new ≡ out.old ++ all_sealed (haves_again member.faults member.me.index Tier.Inv (highest held.now Tier.Inv)
+        ++ (haves_again member.faults member.me.index Tier.Pay (highest held.now Tier.Pay)
+        ++ (settle_to member.faults member.me.index Tier.Inv (floor held.now Tier.Inv)
+        ++ settle_to member.faults member.me.index Tier.Pay (floor held.now Tier.Pay))))) }
+    ensures kept { StillHas out.old out.new }
+{
+    have_again(member, Tier::Inv, held, out)?;
+    have_again(member, Tier::Pay, held, out)?;
+    settle_again(member, Tier::Inv, held, out)?;
+    settle_again(member, Tier::Pay, held, out)?;
+    Ok(())
+}
+
 /// Tells again what may be lost: asks for the first open position; calls whose answers aren't held; the highest answers
 /// that are; and floors that were raised.
 pub fn tell_again(
@@ -110,17 +144,9 @@ pub fn tell_again(
     ensures sent { OnOk result (out.new ≡ out.old ++ all_sealed (retry member.faults member.me.index (mid_in member up.now)).sends) }
     ensures kept { StillHas out.old out.new }
 {
-    send_asks(
-        member.alloc,
-        member.faults,
-        member.me,
-        up.log.first_open(),
-        out,
-    )?;
-    let calls = up.rest.rounds.parked()?;
-    call_all_again(member, &up.rest.held, &calls, out)?;
-    have_again(member, Tier::Inv, &up.rest.held, out)?;
-    have_again(member, Tier::Pay, &up.rest.held, out)?;
-    settle_again(member, Tier::Inv, &up.rest.held, out)?;
-    settle_again(member, Tier::Pay, &up.rest.held, out)
+    let at = up.log.first_open();
+    send_asks(member.alloc, member.faults, member.me, at, out)?;
+    call_waiting(member, &up.rest, out)?;
+    tell_held(member, &up.rest.held, out)?;
+    Ok(())
 }
