@@ -5,6 +5,7 @@
 mod applying;
 mod keeping;
 mod own_votes;
+mod restoring;
 mod rounds_learned;
 mod running;
 mod telling;
