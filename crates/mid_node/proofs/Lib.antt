@@ -5,3 +5,4 @@ pub mod DecidedMoves
 pub mod RunMoves
 pub mod WorkMoves
 pub mod ToldAgain
+pub mod CaughtUp
