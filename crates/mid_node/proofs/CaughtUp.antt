@@ -2,7 +2,6 @@
 use Rattle.std.proofs.Common.{◌≡◌, ℕ, suc, ◌+◌, ◌-◌, ◌<◌, ◌≤◌, List, [], ◌∷◌, length, replicate, refl, sym, ap, ◌∙◌, subst, arith, Option, Some, None}
 use Rattle.std.specs.List.{AllByRecursion}
 use Rattle.aeg_base.specs.declared.names.Tier.TheVariants.{Mid as InMid}
-use Rattle.applied_rounds.specs.declared.told.Told.{Told}
 use Rattle.applied_rounds.specs.States.{AppliedState, none_applied}
 use Rattle.fact_journal.specs.Fitting.{FactsFit}
 use Rattle.frames.specs.LogMessages.{IsCarried}

@@ -1,5 +1,5 @@
 -- Moves that a middle node decides, and what a round tells.
-use Rattle.std.proofs.Common.{◌≡◌, ℕ, suc, ◌*◌, ◌+◌, ◌<◌, ◌≤◌, List, [], ◌∷◌, ◌++◌, length, map, refl, sym, ap, ◌∙◌, subst, arith, Option, Some, None, Result, Ok, Err}
+use Rattle.std.proofs.Common.{◌≡◌, ℕ, suc, ◌<◌, ◌≤◌, List, [], ◌∷◌, ◌++◌, length, refl, sym, ap, ◌∙◌, subst, arith, Option, Some, None, Result, Ok, Err}
 use Rattle.std.proofs.Common.{append_assoc, append-nil}
 use Rattle.std.specs.Prelude.{IsErr}
 use Rattle.std.specs.List.{AllByRecursion, flat_map}
@@ -17,10 +17,9 @@ use Rattle.round_model.specs.Lists.{OfTiers, of_tier}
 use Rattle.round_model.specs.Service.{Programs}
 use Rattle.round_model.specs.Tables.{Want, bump, wants}
 use Rattle.tier_model.specs.declared.turn.Idle.{Idle}
-use Rattle.tier_model.specs.declared.turn.Turn.{Turn as Answer}
 use Rattle.tier_model.specs.declared.turn.Turn.TheVariants as answers
-use Rattle.tier_model.specs.Moves.{Move, Packet, idles}
-use Rattle.tier_model.specs.Mid.{Mid, Ready, applies, apply_state, calls_to, ready, reply_to, tells, unready}
+use Rattle.tier_model.specs.Moves.{Move}
+use Rattle.tier_model.specs.Mid.{Mid, Ready, applies, apply_state, calls_to, ready, reply_to, tells}
 use Rattle.node_log.specs.declared.decided.Decided.{Decided}
 use Rattle.node_log.specs.declared.member.Member.{Member}
 use Rattle.node_log.specs.declared.working.Working.{Working}

@@ -1,9 +1,8 @@
 -- The next round of a middle node.
-use Rattle.std.proofs.Common.{◌≡◌, ℕ, suc, ◌*◌, ◌+◌, ◌<◌, ◌≤◌, List, [], ◌∷◌, map, refl, sym, ap, ◌∙◌, subst, arith, cond, Bool, true, false, Option, Some, None}
-use Rattle.std.specs.Prelude.{option_map, ◌==◌}
+use Rattle.std.proofs.Common.{◌≡◌, ℕ, ◌<◌, ◌≤◌, List, refl, sym, ap, ◌∙◌, subst, arith, Option, Some, None}
+use Rattle.std.specs.Prelude.{option_map}
 use Rattle.std.specs.List.{AllByRecursion}
 use Rattle.aeg_base.specs.declared.limits.TheConstants.{ROUNDS}
-use Rattle.aeg_base.specs.declared.names.Tier.TheVariants as tiers
 use Rattle.applied_rounds.specs.declared.told.Told.{Told}
 use Rattle.applied_rounds.specs.States.{AppliedState, after_round_if}
 use Rattle.batcher.specs.Clients.{ClientTable, Agrees}
@@ -20,7 +19,6 @@ use Rattle.round_model.specs.Numbered.{without}
 use Rattle.round_model.specs.Service.{Programs, Finish}
 use Rattle.round_model.specs.Settling.{finish_of}
 use Rattle.round_model.specs.Tables.{Want, wants, drop_done, settled}
-use Rattle.round_model.specs.Verdicts.{Claims}
 use Rattle.server_shim.proofs.Lists.{without_in}
 use Rattle.state_verify.specs.Tallies.{TallyState}
 use Rattle.tier_model.specs.Mid.{Mid, Ready, apply, apply_state, ready}

@@ -1,16 +1,13 @@
 -- The run of a middle node's next round.
-use Rattle.std.proofs.Common.{◌≡◌, ℕ, ◌*◌, ◌+◌, List, [], ◌++◌, refl, sym, ap, ◌∙◌, subst, cond, Bool, true, false, Option, Some, None, Result, Ok, Err}
+use Rattle.std.proofs.Common.{◌≡◌, ℕ, ◌*◌, ◌+◌, List, [], ◌++◌, refl, sym, ap, ◌∙◌, subst, cond, Option, Some, None, Ok}
 use Rattle.std.specs.Prelude.{IfSome, option_map}
 use Rattle.std.specs.List.{AllByRecursion}
 use Rattle.std.proofs.lemmas.Bool.{cond_both}
-use Rattle.aeg_base.specs.declared.memory.Memory.{Memory}
 use Rattle.aeg_base.specs.declared.names.End.{End}
 use Rattle.aeg_base.specs.declared.names.Tier.TheVariants.{Mid as InMid}
 use Rattle.applied_rounds.specs.States.{AppliedState, claim_by}
-use Rattle.exec_core.specs.Jobs.{UsesGiven}
 use Rattle.exec_model.specs.declared.job.Job.{Job}
 use Rattle.exec_model.specs.Jobs.{Run, run_job}
-use Rattle.exec_model.proofs.Outcome.{run_job-steps}
 use Rattle.log_model.specs.Log.{is}
 use Rattle.log_model.proofs.Basics.{Every}
 use Rattle.log_values.specs.Outcomes.{IsCommit}
@@ -24,7 +21,6 @@ use Rattle.round_model.specs.Verdicts.{Vote}
 use Rattle.state_verify.specs.Tallies.{TallyState}
 use Rattle.tier_model.specs.declared.turn.RunNote.{RunNote}
 use Rattle.tier_model.specs.declared.turn.Turn.TheVariants as answers
-use Rattle.tier_model.specs.Moves.{Move}
 use Rattle.tier_model.specs.Mid.{Mid}
 use Rattle.tier_model.specs.MidRows.{Running, is_in, running, runs, to_run, token_to, with_own}
 use Rattle.node_log.specs.declared.decided.Decided.{Decided}
@@ -39,7 +35,6 @@ use Rattle.row_laws.proofs.MidRounds.{run_in}
 use Rattle.mid_node.specs.declared.keeping.Keeping.{Keeping}
 use Rattle.mid_node.specs.Mids.{claims_by, vote_by}
 use Rattle.mid_node.specs.Deciding.{DecidesMove, IsInRange, mid_in}
-use Rattle.mid_node.specs.Settlings.{segs_of}
 use Rattle.mid_node.specs.Running.{IsNextRun, runs_by}
 use Rattle.mid_node.proofs.DecidedMoves.{without_facts}
 use Rattle.mid_node.proofs.Services.{service_by}
@@ -81,8 +76,12 @@ module _ (p : Programs) (m : Member) (old : Working Keeping) (job : Job) where
       pub next : IsNextRun p m old job
       pub service : IsServiceIn p
       pub range : IsInRange p m old
-      pub note_is : note ≡ record { round = old.rest.rounds.applied; steps = (run_by note.steps).steps; order = (run_by note.steps).order;
-          redo = (run_by note.steps).redo }
+      pub note_is : note ≡ record {
+        round = old.rest.rounds.applied;
+        steps = (run_by note.steps).steps;
+        order = (run_by note.steps).order;
+        redo = (run_by note.steps).redo;
+      }
       pub rounds_are : rounds ≡ record old.rest.rounds { run = Some (claim_by p σ.tables.store (run_by note.steps)) }
       pub token_is : IfSome rounds.run (λ claim. token ≡ claim.token)
       pub order_is : order ≡ note.order
@@ -127,10 +126,23 @@ module _ (p : Programs) (m : Member) (old : Working Keeping) (job : Job) where
 
       state_is : WasRun → WasTold → mid_in m new ≡ record σ { tally = with_own σ.tally row.vote; spec = Some row.vote }
       state_is w t =
-          ap (λ z. record σ { log = z.state; applied = new.rest.rounds.applied; tables = new.rest.rounds.tables; pending = new.rest.pending;
-          tally = claims_by new.rest.tallies; spec = option_map (vote_by x new.rest.rounds.applied) new.rest.rounds.run; held = new.rest.held }) t.log
-          ∙ ap (λ (z : AppliedState). record σ { applied = z.applied; tables = z.tables; pending = new.rest.pending; tally = claims_by new.rest.tallies;
-          spec = option_map (vote_by x z.applied) z.run; held = new.rest.held }) (t.rounds_new ∙ w.rounds_are)
+          ap (λ z. record σ {
+            log = z.state;
+            applied = new.rest.rounds.applied;
+            tables = new.rest.rounds.tables;
+            pending = new.rest.pending;
+            tally = claims_by new.rest.tallies;
+            spec = option_map (vote_by x new.rest.rounds.applied) new.rest.rounds.run;
+            held = new.rest.held;
+          }) t.log
+          ∙ ap (λ (z : AppliedState). record σ {
+            applied = z.applied;
+            tables = z.tables;
+            pending = new.rest.pending;
+            tally = claims_by new.rest.tallies;
+            spec = option_map (vote_by x z.applied) z.run;
+            held = new.rest.held;
+          }) (t.rounds_new ∙ w.rounds_are)
           ∙ ap (λ z. record σ { pending = z; tally = claims_by new.rest.tallies; spec = Some row.vote; held = new.rest.held }) t.pending
           ∙ ap (λ z. record σ { tally = z; spec = Some row.vote; held = new.rest.held })
           (t.votes ∙ ap (λ (z : Vote). with_own (claims_by old.rest.tallies) z) (same_vote w))

@@ -1,8 +1,7 @@
 -- The programs of a service are in range.
-use Rattle.std.proofs.Common.{◌≡◌, ℕ, List, refl, Option}
-use Rattle.aeg_base.specs.Store.{Store}
+use Rattle.std.proofs.Common.{ℕ, List, refl}
 use Rattle.aeg_base.specs.declared.names.ReqId.{ReqId}
-use Rattle.svc_api.specs.Segment.{Segment, Folds, GoesOn}
+use Rattle.svc_api.specs.Segment.{Folds, GoesOn}
 use Rattle.exec_model.specs.Jobs.{AreProper, Beginnings}
 use Rattle.round_model.specs.Service.{Programs, Service, Table}
 use Rattle.applied_rounds.specs.States.{programs_of}

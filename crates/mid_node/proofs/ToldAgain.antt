@@ -1,7 +1,7 @@
 -- What a middle node tells again.
-use Rattle.std.proofs.Common.{◌≡◌, ℕ, suc, ◌<◌, ◌≤◌, Bool, true, false, cond, List, [], ◌∷◌, ◌++◌, length, map, not, refl, sym, ap, ◌∙◌, subst, arith, Option, Some, None, append_assoc}
+use Rattle.std.proofs.Common.{◌≡◌, ℕ, suc, Bool, true, false, cond, List, [], ◌∷◌, ◌++◌, map, not, refl, sym, ap, ◌∙◌, arith, append_assoc}
 use Rattle.std.specs.Prelude.{◌&&◌, nat_lt}
-use Rattle.std.specs.List.{AllByRecursion, filter, flat_map}
+use Rattle.std.specs.List.{flat_map}
 use Rattle.std.proofs.lemmas.Bool.{cond_both}
 use Rattle.std.proofs.lemmas.Bool.Decides.{nat_tests}
 use Rattle.std.proofs.lemmas.List.{map-append}
@@ -11,7 +11,7 @@ use Rattle.aeg_base.specs.declared.names.Tier.TheVariants.{Mid as InMid, Inv, Pa
 use Rattle.server_model.specs.Server.{same_tier}
 use Rattle.svc_api.specs.Plan.{IsBackend}
 use Rattle.log_model.proofs.Basics.{Every, every-append}
-use Rattle.pipeline.specs.States.{by_tier, call_of, calling, numbered, to_tier}
+use Rattle.pipeline.specs.States.{by_tier, call_of, calling, numbered}
 use Rattle.round_model.specs.Held.{HeldState, held_code}
 use Rattle.round_model.specs.Lists.{is_some}
 use Rattle.round_model.specs.Numbered.{rises}
@@ -21,7 +21,7 @@ use Rattle.row_laws.proofs.Lists.{map_in}
 use Rattle.tier_model.specs.Moves.{Packet}
 use Rattle.tier_model.specs.Mid.{calls_to}
 use Rattle.tier_model.specs.MidRows.{by_number, calls_again, haves, haves_again, open_calls, put_parked}
-use Rattle.node_log.specs.Packets.{sealed, all_sealed, StillHas}
+use Rattle.node_log.specs.Packets.{sealed, all_sealed}
 use Rattle.mid_node.specs.Telling.{IsCallIn, IsWaiting, call_unless_held}
 
 pub haves_sealed : (u x : ℕ) (t : Tier) (es : List (ℕ × ℕ))

@@ -1,5 +1,5 @@
 -- A claim joins the claims of its round.
-use Rattle.std.proofs.Common.{◌≡◌, ℕ, suc, ◌<◌, ◌==◌, Bool, true, false, cond, List, [], ◌∷◌, refl, sym, ap, ◌∙◌, subst, arith, Option, Some, None}
+use Rattle.std.proofs.Common.{◌≡◌, ℕ, suc, ◌==◌, Bool, true, false, cond, List, [], ◌∷◌, refl, sym, ap, ◌∙◌, subst, arith, Option, Some, None}
 use Rattle.std.specs.Prelude.{IsTrue, IfSome, nat_lt, not, is_some as some, if◌then◌else◌, option_map}
 use Rattle.std.specs.List.{AllByRecursion}
 use Rattle.std.proofs.lemmas.Bool.Decides.{nat_tests}
@@ -10,7 +10,7 @@ use Rattle.round_model.specs.Verdicts.{Claims, Vote, claim, claim_of, claims_in,
 use Rattle.round_model.proofs.NumberedLaws.{risen, find_below, put_first, without_none}
 use Rattle.server_shim.proofs.Lists.{find_in, index_in, put_in, replicate_in, without_in}
 use Rattle.state_verify.specs.Tallies.{TallyState}
-use Rattle.tier_model.specs.MidRows.{is_in, with_own, with_vote}
+use Rattle.tier_model.specs.MidRows.{with_own}
 use Rattle.mid_node.specs.Mids.{claims_by}
 
 -- TABLES

@@ -1,5 +1,5 @@
 -- What a middle node's work decides.
-use Rattle.std.proofs.Common.{◌≡◌, ℕ, ◌*◌, ◌+◌, List, [], ◌++◌, refl, sym, ap, ◌∙◌, subst, cond, Bool, true, false, Option, Some, None, Result, Ok, Err, append-nil}
+use Rattle.std.proofs.Common.{◌≡◌, ℕ, List, [], refl, sym, ap, ◌∙◌, subst, cond, Bool, false, Option, Some, None, Result, Ok, Err, append-nil}
 use Rattle.std.specs.Prelude.{IfOk, option_copied, is_some as some}
 use Rattle.std.specs.Borrow.{Bor}
 use Rattle.std.proofs.lemmas.Option.{same_Some}

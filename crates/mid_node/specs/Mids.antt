@@ -1,5 +1,5 @@
 -- A middle node's parts, as its rows see them.
-use Rattle.std.specs.Prelude.{ℕ, List, [], ◌∷◌, map, Option, Some, None, option_map}
+use Rattle.std.specs.Prelude.{ℕ, List, [], map, option_map}
 use Rattle.std.specs.declared.result.Result.{Result}
 use Rattle.std.specs.declared.result.Result.TheVariants.{Ok, Err}
 use Rattle.log_model.specs.Log.{LogState}

@@ -1,5 +1,5 @@
 -- What a middle node makes of the next round.
-use Rattle.std.specs.Prelude.{ℕ, List, Option, Some, None, option_map}
+use Rattle.std.specs.Prelude.{List, Option, Some, None, option_map}
 use Rattle.applied_rounds.specs.declared.told.Told.{Told}
 use Rattle.applied_rounds.specs.Told.{tolds}
 use Rattle.exec_model.specs.declared.job.Job.{Job}

@@ -65,11 +65,7 @@ fn idle(member: Member, cause: Idle) -> Decided
 }
 
 /// What a work does with the next round, whose verdict isn't learned.
-fn next_job<S: Service>(
-    member: Member,
-    svc: &S,
-    up: &Working<Keeping>,
-) -> Result<Next, Memory>
+fn next_job<S: Service>(member: Member, svc: &S, up: &Working<Keeping>) -> Result<Next, Memory>
     requires member { IsMember member }
     requires range { IsInRange (programs_of (S.table svc.now) (S.beginning svc.now)) member up.now }
     ensures job { IfOk result (λ next. IfSome (job_next next) (IsNextRun (programs_of (S.table svc.now) (S.beginning svc.now)) member up.now)) }

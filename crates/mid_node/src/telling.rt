@@ -31,12 +31,7 @@ fn sender(member: Member) -> End
 }
 
 /// Tells a client its reply.
-pub fn send_reply(
-    member: Member,
-    who: ReqId,
-    text: &Bytes,
-    out: &mut Outbox,
-) -> Result<(), Memory>
+pub fn send_reply(member: Member, who: ReqId, text: &Bytes, out: &mut Outbox) -> Result<(), Memory>
     requires member { IsMember member }
     requires client { IsClient who.client }
     requires number { IsSeq who.seq }

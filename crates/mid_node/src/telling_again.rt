@@ -134,11 +134,7 @@ fn tell_held(member: Member, held: &Held, out: &mut Outbox) -> Result<(), Memory
 
 /// Tells again what may be lost: asks for the first open position; calls whose answers aren't held; the highest answers
 /// that are; and floors that were raised.
-pub fn tell_again(
-    member: Member,
-    up: &Working<Keeping>,
-    out: &mut Outbox,
-) -> Result<(), Memory>
+pub fn tell_again(member: Member, up: &Working<Keeping>, out: &mut Outbox) -> Result<(), Memory>
     requires member { IsMember member }
     requires range { (p : Programs) × IsInRange p member up.now }
     ensures sent { OnOk result (out.new ≡ out.old ++ all_sealed (retry member.faults member.me.index (mid_in member up.now)).sends) }

@@ -1,11 +1,10 @@
-use Rattle.std.proofs.Common.{ℕ, refl, sym, subst, ap, ◌∙◌}
+use Rattle.std.proofs.Common.{ℕ, refl, sym, ap, ◌∙◌}
 use Rattle.applied_rounds.specs.States.{programs_of}
 use Rattle.applied_rounds.specs.Told.{told_in, tolds}
 use Rattle.round_model.specs.Held.{held_code}
 use Rattle.round_model.specs.Numbered.{without}
 use Rattle.round_model.specs.Settling.{finish_of}
 use Rattle.round_model.specs.Tables.{wants}
-use Rattle.mid_node.specs.declared.keeping.Keeping.{Keeping}
 use Rattle.mid_node.proofs.NextRounds.{applied_is, batch_fits, kept_after, kept_same, unapplied, verdict_fits}
 use Rattle.mid_node.proofs.Services.{programs_in}
 use Rattle.mid_node.proofs.applying.settle_next.Goals as goal

@@ -1,4 +1,4 @@
-use Rattle.std.proofs.Common.{sym, ◌∙◌}
+use Rattle.std.proofs.Common.{◌∙◌}
 use Rattle.mid_node.proofs.Votes.{taken_faults, taken_none, taken_some}
 use Rattle.mid_node.proofs.own_votes.take_tally.Goals as goal
 

@@ -1,6 +1,5 @@
 use Rattle.std.proofs.Common.{◌++◌, refl, sym, subst, ap, ◌∙◌}
 use Rattle.std.specs.List.{AllByRecursion, flat_map}
-use Rattle.applied_rounds.specs.declared.told.Told.{Told}
 use Rattle.applied_rounds.specs.States.{programs_of}
 use Rattle.mid_node.specs.Deciding.{mid_in}
 use Rattle.mid_node.specs.Settlings.{told_by}

@@ -3,7 +3,7 @@ use Rattle.applied_rounds.specs.States.{programs_of}
 use Rattle.tier_model.specs.declared.turn.Turn.{Turn}
 use Rattle.tier_model.specs.MidRows.{with_own}
 use Rattle.mid_node.specs.Mids.{claims_by, steps_in}
-use Rattle.mid_node.proofs.RunMoves.{WasRun, commits, ran}
+use Rattle.mid_node.proofs.RunMoves.{commits, ran}
 use Rattle.mid_node.proofs.Services.{programs_in}
 use Rattle.mid_node.proofs.running.run_next.Goals as goal
 
