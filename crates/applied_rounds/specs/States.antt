@@ -1,5 +1,5 @@
 -- How far rounds are applied, what they came to, and the run of the next one.
-use Rattle.std.specs.Prelude.{◌≡◌, ℕ, suc, List, length, Option, Some, None, option_map}
+use Rattle.std.specs.Prelude.{◌≡◌, ℕ, suc, List, [], length, Option, Some, None, option_map, IfSome}
 use Rattle.aeg_base.specs.Store.{Store}
 use Rattle.svc_api.specs.declared.outcome.Outcome.{Outcome}
 use Rattle.exec_model.specs.declared.job.Seg.{Seg}
@@ -12,8 +12,10 @@ use Rattle.log_values.specs.Reading.{whole}
 use Rattle.round_model.specs.declared.claim.Claim.{Claim}
 use Rattle.round_model.specs.Service.{Programs, Table, Finish}
 use Rattle.round_model.specs.Tables.{Tables, Want, tables0, settled}
-use Rattle.batcher.specs.Clients.{ClientTable}
+use Rattle.batcher.specs.Clients.{ClientTable, Agrees}
 use Rattle.pipeline.specs.States.{RoundsState}
+use Rattle.pipeline.specs.Kept.{IsInRange}
+use Rattle.spec_barrier.specs.Barriers.{BarrierState, held_of}
 use Rattle.rollback.specs.Settled.{Settled}
 use Rattle.rollback.specs.declared.spec.Spec.{Spec}
 use Rattle.rollback.specs.Specs.{IsLeftBy}
@@ -64,6 +66,15 @@ claim_of spec = option_map (λ s. record { token = token_of s; order = (ran_of s
 pub record Stands (spec : Spec) (store : Holding) : Type 0 where
   pub left : IsLeftBy (ran_of spec) store
   pub each : length (ran_of spec).outcome.ends ≡ length (job_of spec).segs
+
+-- What is kept of the rounds: the clients' table is that of the requests that wait, nothing is held back, as many rounds are
+-- out as are applied, and a run stands in the store.
+pub record AreKept {T : Type 0} (store : Holding) (clients : ClientTable) (rounds : RoundsState) (run : Option Spec) (barrier : BarrierState T) : Type 0 where
+  pub clients_agree : Agrees clients (tables_of (start_of run store.map) clients rounds)
+  pub range : IsInRange rounds
+  pub out : barrier.applied ≡ rounds.next
+  pub nothing : (r : ℕ) → held_of barrier r ≡ []
+  pub run_stands : IfSome run (λ spec. Stands spec store)
 
 -- whatever the verdict makes of these segments from the store, it is this
 abbrev pub ComesTo : Beginnings → List Seg → Verdict → Store → Finish → Type 0

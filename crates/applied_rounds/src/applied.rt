@@ -57,10 +57,7 @@ pub struct Applied {
 }
 
 impl Model for Applied {
-    ghost use Rattle.std.specs.Prelude.{◌≡◌, ℕ, [], IfSome};
-    ghost use Rattle.batcher.specs.Clients.{Agrees};
-    ghost use Rattle.spec_barrier.specs.Barriers.{held_of};
-    ghost use Rattle.applied_rounds.specs.States.{AppliedState, Stands, claim_of, start_of, tables_of};
+    ghost use Rattle.applied_rounds.specs.States.{AppliedState, AreKept, claim_of, start_of, tables_of};
 
     ghost Value = { AppliedState };
 
@@ -70,9 +67,7 @@ impl Model for Applied {
       run = claim_of a.run;
     } };
 
-    ghost invariant = { λ a. Agrees a.clients (tables_of (start_of a.run a.store.map) a.clients a.rounds)
-        × ((a.barrier.applied ≡ a.rounds.next) × ((r : ℕ) → held_of a.barrier r ≡ []))
-        × IfSome a.run (λ run. Stands run a.store) };
+    ghost invariant = { λ a. AreKept a.store a.clients a.rounds a.run a.barrier };
 }
 
 impl Applied {
