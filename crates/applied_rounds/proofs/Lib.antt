@@ -1,2 +1,5 @@
 pub mod Waiting
 pub mod Begun
+pub mod Fresh
+pub mod Runs
+pub mod Ended
