@@ -3,3 +3,4 @@ pub mod Begun
 pub mod Fresh
 pub mod Runs
 pub mod Ended
+pub mod MovedOn

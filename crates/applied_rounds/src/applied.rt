@@ -28,7 +28,7 @@ ghost use Rattle.applied_rounds.specs.Told.{missing_in, told_in, tolds};
 use crate::clients_after::{end_all, replies_of};
 use crate::running::run;
 use crate::settling::settle;
-use crate::told::{Applying, Told, tell_all};
+use crate::told::{Applying, Told, let_out};
 use aeg_base::limits::{CLIENTS, ROUNDS};
 use aeg_base::{Bytes, CallNo, Memory, Round, Tier};
 use batcher::{Clients, Pending, fresh_entries_in, make_batch_in};
@@ -175,12 +175,15 @@ impl Applied {
         requires few { length job.segs ≤ 16 }
         requires store { IsStore self.old.tables.store }
         ensures steps { IfOk result (λ note. note ≡ record {
-            round = self.old.applied;
-            steps = (run_job (S.beginning svc.now) job.segs self.old.tables.store note.steps).steps;
-            order = (run_job (S.beginning svc.now) job.segs self.old.tables.store note.steps).order;
-            redo = (run_job (S.beginning svc.now) job.segs self.old.tables.store note.steps).redo }) }
-        ensures claim { IfOk result (λ note. self.new ≡ record self.old { run = Some (claim_by (programs_of (S.table svc.now) (S.beginning svc.now))
-            self.old.tables.store (run_job (S.beginning svc.now) job.segs self.old.tables.store note.steps)) }) }
+          round = self.old.applied;
+          steps = (run_job (S.beginning svc.now) job.segs self.old.tables.store note.steps).steps;
+          order = (run_job (S.beginning svc.now) job.segs self.old.tables.store note.steps).order;
+          redo = (run_job (S.beginning svc.now) job.segs self.old.tables.store note.steps).redo;
+        }) }
+        ensures claim { IfOk result (λ note. self.new ≡ record self.old {
+          run = Some (claim_by (programs_of (S.table svc.now) (S.beginning svc.now))
+              self.old.tables.store (run_job (S.beginning svc.now) job.segs self.old.tables.store note.steps));
+        }) }
         ensures by_given { IfOk result (λ note. UsesGiven (S.beginning svc.now) job.segs self.old.tables.store (X.given exec.old) note.steps) }
         ensures counted { OnOk result (X.runs exec.new ≡ one_more (X.runs exec.old)) }
         ensures noted { IfOk result (λ note. X.last exec.new ≡ Some (record { round = note.round; steps = note.steps })) }
@@ -224,11 +227,8 @@ impl Applied {
     {
         let replies = replies_of(self.alloc, ends)?;
         let calls = self.rounds.park(job, ends)?;
-        self.barrier.advance();
         end_all(&mut self.clients, job.segs.items(), replies);
-        let told = tell_all(self.alloc, job.segs.items(), ends, calls)?;
-        self.barrier.hold(job.round, told)?;
-        Ok(self.barrier.release(job.round))
+        let_out(self.alloc, &mut self.barrier, job, ends, calls)
     }
 
     /// Settles the next round by its verdict, with the job that the verdict is for.

@@ -74,10 +74,11 @@ pub fn run<S: Service, X: Exec<S>>(
     requires few { length job.segs ≤ 16 }
     requires store { IsStore store.old.map }
     ensures note { IfOk result (λ r. r.1 ≡ record {
-        round = job.round;
-        steps = (run_job (S.beginning svc.now) job.segs store.old.map r.1.steps).steps;
-        order = (run_job (S.beginning svc.now) job.segs store.old.map r.1.steps).order;
-        redo = (run_job (S.beginning svc.now) job.segs store.old.map r.1.steps).redo }) }
+      round = job.round;
+      steps = (run_job (S.beginning svc.now) job.segs store.old.map r.1.steps).steps;
+      order = (run_job (S.beginning svc.now) job.segs store.old.map r.1.steps).order;
+      redo = (run_job (S.beginning svc.now) job.segs store.old.map r.1.steps).redo;
+    }) }
     ensures claim { IfOk result (λ r. claim_of (Some r.0)
         ≡ Some (claim_by (programs_of (S.table svc.now) (S.beginning svc.now)) store.old.map (run_job (S.beginning svc.now) job.segs store.old.map r.1.steps))) }
     ensures stands { IfOk result (λ r. Stands r.0 store.new) }

@@ -1,14 +1,17 @@
 // What a round tells once it is applied.
-ghost use Rattle.std.specs.Prelude.{◌≡◌, ℕ, List, ◌∷◌, [], length, map, IfOk, OnOk};
+ghost use Rattle.std.specs.Prelude.{◌≡◌, ℕ, ◌+◌, ◌<◌, List, ◌∷◌, [], length, map, IfOk, OnOk};
+ghost use Rattle.aeg_base.specs.declared.limits.TheConstants.{ROUNDS};
 ghost use Rattle.svc_api.specs.declared.action.Ending.{Ending as End};
 ghost use Rattle.round_model.specs.Lists.{OfTiers};
 ghost use Rattle.round_model.specs.Tables.{Want, next_after, parks};
 ghost use Rattle.pipeline.specs.Jobs.{want_of};
 ghost use Rattle.pipeline.specs.States.{call_of};
+ghost use Rattle.spec_barrier.specs.Barriers.{held_of};
 ghost use Rattle.applied_rounds.specs.Told.{tolds};
 
 use aeg_base::{Bytes, CallNo, Memory, ReqId, Tier};
-use exec_model::Seg;
+use exec_model::{Job, Seg};
+use spec_barrier::Barrier;
 use std::alloc::Global;
 use std::collections::VecDeque;
 use svc_api::Ending;
@@ -73,4 +76,28 @@ pub fn tell_all(
         told.push(one)?;
     }
     Ok(told)
+}
+
+/// One more round is applied: what its segments tell by their ends passes the barrier.
+pub fn let_out(
+    alloc: Global,
+    barrier: &mut Barrier<Told>,
+    job: &Job,
+    ends: &[Ending],
+    calls: Vec<(Tier, CallNo, Bytes)>,
+) -> Result<Vec<Told>, Memory>
+    requires round { barrier.old.applied ≡ job.now.round }
+    requires rounds { barrier.old.applied < ROUNDS }
+    requires nothing { (r : ℕ) → held_of barrier.old r ≡ [] }
+    requires each { length ends.now ≡ length job.now.segs }
+    requires calls { (next : OfTiers ℕ) × (calls.items ≡ map call_of (parks next (map want_of job.now.segs) ends.now)) }
+    ensures told { (next : OfTiers ℕ) → calls.items ≡ map call_of (parks next (map want_of job.now.segs) ends.now)
+        → IfOk result (λ told. told.items ≡ tolds next (map want_of job.now.segs) ends.now) }
+    ensures applied { barrier.new.applied ≡ barrier.old.applied + 1 }
+    ensures nothing { (r : ℕ) → held_of barrier.new r ≡ [] }
+{
+    barrier.advance();
+    let told = tell_all(alloc, job.segs.items(), ends, calls)?;
+    barrier.hold(job.round, told)?;
+    Ok(barrier.release(job.round))
 }
