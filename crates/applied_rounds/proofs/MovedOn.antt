@@ -1,6 +1,6 @@
 -- What is kept once a round is moved on from.
-use Rattle.std.proofs.Common.{◌≡◌, ℕ, suc, ◌+◌, ◌<◌, List, [], ◌∷◌, ◌++◌, length, map, refl, sym, ap, ◌∙◌, subst, arith, Option, Some, None}
-use Rattle.std.specs.Prelude.{IfSome}
+use Rattle.std.proofs.Common.{◌≡◌, ℕ, suc, ◌+◌, ◌<◌, List, [], ◌∷◌, ◌++◌, length, map, refl, sym, ap, ◌∙◌, subst, arith, Option, Some, None, Result, Ok, Err}
+use Rattle.std.specs.Prelude.{IfSome, OnOk}
 use Rattle.std.specs.List.{All}
 use Rattle.aeg_base.specs.declared.names.Tier.{Tier}
 use Rattle.svc_api.specs.declared.action.Ending.{Ending}
@@ -26,6 +26,10 @@ use Rattle.applied_rounds.specs.Told.{tolds}
 use Rattle.applied_rounds.specs.declared.told.Told.{Told}
 use Rattle.applied_rounds.specs.declared.told.Told.TheVariants as says
 use Rattle.applied_rounds.proofs.Ended.{busy_ended, kept_ended, last_ended}
+
+pub on_ok : {X E : Type 0} (P : Type 0) (r : Result X E) → P → OnOk r P
+on_ok P (Ok x) p = p
+on_ok P (Err e) p = tt
 
 -- THE JOB
 
@@ -65,7 +69,7 @@ pub calls_now : (s : RoundsState) (fresh : List Entry) (job : Job) (es : List En
 calls_now s fresh job es calls n h = h ∙ ap (map call_of) (sym (parks_by s.numbers job.segs (next_wants s fresh) es n.segs))
 
 -- so is what they tell
-tolds_by : (next : OfTiers ℕ) (js : List Seg) (ws : List Want) (es : List Ending) → map unanswered js ≡ map asks_for ws
+pub tolds_by : (next : OfTiers ℕ) (js : List Seg) (ws : List Want) (es : List Ending) → map unanswered js ≡ map asks_for ws
     → tolds next (map want_of js) es ≡ tolds next ws es
 tolds_by next [] [] es h = refl
 tolds_by next [] (w ∷ ws) es h = absurd (cc)
@@ -78,10 +82,6 @@ tolds_by next (j ∷ js) (w ∷ ws) (ends.Reply text ∷ es) h =
 tolds_by next (j ∷ js) (w ∷ ws) (ends.Call t stage text ∷ es) h =
     let rest : map unanswered js ≡ map asks_for ws = cc in
     ap (λ z. says.Call t (of_tier next t) text ∷ z) (tolds_by (bump next t) js ws es rest)
-
-pub told_now : (s : RoundsState) (fresh : List Entry) (job : Job) (es : List Ending) (told : List Told)
-    → IsNextJob s fresh job → told ≡ tolds s.numbers (map want_of job.segs) es → told ≡ tolds s.numbers (next_wants s fresh) es
-told_now s fresh job es told n h = h ∙ tolds_by s.numbers job.segs (next_wants s fresh) es n.segs
 
 -- WHAT IS KEPT
 
