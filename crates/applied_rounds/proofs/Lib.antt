@@ -4,3 +4,5 @@ pub mod Fresh
 pub mod Runs
 pub mod Ended
 pub mod MovedOn
+pub mod Settles
+pub mod Found
