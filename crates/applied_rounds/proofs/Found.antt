@@ -1,6 +1,6 @@
 -- What a verdict's job and its answers tell, by what code found.
-use Rattle.std.proofs.Common.{◌≡◌, ℕ, true, false, List, length, refl, sym, ap, map, ◌∙◌, subst, Option, Some, None}
-use Rattle.std.specs.Prelude.{IfSome, IsTrue, option_map}
+use Rattle.std.proofs.Common.{◌≡◌, ℕ, true, false, List, length, refl, sym, ap, map, ◌∙◌, subst, Option, Some, None, Result, Ok, Err}
+use Rattle.std.specs.Prelude.{IfOk, IfSome, IsTrue, option_map}
 use Rattle.std.specs.List.{All}
 use Rattle.std.proofs.lemmas.Option.{same_Some}
 use Rattle.exec_model.specs.declared.job.Job.{Job}
@@ -16,7 +16,8 @@ use Rattle.round_model.specs.Settling.{finish_of}
 use Rattle.round_model.specs.Tables.{Codes, Tables, Want, fresh_entries, job_of, wants}
 use Rattle.pipeline.specs.States.{next_wants}
 use Rattle.pipeline.specs.Jobs.{IsNextJob, asks_for, in_round, is_serial, next_job}
-use Rattle.pipeline.specs.Answers.{job_settled}
+use Rattle.pipeline.specs.Answers.{job_in, job_settled}
+use Rattle.pipeline.specs.declared.rounds.JobState.{JobState}
 use Rattle.pipeline.specs.declared.rounds.Settled.{Settled}
 use Rattle.pipeline.specs.declared.rounds.Settled.TheVariants as settlings
 use Rattle.pipeline.proofs.Wants.{same_length}
@@ -93,3 +94,14 @@ module _ (m : Programs) (A : Codes) (a : ℕ) (T : Tables) (batch fresh : List E
   told_found said h =
       ap (λ z. Some z) (h ∙ ap (λ z. tolds T.next z finish_found.0.ends) wants_found)
       ∙ sym (ap (option_map (λ (o : Finish). tolds T.next (wants m T batch) o.ends)) finish_found.1)
+
+-- so do those of a job that can run
+pub jobs_begin : {E : Type 0} (m : Programs) (depth a : ℕ) (T : Tables) (batch fresh : List Entry) (r : Result JobState E) → Agrees m
+    → AreTablesIn m depth a T → Every FitsEntry batch → fresh ≡ fresh_entries m T batch
+    → IfOk r (λ x. IfSome (job_in x) (λ job. IsNextJob (rounds_in a T) fresh job)) → IfOk r (λ x. IfSome (job_in x) (λ job. All (BeginsWell m.begins) job.segs))
+jobs_begin m depth a T batch fresh (Err e) folds k fit is h = tt
+jobs_begin m depth a T batch fresh (Ok x) folds k fit is h = by (job_in x) h
+  where
+    by : (o : Option Job) → IfSome o (λ job. IsNextJob (rounds_in a T) fresh job) → IfSome o (λ job. All (BeginsWell m.begins) job.segs)
+    by None n = tt
+    by (Some job) n = next_begins m depth a T batch fresh job folds k fit is n
