@@ -1,5 +1,5 @@
 -- The clients' table after a round is that of the tables.
-use Rattle.std.proofs.Common.{◌≡◌, ◌⊎◌, inl, inr, ℕ, zero, suc, ◌+◌, ◌<◌, ◌≤◌, ◌==◌, Bool, true, false, cond, List, [], ◌∷◌, ◌++◌, length, map}
+use Rattle.std.proofs.Common.{◌≡◌, ℕ, zero, suc, ◌≤◌, ◌==◌, Bool, true, false, cond, List, [], ◌∷◌, ◌++◌, length, map}
 use Rattle.std.proofs.Common.{refl, sym, ap, ◌∙◌, subst, arith, Option, Some, None}
 use Rattle.std.specs.Prelude.{◌||◌}
 use Rattle.std.proofs.lemmas.Bool.Decides.{nat_tests}
@@ -12,12 +12,11 @@ use Rattle.log_values.specs.declared.entry.Entry.{Entry}
 use Rattle.round_model.specs.Lists.{at, put_at, concat, head_of, tail_of, is_some, OfTiers, of_tier}
 use Rattle.round_model.specs.Service.{times}
 use Rattle.round_model.specs.Tables.{Parked, Want, bump, kept_after, kept_by, last_after, parked_of, parks, resumed, started}
-use Rattle.batcher.specs.Clients.{ClientTable, busy_of, starts, replies}
+use Rattle.batcher.specs.Clients.{ClientTable, busy_of}
 use Rattle.pipeline.specs.States.{RoundsState, next_wants}
 use Rattle.pipeline.specs.Kept.{IsInRange, owner}
-use Rattle.pipeline.specs.Jobs.{AreFresh, asks_for, client_of, unanswered}
-use Rattle.pipeline.proofs.Clients.{times-append}
-use Rattle.pipeline.proofs.Wants.{concat-head, concat-push, one_each, owners, wanter}
+use Rattle.pipeline.specs.Jobs.{AreFresh, asks_for, unanswered}
+use Rattle.pipeline.proofs.Wants.{concat-head, concat-push, one_each, wanter}
 use Rattle.applied_rounds.specs.ClientsAfter.{all_ended, ended}
 
 -- PLACES

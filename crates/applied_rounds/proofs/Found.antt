@@ -10,7 +10,7 @@ use Rattle.log_values.specs.declared.entry.Entry.{Entry}
 use Rattle.log_values.specs.declared.mid_value.Verdict.{Verdict}
 use Rattle.log_values.specs.declared.mid_value.Verdict.TheVariants.{Serial}
 use Rattle.log_values.specs.Values.{FitsEntry}
-use Rattle.round_model.specs.Lists.{and_then, is_some}
+use Rattle.round_model.specs.Lists.{is_some}
 use Rattle.round_model.specs.Service.{Programs, Service, Finish}
 use Rattle.round_model.specs.Settling.{finish_of}
 use Rattle.round_model.specs.Tables.{Codes, Tables, Want, fresh_entries, job_of, wants}
@@ -57,7 +57,6 @@ some_finish x job (Some o) e h = (o, refl)
 
 module _ (m : Programs) (A : Codes) (a : ℕ) (T : Tables) (batch fresh : List Entry) (v : Verdict) (x : Settled) (job : Job)
     (k : Found m A a T batch fresh v x job) where
-
   wants_found : next_wants (rounds_in a T) fresh ≡ wants m T batch
   wants_found = ap (next_wants (rounds_in a T)) k.fresh_are
 

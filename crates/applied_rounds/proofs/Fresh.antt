@@ -1,8 +1,8 @@
 -- The fresh entries of a batch, as code finds them.
-use Rattle.std.proofs.Common.{◌≡◌, ℕ, List, refl, sym, ap, ◌∙◌, subst}
+use Rattle.std.proofs.Common.{◌≡◌, List, sym, ap, ◌∙◌, subst}
 use Rattle.log_values.specs.declared.entry.Entry.{Entry}
 use Rattle.round_model.specs.Service.{Programs}
-use Rattle.round_model.specs.Tables.{Tables, Want, fresh_entries, wants}
+use Rattle.round_model.specs.Tables.{Tables, fresh_entries, wants}
 use Rattle.pipeline.specs.States.{RoundsState, next_wants}
 use Rattle.pipeline.specs.Jobs.{AreFresh}
 use Rattle.pipeline.proofs.Entered.{fresh_ones}

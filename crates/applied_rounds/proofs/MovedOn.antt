@@ -1,5 +1,5 @@
 -- What is kept once a round is moved on from.
-use Rattle.std.proofs.Common.{◌≡◌, ℕ, suc, ◌+◌, ◌<◌, List, [], ◌∷◌, ◌++◌, length, map, refl, sym, ap, ◌∙◌, subst, arith, Option, Some, None, Result, Ok, Err}
+use Rattle.std.proofs.Common.{◌≡◌, ℕ, suc, ◌+◌, ◌<◌, List, [], ◌∷◌, length, map, refl, sym, ap, ◌∙◌, subst, arith, Option, Some, None, Result, Ok, Err}
 use Rattle.std.specs.Prelude.{IfSome, OnOk}
 use Rattle.std.specs.List.{All}
 use Rattle.aeg_base.specs.declared.names.Tier.{Tier}
@@ -23,7 +23,6 @@ use Rattle.row_laws.specs.Mids.{rounds_in}
 use Rattle.applied_rounds.specs.ClientsAfter.{all_ended}
 use Rattle.applied_rounds.specs.States.{AppliedState, AreKept, Stands, after_round, claim_of, start_of, tables_of}
 use Rattle.applied_rounds.specs.Told.{tolds}
-use Rattle.applied_rounds.specs.declared.told.Told.{Told}
 use Rattle.applied_rounds.specs.declared.told.Told.TheVariants as says
 use Rattle.applied_rounds.proofs.Ended.{busy_ended, kept_ended, last_ended}
 

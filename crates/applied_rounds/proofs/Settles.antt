@@ -1,9 +1,9 @@
 -- What a verdict makes of a job is what the tables' round comes to.
-use Rattle.std.proofs.Common.{◌≡◌, ℕ, suc, Bool, true, false, ◌&&◌, cond, List, [], ◌∷◌, length, map, refl, sym, ap, ◌∙◌, subst, Option, Some, None, unwrap_or}
+use Rattle.std.proofs.Common.{◌≡◌, ℕ, suc, Bool, true, false, cond, List, [], ◌∷◌, length, refl, sym, ap, ◌∙◌, Some, None, unwrap_or}
 use Rattle.std.proofs.lemmas.Bool.{and_parts}
 use Rattle.std.proofs.lemmas.List.{length-map}
 use Rattle.std.proofs.lemmas.Option.{same_Some}
-use Rattle.aeg_base.specs.Store.{Store, written_all}
+use Rattle.aeg_base.specs.Store.{Store}
 use Rattle.svc_api.specs.declared.action.Ending.{Ending}
 use Rattle.svc_api.specs.declared.outcome.Outcome.{Outcome}
 use Rattle.exec_model.specs.declared.job.Seg.{Seg}
@@ -11,11 +11,10 @@ use Rattle.exec_model.specs.Jobs.{Beginnings, below, plan_at, said_nothing, seri
 use Rattle.exec_model.specs.Serial as plans
 use Rattle.log_values.specs.declared.mid_value.Verdict.{Verdict}
 use Rattle.log_values.specs.declared.mid_value.Verdict.TheVariants.{Commit, Serial}
-use Rattle.round_model.specs.Lists.{and_then, is_some, tabulate}
-use Rattle.round_model.specs.Service.{Programs, Finish, finish, finish_by, serial, serial_end}
+use Rattle.round_model.specs.Service.{Programs, Finish, finish, finish_by, serial_end}
 use Rattle.round_model.specs.Settling.{fit, finish_of, fits}
 use Rattle.round_model.specs.Tables.{Codes, Tables, Want, job_of}
-use Rattle.rollback.specs.Settled.{IsReadable, Settled, serial_outcome, told}
+use Rattle.rollback.specs.Settled.{IsReadable, Settled, told}
 use Rattle.rollback.proofs.Fits.{length_below}
 use Rattle.tier_laws.proofs.Rounds.StableRounds.{then_parts}
 use Rattle.tier_laws.proofs.Services.Serial.{Agrees, end_is, map-below, serial_is, tabulate-same}

@@ -1,11 +1,11 @@
 -- Whether a request waits is told by the clients' table.
-use Rattle.std.proofs.Common.{◌≡◌, ℕ, suc, ◌<◌, ◌≤◌, ◌==◌, Bool, true, false, zero, List, [], ◌∷◌, refl, sym, ap, ◌∙◌, arith, Option, Some, None, cond, subst}
+use Rattle.std.proofs.Common.{◌≡◌, ℕ, suc, ◌<◌, true, false, zero, List, [], ◌∷◌, refl, sym, ◌∙◌, arith, subst}
 use Rattle.std.specs.Prelude.{not}
 use Rattle.std.specs.List.{All}
 use Rattle.std.proofs.lemmas.List.Elements.{All-head}
 use Rattle.std.proofs.lemmas.Bool.Decides.{nat_tests}
 use Rattle.round_model.specs.Lists.{concat, is_nil, is_some}
-use Rattle.round_model.specs.Tables.{Parked, Tables, parked_of, is_busy}
+use Rattle.round_model.specs.Tables.{Parked, Tables, parked_of}
 use Rattle.batcher.specs.Clients.{ClientTable, Agrees, busy_of}
 use Rattle.pipeline.specs.States.{RoundsState}
 use Rattle.pipeline.specs.Kept.{IsInRange, IsWaiting}

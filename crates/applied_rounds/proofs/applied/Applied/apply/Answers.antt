@@ -1,6 +1,6 @@
 use Rattle.std.proofs.Common.{refl, ◌∙◌, subst}
 use Rattle.round_model.specs.Held.{held_code}
-use Rattle.applied_rounds.specs.States.{AppliedState, claim_of, programs_of, start_of, tables_of}
+use Rattle.applied_rounds.specs.States.{AppliedState, programs_of, start_of, tables_of}
 use Rattle.applied_rounds.proofs.Fresh.{seen_fresh}
 use Rattle.applied_rounds.proofs.Found.{Found, comes_found, next_begins, next_found, finish_found, reads_found, state_found, told_found}
 use Rattle.applied_rounds.proofs.applied.Applied.apply.Goals as goal

@@ -14,9 +14,10 @@ end_all-requires-clause-asked c =
 
 pub let_out-requires-clause-calls : goal.let_out-requires-clause-calls
 let_out-requires-clause-calls c =
-    let n = next_inside _ c.args.self.now c.requires.next.0 c.args.job.now c.self.view_is c.requires.next.1 in
-    (c.self.inside.rounds.numbers,
-    calls_now c.self.inside.rounds c.requires.next.0 c.args.job.now c.args.ends.now c.in_ok-calls.calls.items n (c.in_ok-calls.ensures.calls c.requires.next.0 n))
+    let n = next_inside _ c.args.self.now c.requires.next.0 c.args.job.now c.self.view_is c.requires.next.1 in (
+      c.self.inside.rounds.numbers,
+      calls_now c.self.inside.rounds c.requires.next.0 c.args.job.now c.args.ends.now c.in_ok-calls.calls.items n (c.in_ok-calls.ensures.calls c.requires.next.0 n),
+    )
 
 pub invariant_of-self-2 : goal.invariant_of-self-2
 invariant_of-self-2 c =
