@@ -203,7 +203,8 @@ busy_ended t s fresh js es c range f h n was = by (asked c ws) refl
     tail : List Parked
     tail = concat (tail_of s.queue)
 
-    split : is_some (parked_of c (concat (tail_of s.queue ++ parks s.numbers ws es ∷ []))) ≡ (is_some (parked_of c tail) || is_some (parked_of c (parks s.numbers ws es)))
+    split : is_some (parked_of c (concat (tail_of s.queue ++ parks s.numbers ws es ∷ [])))
+        ≡ (is_some (parked_of c tail) || is_some (parked_of c (parks s.numbers ws es)))
     split = ap (λ z. is_some (parked_of c z)) (concat-push (tail_of s.queue) (parks s.numbers ws es)) ∙ either c tail (parks s.numbers ws es)
 
     before : is_some (parked_of c (concat s.queue)) ≡ (is_some (parked_of c (head_of s.queue)) || is_some (parked_of c tail))

@@ -55,7 +55,7 @@ some_finish : (x : Settled) (job : Job) (f : Option Finish) → x ≡ settlings.
 some_finish x job None e h = let no : true ≡ false = sym (ap (λ z. is_some (job_settled z)) e) ∙ h in absurd (cc)
 some_finish x job (Some o) e h = (o, refl)
 
-module _ (m : Programs) (A : Codes) (a : ℕ) (T : Tables) (batch fresh : List Entry) (v : Verdict) (x : Settled) (job : Job)
+module _ {m : Programs} {A : Codes} {a : ℕ} {T : Tables} {batch fresh : List Entry} {v : Verdict} {x : Settled} {job : Job}
     (k : Found m A a T batch fresh v x job) where
   wants_found : next_wants (rounds_in a T) fresh ≡ wants m T batch
   wants_found = ap (next_wants (rounds_in a T)) k.fresh_are

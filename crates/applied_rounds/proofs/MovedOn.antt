@@ -1,5 +1,5 @@
 -- What is kept once a round is moved on from.
-use Rattle.std.proofs.Common.{◌≡◌, ℕ, suc, ◌+◌, ◌<◌, List, [], ◌∷◌, length, map, refl, sym, ap, ◌∙◌, subst, arith, Option, Some, None, Result, Ok, Err}
+use Rattle.std.proofs.Common.{◌≡◌, ℕ, suc, ◌+◌, ◌<◌, ◌++◌, drop, List, [], ◌∷◌, length, map, refl, sym, ap, ◌∙◌, subst, arith, Option, Some, None, Result, Ok, Err}
 use Rattle.std.specs.Prelude.{IfSome, OnOk}
 use Rattle.std.specs.List.{All}
 use Rattle.aeg_base.specs.declared.names.Tier.{Tier}
@@ -10,11 +10,12 @@ use Rattle.exec_model.specs.declared.job.Job.{Job}
 use Rattle.kv_store.specs.Stores.{Holding}
 use Rattle.log_values.specs.declared.entry.Entry.{Entry}
 use Rattle.round_model.specs.Lists.{OfTiers, concat, is_some, of_tier}
-use Rattle.round_model.specs.Tables.{Want, bump, kept_after, kept_by, last_after, parked_of, parks}
+use Rattle.round_model.specs.Tables.{Parked, Want, bump, kept_after, kept_by, last_after, next_after, parked_of, parks}
 use Rattle.batcher.specs.Clients.{ClientTable, busy_of}
 use Rattle.pipeline.specs.States.{RoundsState, call_of, moved_on, next_wants}
 use Rattle.pipeline.specs.Kept.{IsInRange}
 use Rattle.pipeline.specs.Jobs.{IsAsked, IsNextJob, asks_for, unanswered, want_of}
+use Rattle.pipeline.proofs.Fields.{Fields, parked_are}
 use Rattle.pipeline.proofs.Moves.{moved_in_range}
 use Rattle.pipeline.proofs.Wants.{asked_segs, same_length}
 use Rattle.spec_barrier.specs.Barriers.{BarrierState, held_of}
@@ -41,31 +42,26 @@ pub asked_now : (s : RoundsState) (fresh : List Entry) (job : Job) (segs : List 
 asked_now s fresh job segs range n e = subst (All IsAsked) (sym e) (asked_segs s fresh job.segs range n.fresh_ones n.segs)
 
 -- a job parks what is wanted
-parks_by : (next : OfTiers ℕ) (js : List Seg) (ws : List Want) (es : List Ending) → map unanswered js ≡ map asks_for ws
-    → parks next (map want_of js) es ≡ parks next ws es
-parks_by next [] [] es h = refl
-parks_by next [] (w ∷ ws) es h = absurd (cc)
-parks_by next (j ∷ js) [] es h = absurd (cc)
-parks_by next (j ∷ js) (w ∷ ws) [] h = refl
-parks_by next (j ∷ js) (w ∷ ws) (ends.Reply text ∷ es) h =
-    let rest : map unanswered js ≡ map asks_for ws = cc in parks_by next js ws es rest
-parks_by next (j ∷ js) (w ∷ ws) (ends.Call t stage text ∷ es) h =
-    let one : unanswered j ≡ asks_for w = cc in
-    let rest : map unanswered js ≡ map asks_for ws = cc in
-    λ i. record {
-      client = (one i).who.client;
-      seq = (one i).who.seq;
-      body = (one i).body;
-      stage = stage;
-      tier = t;
-      num = of_tier next t;
-      text = text;
-    } ∷ parks_by (bump next t) js ws es rest i
+parks_now : (s : RoundsState) (fresh : List Entry) (job : Job) (es : List Ending) → IsInRange s → IsNextJob s fresh job
+    → parks s.numbers (map want_of job.segs) es ≡ parks s.numbers (next_wants s fresh) es
+parks_now s fresh job es range n =
+    let new : List Parked = parks s.numbers (map want_of job.segs) es in
+    let all : Fields = record {
+      before = s;
+      segs = job.segs;
+      ends = es;
+      new = new;
+      pushed = s.queue ++ new ∷ [];
+      popped = drop 1 (s.queue ++ new ∷ []);
+      numbers = next_after s.numbers es;
+    } in
+    parked_are s fresh job all (record { same = refl; kept = range; segs = refl; new = refl; numbers = refl; pushed = refl; popped = refl }) n
 
 -- so its calls are those of what is wanted
 pub calls_now : (s : RoundsState) (fresh : List Entry) (job : Job) (es : List Ending) (calls : List (Tier × ℕ × List ℕ))
-    → IsNextJob s fresh job → calls ≡ map call_of (parks s.numbers (next_wants s fresh) es) → calls ≡ map call_of (parks s.numbers (map want_of job.segs) es)
-calls_now s fresh job es calls n h = h ∙ ap (map call_of) (sym (parks_by s.numbers job.segs (next_wants s fresh) es n.segs))
+    → IsInRange s → IsNextJob s fresh job → calls ≡ map call_of (parks s.numbers (next_wants s fresh) es)
+    → calls ≡ map call_of (parks s.numbers (map want_of job.segs) es)
+calls_now s fresh job es calls range n h = h ∙ ap (map call_of) (sym (parks_now s fresh job es range n))
 
 -- so is what they tell
 pub tolds_by : (next : OfTiers ℕ) (js : List Seg) (ws : List Want) (es : List Ending) → map unanswered js ≡ map asks_for ws

@@ -25,7 +25,8 @@ busy_waits t T c k low b = some_wait (suc c) (concat T.queue) (k.busy (suc c) (o
 first_busy : (p : Parked) (ps : List Parked) → is_some (parked_of p.client (p ∷ ps)) ≡ true
 first_busy p ps = grind (arith, nat_tests)
 
-none_wait : (T : Tables) (t : ClientTable) (ps : List Parked) → All IsWaiting ps → ((k : ℕ) → k < 16 → is_some (parked_of (suc k) ps) ≡ false) → not (is_nil ps) ≡ false
+none_wait : (T : Tables) (t : ClientTable) (ps : List Parked) → All IsWaiting ps
+    → ((k : ℕ) → k < 16 → is_some (parked_of (suc k) ps) ≡ false) → not (is_nil ps) ≡ false
 none_wait T t [] a h = refl
 none_wait T t (p ∷ ps) a h = here p.client refl
   where

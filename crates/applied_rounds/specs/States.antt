@@ -21,7 +21,8 @@ use Rattle.rollback.specs.declared.spec.Spec.{Spec}
 use Rattle.rollback.specs.Specs.{IsLeftBy}
 use Rattle.rollback.specs.Views.{job_of, ran_of, token_of}
 
--- how many rounds are applied, the tables that they came to, and what the node claims of the next round, where it ran it
+-- how many rounds are applied, the tables that they came to, and what the node claims of the next round, where it ran
+-- it
 pub record AppliedState : Type 0 where
   pub applied : ℕ
   pub tables : Tables
@@ -67,8 +68,8 @@ pub record Stands (spec : Spec) (store : Holding) : Type 0 where
   pub left : IsLeftBy (ran_of spec) store
   pub each : length (ran_of spec).outcome.ends ≡ length (job_of spec).segs
 
--- What is kept of the rounds: the clients' table is that of the requests that wait, nothing is held back, as many rounds are
--- out as are applied, and a run stands in the store.
+-- What is kept of the rounds: the clients' table is that of the requests that wait, nothing is held back, as many
+-- rounds are out as are applied, and a run stands in the store.
 pub record AreKept {T : Type 0} (store : Holding) (clients : ClientTable) (rounds : RoundsState) (run : Option Spec) (barrier : BarrierState T) : Type 0 where
   pub clients_agree : Agrees clients (tables_of (start_of run store.map) clients rounds)
   pub range : IsInRange rounds

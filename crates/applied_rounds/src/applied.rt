@@ -44,8 +44,9 @@ use std::marker::Model;
 use svc_api::{Ending, Service};
 use tier_model::RunNote;
 
-/// The store, the clients' table and the requests that wait, as the rounds that are applied left them; the run of the next
-/// round, where it was run: the store holds its writes then. What a round tells passes the barrier once it is applied.
+/// The store, the clients' table and the requests that wait, as the rounds that are applied left them; the run of the
+/// next round, where it was run: the store holds its writes then. What a round tells passes the barrier once it is
+/// applied.
 #[derive(Drop)]
 pub struct Applied {
     alloc: Global,
@@ -255,8 +256,8 @@ impl Applied {
         self.move_on(job, outcome.ends.items())
     }
 
-    /// Applies the verdict of the next round, where it can be. A run with a Commit's token is kept, any other is undone. A
-    /// Serial lacks an answer that isn't held, a Commit may not fit: nothing is changed then.
+    /// Applies the verdict of the next round, where it can be. A run with a Commit's token is kept, any other is undone.
+    /// A Serial lacks an answer that isn't held, a Commit may not fit: nothing is changed then.
     pub fn apply<S: Service>(
         &mut self,
         svc: &S,

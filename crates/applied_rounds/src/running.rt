@@ -80,7 +80,8 @@ pub fn run<S: Service, X: Exec<S>>(
       redo = (run_job (S.beginning svc.now) job.segs store.old.map r.1.steps).redo;
     }) }
     ensures claim { IfOk result (λ r. claim_of (Some r.0)
-        ≡ Some (claim_by (programs_of (S.table svc.now) (S.beginning svc.now)) store.old.map (run_job (S.beginning svc.now) job.segs store.old.map r.1.steps))) }
+        ≡ Some (claim_by (programs_of (S.table svc.now) (S.beginning svc.now)) store.old.map
+        (run_job (S.beginning svc.now) job.segs store.old.map r.1.steps))) }
     ensures stands { IfOk result (λ r. Stands r.0 store.new) }
     ensures start { IfOk result (λ r. unwound (ran_of r.0).undo.entries store.new.map ≡ store.old.map) }
     ensures by_given { IfOk result (λ r. UsesGiven (S.beginning svc.now) job.segs store.old.map (X.given exec.old) r.1.steps) }

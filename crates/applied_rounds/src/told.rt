@@ -23,7 +23,8 @@ pub enum Told {
     Call { tier: Tier, no: CallNo, text: Bytes },
 }
 
-/// What a verdict made of the next round: what it tells, or the call whose answer isn't held, or a token that doesn't fit.
+/// What a verdict made of the next round: what it tells, or the call whose answer isn't held, or that a token doesn't
+/// fit.
 #[derive(Debug, Drop)]
 pub enum Applying {
     Applied(Vec<Told>),

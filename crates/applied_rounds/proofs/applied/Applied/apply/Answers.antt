@@ -31,7 +31,7 @@ settle-requires-clause-reads g c =
       serial = c.in_ok-tier.ensures.serial;
       is = c.in-Ready.is;
     }) in
-    reads_found m A now.applied now.tables c.args.batch.now c.deref.result.now c.args.verdict.now c.in_ok-tier.field-0 c.in-Ready.job found refl
+    reads_found found refl
 
 pub settle-requires-clause-begins : goal.settle-requires-clause-begins
 settle-requires-clause-begins g c =
@@ -51,7 +51,7 @@ settle-requires-clause-begins g c =
     }) in
     λ serial. next_begins m c.requires.tables.0 now.applied now.tables c.args.batch.now c.deref.result.now c.in-Ready.job
     (λ who body stage. g.met.S.Service.folds c.args.svc.now who body stage) c.requires.tables.1 c.requires.batch found.fresh_are
-    (next_found m A now.applied now.tables c.args.batch.now c.deref.result.now c.args.verdict.now c.in_ok-tier.field-0 c.in-Ready.job found)
+    (next_found found)
 
 pub returns-clause-state : goal.returns-clause-state
 returns-clause-state g c =
@@ -69,10 +69,9 @@ returns-clause-state g c =
       serial = c.in_ok-tier.ensures.serial;
       is = c.in-Ready.is;
     }) in
-    state_found m A now.applied now.tables c.args.batch.now c.deref.result.now c.args.verdict.now c.in_ok-tier.field-0 c.in-Ready.job found
-    now c.settle.new.self (c.in_ok-told-in-Ready.ensures.state c.deref.result.now (finish_found m A now.applied now.tables c.args.batch.now c.deref.result.now c.args.verdict.now c.in_ok-tier.field-0 c.in-Ready.job found).0
-    (next_found m A now.applied now.tables c.args.batch.now c.deref.result.now c.args.verdict.now c.in_ok-tier.field-0 c.in-Ready.job found)
-    (comes_found m A now.applied now.tables c.args.batch.now c.deref.result.now c.args.verdict.now c.in_ok-tier.field-0 c.in-Ready.job found (λ who body stage. g.met.S.Service.folds c.args.svc.now who body stage) refl))
+    state_found found now c.settle.new.self
+    (c.in_ok-told-in-Ready.ensures.state c.deref.result.now (finish_found found).0 (next_found found)
+    (comes_found found (λ who body stage. g.met.S.Service.folds c.args.svc.now who body stage) refl))
 
 pub returns-clause-told : goal.returns-clause-told
 returns-clause-told g c =
@@ -90,7 +89,6 @@ returns-clause-told g c =
       serial = c.in_ok-tier.ensures.serial;
       is = c.in-Ready.is;
     }) in
-    told_found m A now.applied now.tables c.args.batch.now c.deref.result.now c.args.verdict.now c.in_ok-tier.field-0 c.in-Ready.job found
-    c.in_ok-told-in-Ready.told.items (c.in_ok-told-in-Ready.ensures.told c.deref.result.now (finish_found m A now.applied now.tables c.args.batch.now c.deref.result.now c.args.verdict.now c.in_ok-tier.field-0 c.in-Ready.job found).0
-    (next_found m A now.applied now.tables c.args.batch.now c.deref.result.now c.args.verdict.now c.in_ok-tier.field-0 c.in-Ready.job found)
-    (comes_found m A now.applied now.tables c.args.batch.now c.deref.result.now c.args.verdict.now c.in_ok-tier.field-0 c.in-Ready.job found (λ who body stage. g.met.S.Service.folds c.args.svc.now who body stage) refl))
+    told_found found c.in_ok-told-in-Ready.told.items
+    (c.in_ok-told-in-Ready.ensures.told c.deref.result.now (finish_found found).0 (next_found found)
+    (comes_found found (λ who body stage. g.met.S.Service.folds c.args.svc.now who body stage) refl))

@@ -16,7 +16,8 @@ pub let_out-requires-clause-calls : goal.let_out-requires-clause-calls
 let_out-requires-clause-calls c =
     let n = next_inside _ c.args.self.now c.requires.next.0 c.args.job.now c.self.view_is c.requires.next.1 in (
       c.self.inside.rounds.numbers,
-      calls_now c.self.inside.rounds c.requires.next.0 c.args.job.now c.args.ends.now c.in_ok-calls.calls.items n (c.in_ok-calls.ensures.calls c.requires.next.0 n),
+      calls_now c.self.inside.rounds c.requires.next.0 c.args.job.now c.args.ends.now c.in_ok-calls.calls.items c.self.invariant.range
+          n (c.in_ok-calls.ensures.calls c.requires.next.0 n),
     )
 
 pub invariant_of-self-2 : goal.invariant_of-self-2
@@ -59,4 +60,4 @@ returns-clause-told c = λ fresh k.
     (tolds_by c.self.inside.rounds.numbers c.args.job.now.segs (next_wants c.self.inside.rounds fresh) c.args.ends.now n.segs
     ∙ ap (λ (z : AppliedState). tolds z.tables.next (next_wants (rounds_in z.applied z.tables) fresh) c.args.ends.now) c.self.view_is)
     (c.let_out.ensures.told c.self.inside.rounds.numbers
-    (calls_now c.self.inside.rounds fresh c.args.job.now c.args.ends.now c.in_ok-calls.calls.items n (c.in_ok-calls.ensures.calls fresh n)))
+    (calls_now c.self.inside.rounds fresh c.args.job.now c.args.ends.now c.in_ok-calls.calls.items c.self.invariant.range n (c.in_ok-calls.ensures.calls fresh n)))
