@@ -1,0 +1,5 @@
+pub mod Mids
+pub mod Deciding
+pub mod Settlings
+pub mod Telling
+pub mod Running
