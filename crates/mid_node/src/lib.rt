@@ -2,13 +2,13 @@
 //! tokens and answers.
 #![tactic(auto)]
 
-mod applying;
-mod keeping;
-mod own_votes;
-mod restoring;
-mod rounds_learned;
-mod running;
-mod telling;
-mod telling_again;
+mod answers;
+mod frames_in;
+mod node_of;
+mod offering;
+mod own_values;
+mod requests;
+mod tokens;
+mod turns;
 
-pub use keeping::Keeping;
+pub use node_of::{MidNode, NodeOf};
