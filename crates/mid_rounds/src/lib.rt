@@ -9,7 +9,7 @@ mod rounds_learned;
 mod running;
 mod telling;
 mod telling_again;
-mod votes;
+mod voting;
 
 pub use applying::{Settling, settle_next};
 pub use keeping::Keeping;
@@ -18,4 +18,4 @@ pub use rounds_learned::verdict_at;
 pub use running::{work, work_idle};
 pub use telling::{send_haves, send_reply, tell};
 pub use telling_again::tell_again;
-pub use votes::add_vote;
+pub use voting::add_vote;

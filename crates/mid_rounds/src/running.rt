@@ -13,7 +13,7 @@ ghost use Rattle.mid_rounds.specs.Running.{IsNextRun, note_in, runs_by, steps_of
 
 use crate::applying::{Settling, settle_next};
 use crate::keeping::Keeping;
-use crate::votes::add_vote;
+use crate::voting::add_vote;
 use crate::rounds_learned::{batch_at, verdict_at};
 use crate::telling::{send_token, tell};
 use aeg_base::{Memory, Seq};

@@ -1,6 +1,6 @@
 use Rattle.std.proofs.Common.{◌∙◌}
 use Rattle.mid_rounds.proofs.Votes.{taken_faults, taken_none, taken_some}
-use Rattle.mid_rounds.proofs.votes.take_tally.Goals as goal
+use Rattle.mid_rounds.proofs.voting.take_tally.Goals as goal
 
 pub returns-in-Some-clause-claims : goal.returns-in-Some-clause-claims
 returns-in-Some-clause-claims c = taken_some c.args.tallies.now c.args.no c.in-Some.tally c.in-Some.ensures.value

@@ -5,7 +5,7 @@ use Rattle.round_model.specs.Verdicts.{Vote}
 use Rattle.tier_model.specs.MidRows.{is_in, with_own}
 use Rattle.mid_rounds.specs.Mids.{claims_by}
 use Rattle.mid_rounds.proofs.Votes.{joins_unless_in, own_joins, put_faults}
-use Rattle.mid_rounds.proofs.votes.add_vote.Goals as goal
+use Rattle.mid_rounds.proofs.voting.add_vote.Goals as goal
 
 pub returns-clause-votes : goal.returns-clause-votes
 returns-clause-votes c =
