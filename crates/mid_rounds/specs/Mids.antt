@@ -12,7 +12,6 @@ use Rattle.tier_model.specs.declared.turn.Turn.{Turn}
 use Rattle.tier_model.specs.declared.turn.Turn.TheVariants.{Did, Ran, Dropped, Idle}
 use Rattle.tier_model.specs.Mid.{Mid}
 use Rattle.node_log.specs.LogNodes.{Standing}
-use Rattle.node_log.specs.Views.{View}
 use Rattle.mid_rounds.specs.declared.keeping.Keeping.{Keeping}
 
 -- the claims of the rounds to come, by round
@@ -38,12 +37,6 @@ mid_with x log keeping = record {
 -- what a node has while it is up
 abbrev pub mid_of : ℕ → Standing Keeping → Mid
 mid_of x standing = mid_with x standing.log standing.rest
-
--- A node with its service, and the depth of its pipeline.
-pub record Seen (S : Type 0) : Type 0 where
-  pub node : View Mid
-  pub depth : ℕ
-  pub service : S
 
 -- the steps of a run that was told of
 abbrev pub steps_in : Result Turn Fault → List ℕ
