@@ -46,7 +46,7 @@ pub struct NodeOf<S> {
 /// A middle node of the booking service.
 pub type MidNode = NodeOf<Booking>;
 
-impl<S: Service> Model for NodeOf<S> {
+impl<S: Service + Drop> Model for NodeOf<S> {
     ghost use Rattle.std.specs.Prelude.{◌≡◌, ◌≤◌, IfSome};
     ghost use Rattle.aeg_base.specs.declared.names.Tier.TheVariants as tiers;
     ghost use Rattle.applied_rounds.specs.States.{programs_of};
@@ -72,13 +72,13 @@ impl MidNode {
         ensures node { result.node ≡ new_node u SomeTier.Mid me }
         ensures depth { result.depth ≡ depth }
     {
-        NodeOf::with(alloc, u, depth, me, Booking::new(alloc))
+        NodeOf::with(alloc, Booking::new(alloc), u, depth, me)
     }
 }
 
-impl<S: Service> NodeOf<S> {
+impl<S: Service + Drop> NodeOf<S> {
     /// A node of the service that is down, on a blank disk.
-    pub fn with(alloc: Global, u: u8, depth: u8, me: u8, service: S) -> Self
+    pub fn with(alloc: Global, service: S, u: u8, depth: u8, me: u8) -> Self
         requires faults { u ≤ MAX_FAULTS }
         requires depth { 1 ≤ depth }
         requires node { me < 2 * u + 1 }
@@ -218,33 +218,33 @@ impl<S: Service> NodeOf<S> {
 
     /// Applies the next round where its verdict is learned, and else runs it by the executor, where it can be run. What a
     /// run tells is held back until its round is applied: only its token leaves.
-    pub fn work<D: Disk, X: Exec<S>>(
-        &mut self,
-        disk: &mut D,
-        exec: &mut X,
-        out: &mut Outbox,
-    ) -> Result<Turn, Fault>
-        requires up { is_up self.old.node ≡ true }
-        requires disk { MayWrite self.old.node (D.state disk.old) }
-        ensures moved { Moves self.old.node self.new.node (D.state disk.old) (D.state disk.new) out.old out.new
-            (λ σ. work self.old.node.faults (programs_of (S.table self.old.service) (S.beginning self.old.service)) self.old.node.me σ (steps_in result)) result }
-        ensures given { (schedule : List ℕ) → X.given exec.old ≡ Some schedule
-            → Moves self.old.node self.new.node (D.state disk.old) (D.state disk.new) out.old out.new
+    pub fn work<X: Exec<S>>(&mut self, exec: &mut X, out: &mut Outbox) -> Result<Turn, Fault>
+        requires { is_up self.old.node ≡ true }
+        ensures told { Tells self.old.node self.new.node out.old out.new (λ σ. work self.old.node.faults
+            (programs_of (S.table self.old.service) (S.beginning self.old.service)) self.old.node.me σ (steps_in result)) result }
+        ensures given { (schedule : List ℕ) → X.given exec.old ≡ Some schedule → Tells self.old.node self.new.node out.old out.new
             (λ σ. work self.old.node.faults (programs_of (S.table self.old.service) (S.beginning self.old.service)) self.old.node.me σ schedule) result }
         ensures ran { IfOk result (λ answer. IfSome (note_in answer) (λ note. (X.runs exec.new ≡ one_more (X.runs exec.old))
             × (X.last exec.new ≡ Some (record { round = note.round; steps = note.steps })))) }
         ensures other { IfOk result (λ answer. note_in answer ≡ None → exec.new ≡ exec.old) }
         ensures kept { X.given exec.new ≡ X.given exec.old }
-        ensures quiet { IfOk result (λ answer. is_quiet answer ≡ true
-            → IsUnmoved self.old.node self.new.node (D.state disk.old) (D.state disk.new) out.old out.new) }
-        ensures ready { OnOk result (MayWrite self.new.node (D.state disk.new)) }
+        ensures quiet { IfOk result (λ answer. is_quiet answer ≡ true → (self.new.node ≡ self.old.node) × (out.new ≡ out.old)) }
         ensures stays { self.new ≡ record self.old { node = self.new.node } }
     {
         let member = self.member();
         let mut up = self.node.take_up();
         let sent = out.items().len();
-        let decided = work(member, &self.service, &mut up, exec, out);
-        self.node.settle(up, decided, sent, disk, out)
+        match work(member, &self.service, &mut up, exec, out) {
+            Ok(decided) => {
+                self.node.put_back(up);
+                Ok(decided.answer)
+            }
+            Err(Memory) => {
+                drop(up);
+                out.truncate(sent);
+                Err(Fault::Memory)
+            }
+        }
     }
 
     /// The cause with which a work would be idle now. None where it would not be.
