@@ -10,16 +10,16 @@ use Rattle.mid_rounds.proofs.voting.add_vote.Goals as goal
 pub returns-clause-votes : goal.returns-clause-votes
 returns-clause-votes c =
     let vote : ℕ → Vote = λ r. record { round = r; from = c.args.from; token = c.args.token.now; order = c.args.order.now } in
-    own_joins c.args.tallies.now c.put.new.self (vote c.from-no.result) c.take_tally-tally.result c.add-added.new.self c.in_ok-added.added
+    own_joins c.args.tallies.now c.put.new.self (vote c.from-no.result) c.take_tally-tally.result c.add.new.self c.in_ok-added.added
     c.take_tally-tally.ensures.sorted c.take_tally-tally.ensures.claims c.in_ok-added.ensures.added c.in_ok-added.ensures.claims
-    (c.in_ok-put.ensures.ok ∙ ap (λ z. put z c.from-no.result c.add-added.new.self) c.take_tally-tally.ensures.left)
+    (c.in_ok-put.ensures.ok ∙ ap (λ z. put z c.from-no.result c.add.new.self) c.take_tally-tally.ensures.left)
     ∙ ap (λ (r : ℕ). with_own (claims_by c.args.tallies.now) (vote r)) c.from-no.ensures
 
 pub returns-clause-range : goal.returns-clause-range
 returns-clause-range c =
-    put_faults c.args.member.faults c.args.tallies.now c.put.new.self c.from-no.result c.add-added.new.self c.requires.tallies
+    put_faults c.args.member.faults c.args.tallies.now c.put.new.self c.from-no.result c.add.new.self c.requires.tallies
     (c.in_ok-added.ensures.faults ∙ c.take_tally-tally.ensures.faults)
-    (c.in_ok-put.ensures.ok ∙ ap (λ z. put z c.from-no.result c.add-added.new.self) c.take_tally-tally.ensures.left)
+    (c.in_ok-put.ensures.ok ∙ ap (λ z. put z c.from-no.result c.add.new.self) c.take_tally-tally.ensures.left)
 
 pub returns-clause-added : goal.returns-clause-added
 returns-clause-added c =
