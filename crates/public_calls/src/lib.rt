@@ -19,6 +19,8 @@ mod marks;
 #[cfg(test)]
 mod message_copies;
 #[cfg(test)]
+mod middle_nodes;
+#[cfg(test)]
 mod numbered_tables;
 #[cfg(test)]
 mod one_log;
