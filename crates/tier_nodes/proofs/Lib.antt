@@ -6,3 +6,4 @@ pub mod Answered
 pub mod Powered
 pub mod Places
 pub mod Fates
+pub mod Works

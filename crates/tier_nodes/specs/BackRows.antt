@@ -15,12 +15,11 @@ use Rattle.node_log.specs.Views.{View}
 use Rattle.round_model.specs.Service.{Backend, Programs, Service}
 use Rattle.tier_model.specs.Back.{Back}
 use Rattle.tier_model.specs.BackRows.{leads, offers, on_frame, recovered, retry}
-use Rattle.tier_model.specs.Moves.{Move, Packet}
+use Rattle.tier_model.specs.Moves.{Move}
 use Rattle.row_laws.proofs.BackMoves.{frame_in, leads_in, offers_in, recovered_in, recovered_opens, retry_in}
 use Rattle.row_laws.specs.Backs.{IsBackIn}
-use Rattle.row_laws.specs.Moves.{IsMoveTo}
 use Rattle.row_laws.specs.Services.{IsBackendIn}
-use Rattle.tier_nodes.specs.Moving.{IsMoveOf, IsRestored}
+use Rattle.tier_nodes.specs.Moving.{IsMoveOf, IsRestored, goes}
 
 -- one of the 2u+1 nodes of a backend's tier
 pub record IsBackNode {S : Type 0} (v : View S) : Type 0 where
@@ -41,17 +40,6 @@ no_programs = record { table = λ who text stage. None; begins = λ who text sta
 -- a service with this backend in each tier
 abbrev served_by : {B : Type 0} → Backend B → Service B
 served_by b = record { programs = no_programs; backend = λ t. b }
-
-goes : {S : Type 0} (IsIn : S → Type 0) (log_in : S → LogState AnyValue) (GoesWell : Packet → Type 0) (t : Tier) (x : ℕ) (s : S) (move : Move S)
-    → IsMoveTo IsIn log_in GoesWell t x s move → IsMoveOf IsIn log_in t x s move
-goes IsIn log_in GoesWell t x s move k = record {
-  state = k.state;
-  sealable = k.sealable;
-  few = k.few;
-  short = k.short;
-  facts = k.facts;
-  opens = k.opens;
-}
 
 module _ {B : Type 0} (b : Backend B) (codes : IsBackendIn b) (v : View (Back B)) where
   pub frames : (σ : Back B) (from : End) (message : Msg) → IsBackNode v → IsBackIn v.faults v.tier σ → FitsFrame from message

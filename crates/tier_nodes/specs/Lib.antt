@@ -5,3 +5,4 @@ pub mod Calling
 pub mod Powering
 pub mod Seats
 pub mod BackRows
+pub mod MidRows

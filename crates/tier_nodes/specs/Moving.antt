@@ -5,8 +5,8 @@ use Rattle.aeg_base.specs.declared.names.Tier.{Tier}
 use Rattle.fact_journal.specs.Fitting.{FactsFit, open_after_all}
 use Rattle.log_model.specs.Log.{LogState, open_at}
 use Rattle.log_values.specs.declared.any_value.AnyValue.{AnyValue}
-use Rattle.tier_model.specs.Moves.{node, Move}
-use Rattle.row_laws.specs.Moves.{IsSealable, most_sent}
+use Rattle.tier_model.specs.Moves.{node, Move, Packet}
+use Rattle.row_laws.specs.Moves.{IsMoveTo, IsSealable, most_sent}
 
 -- What the move of the tier's node x leaves is in range. Each packet is its own and has a frame, and they are few. At
 -- most one fact is written down; it fits the node's journal, and opens the log where the move leaves it open.
@@ -22,3 +22,15 @@ pub record IsMoveOf {S : Type 0} (IsIn : S → Type 0) (log_in : S → LogState 
 pub record IsRestored {S : Type 0} (IsIn : S → Type 0) (log_in : S → LogState AnyValue) (open_then : ℕ) (s : S) : Type 0 where
   pub state : IsIn s
   pub opens : open_at (log_in s) ≡ open_then
+
+-- a move by the laws of rows is one, whatever they say of who takes its packets
+pub goes : {S : Type 0} (IsIn : S → Type 0) (log_in : S → LogState AnyValue) (GoesWell : Packet → Type 0) (t : Tier) (x : ℕ) (s : S) (move : Move S)
+    → IsMoveTo IsIn log_in GoesWell t x s move → IsMoveOf IsIn log_in t x s move
+goes IsIn log_in GoesWell t x s move k = record {
+  state = k.state;
+  sealable = k.sealable;
+  few = k.few;
+  short = k.short;
+  facts = k.facts;
+  opens = k.opens;
+}

@@ -5,9 +5,11 @@ mod arming;
 mod back_nodes;
 mod condition;
 mod laws;
+mod mid_nodes;
 mod posts;
 mod tier_node;
 mod tiers;
+mod working;
 
 pub use arming::StopAt;
 pub use condition::Condition;

@@ -24,7 +24,7 @@ use tier_model::{Fault, Idle, Turn};
 /// A node in its tier: whether it is gone for good, and whether its disk may have one record more than it knows.
 #[derive(Drop)]
 pub struct Post<N> {
-    node: N,
+    pub(crate) node: N,
     gone: bool,
     doubt: bool,
 }

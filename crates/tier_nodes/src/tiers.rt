@@ -25,7 +25,7 @@ use tier_model::{Fault, Idle, Turn};
 /// The nodes of one tier by their indexes.
 #[derive(Drop)]
 pub struct Tier<N> {
-    posts: Vec<Post<N>>,
+    pub(crate) posts: Vec<Post<N>>,
 }
 
 impl<N: TierNode> Tier<N> {
