@@ -100,7 +100,7 @@ told_fit p u depth x σ told service k e = go (ready p σ) refl e
 abbrev pub sealed_of : ℕ → ℕ → Told → List (End × List ℕ)
 sealed_of u x told = all_sealed (told_to u x told)
 
-tolds_sealed : (u x : ℕ) (next : OfTiers ℕ) (ws : List Want) (es : List Ending)
+pub tolds_sealed : (u x : ℕ) (next : OfTiers ℕ) (ws : List Want) (es : List Ending)
     → flat_map (sealed_of u x) (tolds next ws es) ≡ all_sealed (tells u x next ws es)
 tolds_sealed u x next [] es = refl
 tolds_sealed u x next (w ∷ ws) [] = refl
