@@ -13,9 +13,9 @@ ghost use Rattle.mid_rounds.specs.Running.{IsNextRun, note_in, runs_by, steps_of
 
 use crate::applying::{Settling, settle_next};
 use crate::keeping::Keeping;
-use crate::voting::add_vote;
 use crate::rounds_learned::{batch_at, verdict_at};
 use crate::telling::{send_token, tell};
+use crate::voting::add_vote;
 use aeg_base::{Memory, Seq};
 use applied_rounds::Applied;
 use exec_core::{Exec, Job};
