@@ -36,7 +36,7 @@ use tier_model::{Fault, Idle, Turn};
 
 /// A middle node of a service, with a pipeline of some depth.
 #[derive(Drop)]
-pub struct NodeOf<S> {
+pub struct NodeOf<S: Service + Drop> {
     alloc: Global,
     depth: u8,
     node: LogNode<Keeping>,

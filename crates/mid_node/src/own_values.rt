@@ -17,7 +17,11 @@ use svc_api::Service;
 use tier_model::Idle;
 
 /// The verdict of the round that enough tokens give.
-fn own_verdict(member: Member, up: &Working<Keeping>, round: Round) -> Result<Option<AnyValue>, Memory>
+fn own_verdict(
+    member: Member,
+    up: &Working<Keeping>,
+    round: Round,
+) -> Result<Option<AnyValue>, Memory>
     requires member { IsMember member }
     requires range { (p : Programs) × IsInRange p member up.now }
     ensures { IfOk result (λ own. own ≡ own_verdict member.faults (mid_in member up.now) round) }
