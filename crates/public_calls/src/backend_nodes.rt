@@ -99,6 +99,20 @@ const OFFERS: [Sent; 5] = [
     (Tier::Inv, 2, ACCEPTED),
 ];
 
+const PAID: &[u8] = b"\x01\x0b\x02\x00\x00\x05\x00\x00\x00\x01\x00";
+
+/// A charge is learned.
+const CHARGES: [Taken; 1] = [(
+    b"\x01\x08\x02\x01\x00\x13\x00\x00\x04\x00\x00\x00\x01\x0bcharge 1 20",
+    true,
+    &[
+        (Tier::Pay, 1, b"\x01\x07\x02\x00\x00\x02\x00\x01"),
+        (Tier::Mid, 0, PAID),
+        (Tier::Mid, 1, PAID),
+        (Tier::Mid, 2, PAID),
+    ],
+)];
+
 /// The nodes run the backends of the booking service.
 fn runs_the_booking_service()
     ensures seats { backend_by ⟦<Inventory as Backend>⟧.opening ⟦<Inventory as Backend>⟧.state_after ⟦<Inventory as Backend>⟧.code_of
@@ -138,9 +152,9 @@ fn started<D: Disk>(alloc: Global, disk: &mut D) -> Result<BackNode<Inventory>, 
 }
 
 /// Whether the node does what it is to do with the bytes, and sends just these packets.
-fn takes<D: Disk>(
+fn takes<B: Backend, D: Disk>(
     alloc: Global,
-    node: &mut BackNode<Inventory>,
+    node: &mut BackNode<B>,
     disk: &mut D,
     taken: &Taken,
 ) -> Result<bool, Fail>
@@ -158,9 +172,9 @@ fn takes<D: Disk>(
 }
 
 /// Whether it takes all of them so.
-fn takes_all<D: Disk>(
+fn takes_all<B: Backend, D: Disk>(
     alloc: Global,
-    node: &mut BackNode<Inventory>,
+    node: &mut BackNode<B>,
     disk: &mut D,
     rows: &[Taken],
 ) -> Result<bool, Fail>
@@ -179,6 +193,20 @@ fn learned_calls_are_served_once(rt: HostRuntime) -> Result<(), Fail> {
     let mut disk = MemDisk::new(rt.alloc(), Vec::new(rt.alloc()));
     let mut node = started(rt.alloc(), &mut disk)?;
     assert!(rt; takes_all(rt.alloc(), &mut node, &mut disk, &LEARNS)?);
+    Ok(())
+}
+
+/// Whether a payment node of three serves a charge, and answers it to all middle nodes.
+fn charges<D: Disk>(alloc: Global, disk: &mut D) -> Result<bool, Fail> {
+    let mut node = BackNode::new(alloc, 1, Tier::Pay, 0, Payment::new(alloc));
+    node.restart(disk)?;
+    takes_all(alloc, &mut node, disk, &CHARGES)
+}
+
+#[test]
+fn a_learned_charge_is_answered(rt: HostRuntime) -> Result<(), Fail> {
+    let mut disk = MemDisk::new(rt.alloc(), Vec::new(rt.alloc()));
+    assert!(rt; charges(rt.alloc(), &mut disk)?);
     Ok(())
 }
 
