@@ -2,5 +2,8 @@ pub mod Asked
 pub mod Voted
 pub mod Answered
 pub mod OwnValues
+pub mod Turned
+pub mod Framed
+pub mod Offered
 pub mod Moved
 pub mod QuietRows
