@@ -1,5 +1,5 @@
 -- The turns of a middle node's log.
-use Rattle.std.proofs.Common.{◌≡◌, ℕ, ◌+◌, ◌*◌, ◌<◌, ◌≤◌, Bool, true, false, cond, List, [], ◌∷◌, ◌++◌, length, map, refl, sym, ap, ◌∙◌, subst, arith}
+use Rattle.std.proofs.Common.{◌≡◌, ℕ, ◌+◌, ◌*◌, ◌<◌, ◌≤◌, Bool, true, false, cond, List, [], ◌∷◌, ◌++◌, length, map, sym, ap, ◌∙◌, subst, arith}
 use Rattle.std.proofs.Common.{append_assoc, Option, Some, None, Result, Ok, Err}
 use Rattle.std.specs.Prelude.{◌==◌, ◌&&◌, nat_lt, OnOk}
 use Rattle.std.specs.List.{flat_map}
@@ -13,8 +13,6 @@ use Rattle.aeg_base.specs.declared.names.End.{End}
 use Rattle.aeg_base.specs.declared.names.End.TheVariants.{Node, Client}
 use Rattle.aeg_base.specs.declared.names.Tier.{Tier}
 use Rattle.aeg_base.specs.declared.names.Tier.TheVariants as tiers
-use Rattle.svc_api.specs.declared.action.Ending.{Ending}
-use Rattle.svc_api.specs.declared.action.Ending.TheVariants.{Reply, Call}
 use Rattle.server_model.specs.Server.{same_tier}
 use Rattle.server_model.proofs.Tiers.{tier_eq}
 use Rattle.applied_rounds.specs.declared.told.Told.{Told}
@@ -31,14 +29,12 @@ use Rattle.frames.specs.declared.message.Msg.TheVariants.{Log}
 use Rattle.frames.specs.Frames.{FitsFrame}
 use Rattle.frames.specs.LogMessages.{IsCarried, FitsLog}
 use Rattle.paxos_log.specs.TierLog.{NodeLog, with_state}
-use Rattle.round_model.specs.Lists.{OfTiers, of_tier}
 use Rattle.round_model.specs.Service.{Programs}
-use Rattle.round_model.specs.Tables.{Want, bump}
 use Rattle.row_laws.specs.Mids.{IsMidIn}
 use Rattle.row_laws.proofs.FewMessages.{IsFew, IsWritten, lead_few, msg_few, offer_few}
 use Rattle.row_laws.proofs.MidMoves.{own_in}
 use Rattle.tier_model.specs.Moves.{Move, as_fact, is_node_of, log_answer, log_packets}
-use Rattle.tier_model.specs.Mid.{Mid, Ready, apply_sends, apply_state, calls_to, due_round, in_log, ready, reply_to, tells}
+use Rattle.tier_model.specs.Mid.{Mid, Ready, apply_sends, apply_state, due_round, in_log, ready}
 use Rattle.tier_model.specs.MidRows.{own_value}
 use Rattle.node_log.specs.declared.decided.Decided.{Decided}
 use Rattle.node_log.specs.declared.member.Member.{Member}

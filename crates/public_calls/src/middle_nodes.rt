@@ -43,13 +43,21 @@ const SECOND_BATCH: [Taken; 3] = [
         true,
         &[
             (Some(Tier::Mid), 1, b"\x01\x07\x00\x00\x00\x02\x00\x02"),
-            (None, 1, b"\x01\x02\x00\x00\x00\x0e\x01\x00\x00\x00\x01\x08opened 1"),
+            (
+                None,
+                1,
+                b"\x01\x02\x00\x00\x00\x0e\x01\x00\x00\x00\x01\x08opened 1",
+            ),
         ],
     ),
     (
         OPENS,
         true,
-        &[(None, 1, b"\x01\x02\x00\x00\x00\x0e\x01\x00\x00\x00\x01\x08opened 1")],
+        &[(
+            None,
+            1,
+            b"\x01\x02\x00\x00\x00\x0e\x01\x00\x00\x00\x01\x08opened 1",
+        )],
     ),
     (
         b"\x01\x08\x00\x01\x00\x12\x00\x02\x01\x01\x01\x00\x00\x00\x02\x08book 1 2",
@@ -86,8 +94,16 @@ const THIRD_BATCH: [Taken; 4] = [
 
 /// Another node holds the answer, too.
 const HELD_BY_TWO: [Taken; 2] = [
-    (b"\x01\x0c\x00\x01\x00\x06\x01\x00\x00\x00\x01\x00", true, &[]),
-    (b"\x01\x0c\x00\x01\x00\x06\x01\x00\x00\x00\x01\x00", false, &[]),
+    (
+        b"\x01\x0c\x00\x01\x00\x06\x01\x00\x00\x00\x01\x00",
+        true,
+        &[],
+    ),
+    (
+        b"\x01\x0c\x00\x01\x00\x06\x01\x00\x00\x00\x01\x00",
+        false,
+        &[],
+    ),
 ];
 
 /// What a retry sends then: it asks for the next position, and tells the others its answer, and the backend its floor.
@@ -202,11 +218,13 @@ fn lacks_an_answer(node: &MidNode) -> Result<bool, Fail> {
         return Err("it is down".into());
     }
     let first: CallNo = 1;
-    Ok(node.work_idle()?
-        == Some(Idle::NoAnswer {
-            tier: Tier::Inv,
-            no: first,
-        }))
+    Ok(
+        node.work_idle()?
+            == Some(Idle::NoAnswer {
+                tier: Tier::Inv,
+                no: first,
+            }),
+    )
 }
 
 /// Whether a retry sends these.
